@@ -1,3 +1,18 @@
+pub mod Readers
+pub mod Numerals
+pub mod Loops
+pub mod Unique
+pub mod CutLemmas
+pub mod CutPlaces
+pub mod Spelling
+pub mod Appending
+pub mod Base36Texts
+pub mod DateTexts
+pub mod DateReadings
+pub mod DigestTexts
+pub mod PropNameTexts
+pub mod RevNumTexts
+pub mod TxnNameTexts
 pub mod FileLemmas
 pub mod PathLemmas
 pub mod ClonedLists
@@ -5,3 +20,5 @@ pub mod PairLemmas
 pub mod PathTextLemmas
 pub mod ResultLemmas
 pub mod TwoTests
+pub mod StreamLemmas
+pub mod OutputLemmas

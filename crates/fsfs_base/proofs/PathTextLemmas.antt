@@ -4,7 +4,7 @@ use Rattle.std.proofs.lemmas.Option.{same_Some}
 use Rattle.std.proofs.lemmas.Bool.{ltb-true, ltb-false, leb-true, leb-false, lt-leb, le-ltb, eqb-true, eqb-false, ne_eqb, not-true}
 use Rattle.std.proofs.lemmas.List.{nil_from_length, length-append, take_more, take_all, append-nil, map-append}
 use Rattle.std.specs.List.{AllByRecursion, position, slice_split, onto_first, list_any}
-use Rattle.fsfs_grammar.proofs.Readers.{chosen}
+use Rattle.fsfs_base.proofs.Readers.{chosen}
 use Rattle.fsfs_base.specs.Paths.{PathName, Path, names_text, path_text, is_root}
 use Rattle.fsfs_base.specs.PathTexts.{is_control, is_dots, HasNoSlash, IsName, IsPath, IsNameFault, HasBadName, IsBadJoin, IsBadPath, IsJoined}
 use Rattle.fsfs_base.specs.PathReading.{control_fault_at, name_fault_at, or_else, names_fault_at}

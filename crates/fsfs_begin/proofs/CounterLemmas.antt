@@ -4,7 +4,7 @@ use Rattle.std.specs.Prelude.{Option, Some, None, IfSome, unwrap_or}
 use Rattle.std.specs.FinMap.{get, insert, remove}
 use Rattle.fsfs_base.specs.Files.{Files}
 use Rattle.fsfs_base.proofs.FileLemmas.{get_new, get_kept, get_left, apart_by}
-use Rattle.fsfs_grammar.proofs.Readers.{all_again, ok_is}
+use Rattle.fsfs_base.proofs.Readers.{all_again, ok_is}
 use Rattle.fsfs_disk.specs.Trace.{Trace, files_now}
 use Rattle.fsfs_disk.specs.Crash.{AllImages}
 use Rattle.fsfs_disk.proofs.CrashLemmas.{files_are_image}

@@ -12,11 +12,11 @@ use Rattle.fsfs_txn_files.specs.FileNames.{node_name, file_name}
 use Rattle.fsfs_txn_files.specs.Texts.{IsNodeFile}
 use Rattle.fsfs_txn_files.specs.declared.folder_file.FolderFile.TheVariants.{Node}
 use Rattle.fsfs_txn_files.proofs.NameLemmas.{apart_at}
-use Rattle.fsfs_folder_files.specs.Folders.{TellsFolder}
-use Rattle.fsfs_folder_files.specs.Telling.{FitsNode, root_folder}
-use Rattle.fsfs_folder_files.proofs.StepLemmas.{changes_tell}
-use Rattle.fsfs_held.specs.Views.{begun_folder}
-use Rattle.fsfs_held.specs.Written.{HasTold}
+use Rattle.fsfs_txn_nodes.specs.Folders.{TellsFolder}
+use Rattle.fsfs_txn_nodes.specs.Telling.{FitsNode, root_folder}
+use Rattle.fsfs_txn_nodes.proofs.StepLemmas.{changes_tell}
+use Rattle.fsfs_txn_nodes.specs.Views.{begun_folder}
+use Rattle.fsfs_txn_nodes.specs.HeldWritten.{HasTold}
 use Rattle.fsfs_begin.specs.Benches.{first_files, TellsRoot}
 
 -- ---- the first files

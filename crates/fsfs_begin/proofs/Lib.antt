@@ -8,3 +8,10 @@ pub mod LeavingLemmas
 pub mod BeginLemmas
 pub mod OpeningLemmas
 pub mod FirstFiles
+pub mod Going
+pub mod Reading
+pub mod Moving
+pub mod Benching
+pub mod Parts
+pub mod Among
+pub mod Dropping

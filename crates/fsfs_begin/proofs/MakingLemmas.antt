@@ -11,8 +11,8 @@ use Rattle.fsfs_disk.specs.Crash.{AllImages, AllLabels, AreAll, KeepsLabels, Lea
 use Rattle.fsfs_disk.proofs.CrashLemmas.{keeps_label, keeps_no_label, keeps_then, own_images}
 use Rattle.fsfs_disk.proofs.LabelLemmas.{same_label-itself}
 use Rattle.fsfs_disk.proofs.LeftLemmas.{amid_made, amid_same, keeps_labels_at, keeps_labels_then}
-use Rattle.fsfs_txns.specs.Removals.{HasLabels, IsImageOf}
-use Rattle.fsfs_txns.proofs.InTurn.{files_ended}
+use Rattle.fsfs_disk.specs.Removals.{HasLabels, IsImageOf}
+use Rattle.fsfs_disk.proofs.InTurn.{files_ended}
 use Rattle.fsfs_noderev.specs.declared.node_id.NodeId.{NodeId}
 use Rattle.fsfs_txn_files.specs.FileNames.{file_name}
 use Rattle.fsfs_txn_files.specs.declared.folder_file.FolderFile.TheVariants.{Node}

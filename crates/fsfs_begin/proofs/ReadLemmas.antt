@@ -4,15 +4,15 @@ use Rattle.std.proofs.lemmas.Bool.{cases_lt}
 use Rattle.std.proofs.lemmas.List.{take_all}
 use Rattle.std.proofs.lemmas.Option.{same_Some}
 use Rattle.std.specs.Prelude.{Option, Some, None, IfSome, IfOk, IfErr, Result, Ok, Err, unwrap_or}
-use Rattle.fsfs_grammar.specs.declared.base36.B36.{B36}
+use Rattle.fsfs_base.specs.declared.base36.B36.{B36}
 use Rattle.fsfs_base.specs.declared.small_fault.SmallFile.TheVariants as file
 use Rattle.fsfs_disk.specs.Trace.{Trace, IsRead, file_at, files_now}
 use Rattle.fsfs_disk.proofs.WholeFiles.{read_bytes}
-use Rattle.fsfs_whole_file.proofs.FirstBytesLemmas.{text_of_first, first_of_text, fault_of_first}
+use Rattle.fsfs_disk.proofs.FirstBytesLemmas.{text_of_first, first_of_text, fault_of_first}
 use Rattle.fsfs_layout.specs.FileNames.{only_name}
 use Rattle.fsfs_layout.specs.declared.only_file.OnlyFile.TheVariants.{TxnCurrent}
 use Rattle.fsfs_layout.specs.Small.{IsBase36Line, IsRefusedFile}
-use Rattle.fsfs_repo.proofs.ShortTexts.{base36_line_short}
+use Rattle.fsfs_create.proofs.ShortTexts.{base36_line_short}
 use Rattle.fsfs_begin.specs.Counter.{HasNumber}
 use Rattle.fsfs_begin.specs.Drawing.{counter_told, IsSmallIn, IsUnread}
 use Rattle.fsfs_begin.specs.declared.name_fault.NameFault.{NameFault}

@@ -8,9 +8,9 @@ use Rattle.std.specs.FinMap.{get, remove}
 use Rattle.fsfs_base.specs.Files.{Files}
 use Rattle.fsfs_base.specs.declared.small_fault.SmallFault.{SmallFault}
 use Rattle.fsfs_base.proofs.FileLemmas.{get_kept, get_left, apart_by}
-use Rattle.fsfs_fields.specs.declared.txn_name.TxnName.{TxnName}
-use Rattle.fsfs_damage.specs.declared.wrong.Wrong.{Wrong}
-use Rattle.fsfs_book.specs.Told.{RevisionBytes}
+use Rattle.fsfs_base.specs.declared.txn_name.TxnName.{TxnName}
+use Rattle.fsfs_revision.specs.declared.wrong.Wrong.{Wrong}
+use Rattle.fsfs_revision.specs.Told.{RevisionBytes}
 use Rattle.fsfs_disk.specs.Trace.{Trace, files_now}
 use Rattle.fsfs_layout.specs.FileNames.{only_name, file_name}
 use Rattle.fsfs_layout.specs.Layouts.{shard_of, place_in_shard}
@@ -19,19 +19,19 @@ use Rattle.fsfs_layout.specs.declared.layout.Layout.{Layout}
 use Rattle.fsfs_layout.specs.declared.opened.Opened.{Opened}
 use Rattle.fsfs_layout.specs.declared.only_file.OnlyFile.TheVariants.{MinUnpackedRev, TxnCurrent, TxnCurrentNext}
 use Rattle.fsfs_layout.specs.declared.repository_file.RepositoryFile.TheVariants as repository
-use Rattle.fsfs_rev_file.specs.RevBytes.{by_floor, cut_from, floor_in, floor_of, manifest_of, or_missing, pack_in, packed_bytes, rev_bytes, rev_file, section_of}
-use Rattle.fsfs_rev_file.proofs.FloorLemmas.{floor_is}
+use Rattle.fsfs_revision.specs.RevBytes.{by_floor, cut_from, floor_in, floor_of, manifest_of, or_missing, pack_in, packed_bytes, rev_bytes, rev_file, section_of}
+use Rattle.fsfs_revision.proofs.FloorLemmas.{floor_is}
 use Rattle.fsfs_noderev.specs.Ids.{PartValue, Old, part_value}
 use Rattle.fsfs_noderev.specs.declared.node_rev.NodeRev.{NodeRev}
-use Rattle.fsfs_shows.specs.Reading.{RootOf, StandsAt}
-use Rattle.fsfs_drafts.specs.Own.{OwnNode}
-use Rattle.fsfs_drafts.specs.Drafts.{Kept, IsBelow}
-use Rattle.fsfs_drafts.specs.Steps.{same_value}
-use Rattle.fsfs_drafts.proofs.Bases.{revision_agrees}
-use Rattle.fsfs_drafts.proofs.Files.{put_files, same_value-is}
-use Rattle.fsfs_drafts.proofs.WholeLaw.{drafts_are_handed}
-use Rattle.fsfs_own.specs.Views.{new_kept}
-use Rattle.fsfs_held.specs.Views.{begun_folder}
+use Rattle.fsfs_revision.specs.ShowsReading.{RootOf, StandsAt}
+use Rattle.fsfs_draft.specs.Own.{OwnNode}
+use Rattle.fsfs_draft.specs.Drafts.{Kept, IsBelow}
+use Rattle.fsfs_draft.specs.Steps.{same_value}
+use Rattle.fsfs_draft.proofs.Bases.{revision_agrees}
+use Rattle.fsfs_draft.proofs.Files.{put_files, same_value-is}
+use Rattle.fsfs_draft.proofs.WholeLaw.{drafts_are_handed}
+use Rattle.fsfs_draft.specs.Views.{new_kept}
+use Rattle.fsfs_txn_nodes.specs.Views.{begun_folder}
 use Rattle.fsfs_begin.specs.Begun.{IfWrongBase, IsBegunOn, IsUpToDate, StandsForBase}
 use Rattle.fsfs_begin.specs.declared.begin_fault.BeginFault.{BeginFault}
 use Rattle.fsfs_begin.specs.declared.begin_fault.BeginFault.TheVariants.{NoRev, Small, NamesFull, Wrong as WrongBase, DiskFault, BenchFault, Memory}

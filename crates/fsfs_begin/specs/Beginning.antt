@@ -1,11 +1,11 @@
 -- The root of a transaction that begins.
 use Rattle.std.specs.Prelude.{◌≡◌, ◌++◌, ℕ, List, [], true, None, take}
-use Rattle.fsfs_fields.specs.declared.txn_name.TxnName.{TxnName}
+use Rattle.fsfs_base.specs.declared.txn_name.TxnName.{TxnName}
 use Rattle.fsfs_noderev.specs.declared.node_id.Place.TheVariants as places
 use Rattle.fsfs_noderev.specs.declared.node_rev.NodeRev.{NodeRev}
 use Rattle.fsfs_noderev.specs.NodeRevs.{IsNodeRev, IsRead}
 use Rattle.fsfs_noderev.specs.Writing.{IsWritten}
-use Rattle.fsfs_drafts.specs.Rules.{GoesOn, draft_root, lasting_root}
+use Rattle.fsfs_draft.specs.Rules.{GoesOn, draft_root, lasting_root}
 
 -- v is the root of a new transaction of this name, on a revision whose root is x: it goes on from x, and nothing is changed yet
 pub record BeginsOn (txn : TxnName) (x v : NodeRev) : Type 0 where

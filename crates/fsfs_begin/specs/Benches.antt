@@ -4,13 +4,13 @@ use Rattle.std.specs.FinMap.{insert, empty}
 use Rattle.fsfs_base.specs.Files.{Files}
 use Rattle.fsfs_disk.specs.Labels.{Label, has_label, with_label, without_label}
 use Rattle.fsfs_disk.specs.Trace.{Trace, labels_now}
-use Rattle.fsfs_txns.specs.Removals.{HasLabels}
+use Rattle.fsfs_disk.specs.Removals.{HasLabels}
 use Rattle.fsfs_noderev.specs.declared.node_id.NodeId.{NodeId}
 use Rattle.fsfs_noderev.specs.declared.node_rev.NodeRev.{NodeRev}
 use Rattle.fsfs_txn_files.specs.FileNames.{file_name}
 use Rattle.fsfs_txn_files.specs.declared.folder_file.FolderFile.TheVariants.{Node}
-use Rattle.fsfs_folder_files.specs.Folders.{TellsFolder}
-use Rattle.fsfs_folder_files.specs.Telling.{root_folder}
+use Rattle.fsfs_txn_nodes.specs.Folders.{TellsFolder}
+use Rattle.fsfs_txn_nodes.specs.Telling.{root_folder}
 use Rattle.fsfs_begin.specs.declared.making.BenchFault.{BenchFault}
 use Rattle.fsfs_begin.specs.declared.making.BenchFault.TheVariants as fault
 

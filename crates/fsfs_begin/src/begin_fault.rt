@@ -1,8 +1,6 @@
 //! Why no transaction was begun.
-use fsfs_base::SmallFault;
-use fsfs_damage::Wrong;
-use fsfs_fields::RevNum;
-use fsfs_places::DiskPlace;
+use fsfs_base::{DiskPlace, RevNum, SmallFault};
+use fsfs_revision::Wrong;
 use thiserror::Error;
 
 /// Why no transaction was begun.

@@ -1,17 +1,17 @@
 //! A transaction is begun.
 ghost use Rattle.std.specs.Prelude.{◌≡◌, ◌≤◌, ℕ, Some, Ok, Err, option_map, IfOk, IfErr, IfSome, OnOk, IsTrue};
 ghost use Rattle.fsfs_base.specs.Failures.{Rose};
-ghost use Rattle.fsfs_damage.specs.Causes.{IfDisk};
-ghost use Rattle.fsfs_damage.specs.Readings.{Answers, IfWrong};
+ghost use Rattle.fsfs_revision.specs.Causes.{IfDisk};
+ghost use Rattle.fsfs_revision.specs.Readings.{Answers, IfWrong};
 ghost use Rattle.fsfs_disk.specs.Labels.{with_label};
 ghost use Rattle.fsfs_disk.specs.Trace.{Trace, files_now};
 ghost use Rattle.fsfs_disk.specs.Crash.{AllImages, AreAll, KeepsImages, Leaves, LeavesBoth};
 ghost use Rattle.fsfs_noderev.specs.Writing.{HasText};
 ghost use Rattle.fsfs_noderev.specs.declared.node_rev.NodeRev.{NodeRev};
-ghost use Rattle.fsfs_rev_file.specs.RevBytes.{rev_bytes, floor_in};
-ghost use Rattle.fsfs_shows.specs.Reading.{RootOf};
-ghost use Rattle.fsfs_txns.specs.Txns.{pair_of, txn_label};
-ghost use Rattle.fsfs_txns.specs.Removals.{HasLabels, IsImageOf};
+ghost use Rattle.fsfs_revision.specs.RevBytes.{rev_bytes, floor_in};
+ghost use Rattle.fsfs_revision.specs.ShowsReading.{RootOf};
+ghost use Rattle.fsfs_disk.specs.Txns.{pair_of, txn_label};
+ghost use Rattle.fsfs_disk.specs.Removals.{HasLabels, IsImageOf};
 ghost use Rattle.fsfs_begin.specs.Beginning.{BeginsOn};
 ghost use Rattle.fsfs_begin.specs.Benches.{IsOldOrThis, TellsRoot};
 ghost use Rattle.fsfs_begin.specs.Counter.{IsAtLeast, IsOldOrNext};
@@ -23,15 +23,14 @@ use crate::drawing::next_name;
 use crate::making::{BenchFault, begin_bench};
 use crate::name_fault::NameFault;
 use crate::root::first_root;
+use fsfs_base::{DiskPlace, RevNum, TxnName};
 use fsfs_dag::{PlacedNode, root_of};
-use fsfs_damage::ReadError;
 use fsfs_disk::{Bench, Disk};
 use fsfs_fetch::{disk_of, over_disk};
-use fsfs_fields::{RevNum, TxnName};
-use fsfs_folder_files::id_fits;
 use fsfs_layout::Opened;
 use fsfs_noderev::{NodeRev, write_noderev};
-use fsfs_places::DiskPlace;
+use fsfs_revision::ReadError;
+use fsfs_txn_nodes::id_fits;
 use std::alloc::Global;
 
 /// A transaction that has just begun, on the revision that its name has. It stands for that revision's tree, and has no marks.

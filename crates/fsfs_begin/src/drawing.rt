@@ -4,17 +4,15 @@ ghost use Rattle.fsfs_base.specs.Failures.{Rose};
 ghost use Rattle.fsfs_disk.specs.Trace.{files_now, labels_now};
 ghost use Rattle.fsfs_disk.specs.Crash.{AllImages, AreAll, IsFirm, KeepsImages, Leaves, LeavesBoth};
 ghost use Rattle.fsfs_layout.specs.Small.{IsBase36Line};
-ghost use Rattle.fsfs_txns.specs.Removals.{WasKept};
+ghost use Rattle.fsfs_disk.specs.Removals.{WasKept};
 ghost use Rattle.fsfs_begin.specs.Counter.{HasNumber, IsAtLeast, IsOldOrNext, IsRaised};
 ghost use Rattle.fsfs_begin.specs.Drawing.{after_drawing, counter_told, IsSmallIn, IsUnread, StopsRaising, NameFails};
 ghost use Rattle.fsfs_begin.specs.Deciding.{Decides};
 
 use crate::name_fault::NameFault;
-use fsfs_base::{B36, next_b36};
+use fsfs_base::{B36, BeginPlace, RevNum, TxnName, next_b36};
 use fsfs_disk::Disk;
-use fsfs_fields::{RevNum, TxnName};
 use fsfs_layout::{OnlyFile, read_txn_current, write_txn_current};
-use fsfs_places::BeginPlace;
 use std::alloc::Global;
 
 // No text of `db/txn-current` has so many bytes, so these first ones tell what all of it would.

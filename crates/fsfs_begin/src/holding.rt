@@ -1,12 +1,12 @@
 //! A transaction that has begun, as edits are made in it.
 ghost use Rattle.std.specs.Prelude.{◌≡◌, IfOk, IfErr, codes};
-ghost use Rattle.fsfs_held.specs.Views.{begun_folder};
+ghost use Rattle.fsfs_txn_nodes.specs.Views.{begun_folder};
 ghost use Rattle.fsfs_begin.specs.Benches.{TellsRoot};
 
 use crate::beginning::Begun;
 use fsfs_disk::Bench;
-use fsfs_held::HeldNodes;
-use fsfs_own::Own;
+use fsfs_draft::Own;
+use fsfs_txn_nodes::HeldNodes;
 use std::alloc::Global;
 
 impl<B: Bench> Begun<B> {

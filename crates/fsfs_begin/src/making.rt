@@ -4,17 +4,15 @@ ghost use Rattle.fsfs_base.specs.Failures.{HasCause, Rose};
 ghost use Rattle.fsfs_disk.specs.Labels.{with_label};
 ghost use Rattle.fsfs_disk.specs.Trace.{KeepLabel, Performs, files_now};
 ghost use Rattle.fsfs_disk.specs.Crash.{AllImages, AreAll, Leaves, LeavesBoth};
-ghost use Rattle.fsfs_txns.specs.Txns.{pair_of, txn_label};
-ghost use Rattle.fsfs_txns.specs.Removals.{HasLabels, IsImageOf};
+ghost use Rattle.fsfs_disk.specs.Txns.{pair_of, txn_label};
+ghost use Rattle.fsfs_disk.specs.Removals.{HasLabels, IsImageOf};
 ghost use Rattle.fsfs_begin.specs.Benches.{first_files, with_first_files, IsOldOrThis, IsUnmade};
 
 use crate::purging::purge;
-use fsfs_base::{Failed, Name};
-use fsfs_disk::{Bench, Disk, Label};
-use fsfs_fields::TxnName;
+use fsfs_base::{Failed, Name, TxnName};
+use fsfs_disk::{Bench, Disk, Label, rmtxn};
 use fsfs_noderev::NodeId;
 use fsfs_txn_files::FolderFile;
-use fsfs_txns::rmtxn;
 use thiserror::Error;
 
 /// Why there is no bench for a transaction.

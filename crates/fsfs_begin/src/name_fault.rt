@@ -1,6 +1,5 @@
 //! Why no name was drawn for a transaction.
-use fsfs_base::SmallFault;
-use fsfs_places::BeginPlace;
+use fsfs_base::{BeginPlace, SmallFault};
 use thiserror::Error;
 
 /// Why no name was drawn for a transaction.

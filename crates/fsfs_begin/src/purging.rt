@@ -4,12 +4,11 @@ ghost use Rattle.fsfs_base.specs.Failures.{HasCause, added_count};
 ghost use Rattle.fsfs_disk.specs.Labels.{has_label, without_label};
 ghost use Rattle.fsfs_disk.specs.Trace.{DropLabel, FailsAt, files_now, labels_now};
 ghost use Rattle.fsfs_disk.specs.Crash.{AllImages, AreAll, Leaves, LeavesBoth};
-ghost use Rattle.fsfs_txns.specs.Txns.{pair_of, txn_label};
-ghost use Rattle.fsfs_txns.specs.Removals.{HasLabels, IsImageOf, WasKept};
+ghost use Rattle.fsfs_disk.specs.Txns.{pair_of, txn_label};
+ghost use Rattle.fsfs_disk.specs.Removals.{HasLabels, IsImageOf, WasKept};
 
-use fsfs_base::Failed;
+use fsfs_base::{Failed, TxnName};
 use fsfs_disk::{Disk, Label};
-use fsfs_fields::TxnName;
 
 /// Drops a transaction: what its bench holds, the bench, and its label. `false`: the label was not kept any more.
 pub fn purge<D: Disk>(disk: &mut D, name: &TxnName, bench: D::Bench) -> Result<bool, Failed>

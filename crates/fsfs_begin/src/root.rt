@@ -1,12 +1,11 @@
 // The root of a transaction that begins.
 ghost use Rattle.std.specs.Prelude.{◌≡◌, IfOk};
 ghost use Rattle.fsfs_noderev.specs.Writing.{HasText};
-ghost use Rattle.fsfs_shows.specs.Chains.{own_rev};
-ghost use Rattle.fsfs_drafts.specs.Rules.{lasting_root};
+ghost use Rattle.fsfs_revision.specs.Chains.{own_rev};
+ghost use Rattle.fsfs_draft.specs.Rules.{lasting_root};
 ghost use Rattle.fsfs_begin.specs.Beginning.{BeginsOn};
 
-use fsfs_base::FsPath;
-use fsfs_fields::{RevNum, TxnName};
+use fsfs_base::{FsPath, RevNum, TxnName};
 use fsfs_noderev::{CopyRoot, NodeId, NodeRev, Place};
 use std::alloc::{AllocError, Global};
 

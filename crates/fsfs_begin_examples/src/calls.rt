@@ -7,12 +7,12 @@ use fsfs_base::{Failed, Name};
 use fsfs_begin::{BeginFault, begin};
 use fsfs_create::create;
 use fsfs_disk::Disk;
-use fsfs_escapes::{Transcript, bytes_of};
-use fsfs_fields::{RevNum, TxnName, put_txn_name, read_txn_name};
+use fsfs_memory::{Transcript, bytes_of};
+use fsfs_base::{RevNum, TxnName, put_txn_name, read_txn_name};
 use fsfs_layout::{Layout, Opened};
-use fsfs_places::{CreateFault, OpenFault};
-use fsfs_repo::open;
-use fsfs_txns::{rmtxn, txns};
+use fsfs_base::{CreateFault, OpenFault};
+use fsfs_create::open;
+use fsfs_disk::{rmtxn, txns};
 use std::alloc::Global;
 use uuid::Builder;
 

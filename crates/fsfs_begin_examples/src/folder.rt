@@ -1,7 +1,7 @@
 // Calls in a real folder.
 use crate::calls::call_lines;
 use fsfs_disk::{Disk, Host};
-use fsfs_escapes::Transcript;
+use fsfs_memory::Transcript;
 use fsfs_hostcalls::HostFileSystem;
 use fsfs_mount::FolderHost;
 use std::alloc::{AllocError, Global};

@@ -13,7 +13,7 @@ mod table;
 mod turns;
 
 use anyhow::Result;
-use fsfs_escapes::Transcript;
+use fsfs_memory::Transcript;
 use std::env::args;
 use std::io;
 

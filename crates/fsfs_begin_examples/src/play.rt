@@ -1,7 +1,7 @@
 // A whole text of examples.
 use crate::scene::Scene;
 use crate::table::put_table;
-use fsfs_escapes::Transcript;
+use fsfs_memory::Transcript;
 use std::alloc::{AllocError, Global};
 
 // Plays the lines behind a headline, of which a last one `each LINE` is a table of that call.

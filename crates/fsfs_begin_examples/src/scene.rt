@@ -1,7 +1,7 @@
 // What stands before a call.
 use crate::memory::memory_lines;
-use fsfs_escapes::Transcript;
-use fsfs_memdisk::MemDisk;
+use fsfs_memory::Transcript;
+use fsfs_memory::MemDisk;
 use std::alloc::Global;
 
 /// Lines of a text that are done in order: the first ones, with which each example begins, and then some of its own.

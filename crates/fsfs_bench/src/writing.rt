@@ -1,12 +1,12 @@
 //! What was read, written again.
 ghost use Rattle.std.specs.Prelude.{◌≡◌, true, All, IfOk};
-ghost use Rattle.fsfs_changes.specs.Items.{HasText};
+ghost use Rattle.fsfs_noderev.specs.Items.{HasText};
 
 use anyhow::{Result, bail};
 use fsfs_base::Pairs;
-use fsfs_changes::{ChangeItem, read_changes, write_changes};
-use fsfs_hash::{read_hash, write_hash};
-use fsfs_limits::{check_item, is_told};
+use fsfs_noderev::{ChangeItem, read_changes, write_changes};
+use fsfs_layout::{read_hash, write_hash};
+use fsfs_noderev::{check_item, is_told};
 use std::alloc::Global;
 
 pub(crate) fn read_pairs(alloc: Global, bytes: &[u8]) -> Result<Pairs> {

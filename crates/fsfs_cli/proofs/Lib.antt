@@ -8,3 +8,6 @@ pub mod TaskLemmas
 pub mod PathWords
 pub mod TxnWords
 pub mod OneMeaning
+pub mod LineLemmas
+pub mod HexLemmas
+pub mod FaultsPathLemmas

@@ -8,8 +8,8 @@ use Rattle.std.proofs.lemmas.Str.Parse.{IsNumeralModel, numerals_by_value, parse
 use Rattle.std.specs.Str.{bytes_eq}
 use Rattle.std.proofs.lemmas.Fmt.{digits_value-decimal}
 use Rattle.std.proofs.lemmas.Slice.Eq.{bytes_eq-Decides}
-use Rattle.fsfs_grammar.specs.Numeral.{IsPlain}
-use Rattle.fsfs_grammar.proofs.Unique.{decimal_plain}
+use Rattle.fsfs_base.specs.Numeral.{IsPlain}
+use Rattle.fsfs_base.proofs.Unique.{decimal_plain}
 use Rattle.fsfs_cli.specs.Grammars.{is_revision, revision_of, IsShard, is_shard, shard_of}
 
 digits : IsNumeralModel (λ ds. list_all is_ascii_digit ds ≡ true) (digits_value 10)

@@ -5,3 +5,6 @@ pub mod Words
 pub mod Faults
 pub mod Readings
 pub mod Chains
+pub mod FaultsFaults
+pub mod Lines
+pub mod Pieces

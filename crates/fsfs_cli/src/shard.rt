@@ -2,7 +2,7 @@
 ghost use Rattle.std.specs.Prelude.{◌≡◌};
 ghost use Rattle.fsfs_cli.specs.Grammars.{shard_of};
 
-use fsfs_grammar::read_dec;
+use fsfs_base::read_dec;
 
 /// The number of revisions in a shard: a decimal number from 1 to 100,000.
 pub fn read_shard(text: &str) -> Option<u32>

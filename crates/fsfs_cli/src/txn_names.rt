@@ -4,7 +4,7 @@ ghost use Rattle.fsfs_cli.specs.Grammars.{txns_named};
 ghost use Rattle.fsfs_cli.specs.Readings.{Finds};
 
 use crate::fault::WordsFault;
-use fsfs_fields::{TxnName, plain_txn_name};
+use fsfs_base::{TxnName, plain_txn_name};
 use std::alloc::Global;
 use std::marker::Model;
 

@@ -1,8 +1,8 @@
 //! What a commit is made of: a transaction, ready to be landed and written.
 ghost use Rattle.std.specs.Prelude.{◌≡◌, ◌≤◌, ◌+◌, ◌∷◌, [], ◌++◌, ℕ, List, Bool, true, take, length, IfOk, IfErr, OnOk};
-ghost use Rattle.fsfs_fields.specs.declared.txn_name.TxnName.{TxnName};
+ghost use Rattle.fsfs_base.specs.declared.txn_name.TxnName.{TxnName};
 ghost use Rattle.fsfs_tree.specs.Revisions.{Revision};
-ghost use Rattle.fsfs_flat.specs.Transactions.{IsNext};
+ghost use Rattle.fsfs_model.specs.Transactions.{IsNext};
 ghost use Rattle.fsfs_machine.specs.declared.machine.Recorded.{Recorded};
 ghost use Rattle.fsfs_machine.specs.declared.machine.Txn.{Txn};
 ghost use Rattle.fsfs_machine.specs.Machine.{revisions, entry_of};
@@ -17,8 +17,7 @@ ghost use Rattle.fsfs_commit.specs.Courses.{IsMade};
 ghost use Rattle.fsfs_commit.specs.Works.{CanCommit, LandedOn};
 
 use crate::made::Made;
-use fsfs_base::{Failed, Name};
-use fsfs_fields::RevNum;
+use fsfs_base::{Failed, Name, RevNum};
 use fsfs_layout::Layout;
 use fsfs_turn::Turns;
 use std::alloc::Global;

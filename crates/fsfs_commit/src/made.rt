@@ -1,8 +1,7 @@
 // What a commit writes.
 ghost use Rattle.std.specs.Prelude.{◌≡◌};
 
-use fsfs_base::Name;
-use fsfs_fields::RevNum;
+use fsfs_base::{Name, RevNum};
 
 /// What a commit writes beside the file of the revision, made before the lock is taken: all memory is taken then.
 #[derive(Drop)]

@@ -1,14 +1,14 @@
 //! What is done with the write lock held: from the revision's file to the reveal.
 ghost use Rattle.std.specs.Prelude.{◌≡◌, ℕ, List, true, Some, length, IfErr, OnOk, OnErr};
 ghost use Rattle.fsfs_layout.specs.FileNames.{only_name};
-ghost use Rattle.fsfs_fields.specs.declared.txn_name.TxnName.{TxnName};
+ghost use Rattle.fsfs_base.specs.declared.txn_name.TxnName.{TxnName};
 ghost use Rattle.fsfs_tree.specs.Revisions.{Revision};
 ghost use Rattle.fsfs_base.specs.Failures.{HasCause};
 ghost use Rattle.fsfs_disk.specs.Trace.{Put};
 ghost use Rattle.fsfs_machine.specs.declared.machine.Coming.{Coming};
 ghost use Rattle.fsfs_machine.specs.declared.machine.Recorded.{Recorded};
 ghost use Rattle.fsfs_machine.specs.declared.machine.Txn.{Txn};
-ghost use Rattle.fsfs_places.specs.declared.place.DiskPlace.{DiskPlace as SpecPlace};
+ghost use Rattle.fsfs_base.specs.declared.place.DiskPlace.{DiskPlace as SpecPlace};
 ghost use Rattle.fsfs_machine.specs.declared.machine.Section.TheVariants.{RevPut, PropsPut, RevFirm, CurrentPut, CurrentRenamed, CurrentFirm};
 ghost use Rattle.fsfs_machine.specs.declared.machine.Went.TheVariants.{Before};
 ghost use Rattle.fsfs_turn.specs.Adoptions.{NeedsFolder};
@@ -18,11 +18,8 @@ ghost use Rattle.fsfs_commit.specs.Courses.{IsMade, MayPublish, Goes, Ended, Pub
 
 use crate::draft::Draft;
 use crate::made::Made;
-use fsfs_base::{Failed, Name};
-use fsfs_fields::RevNum;
+use fsfs_base::{CommitPlace, DiskPlace, Failed, Gate, GatePlace, Name, RevNum};
 use fsfs_layout::OnlyFile;
-use fsfs_places::{CommitPlace, DiskPlace};
-use fsfs_streams::{Gate, GatePlace};
 use fsfs_turn::Turns;
 
 // Makes a folder, where there is one to be made.

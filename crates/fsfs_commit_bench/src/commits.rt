@@ -2,12 +2,12 @@
 ghost use Rattle.std.specs.Prelude.{◌≡◌, IsTrue};
 
 use fsfs_base::{FsPath, Pairs};
-use fsfs_book::Book;
+use fsfs_revision::Book;
 use fsfs_disk::{Bench, Disk};
-use fsfs_held::HeldNodes;
-use fsfs_memstreams::{MemSource, NoGate};
-use fsfs_owned_repo::Repo;
-use fsfs_pass_txns::CommitAnswer;
+use fsfs_txn_nodes::HeldNodes;
+use fsfs_memory::{MemSource, NoGate};
+use fsfs_repo::Repo;
+use fsfs_repo::CommitAnswer;
 use fsfs_txn::{PathOpened, TextSet, Txn};
 use std::alloc::Global;
 

@@ -1,11 +1,11 @@
 // What is answered.
-use fsfs_damage::Wrong;
-use fsfs_escapes::Transcript;
-use fsfs_fields::{TxnName, put_txn_name};
-use fsfs_own::EditError;
-use fsfs_pass_txns::CommitBar;
-use fsfs_places::{DiskPlace, OpenFault};
-use fsfs_turn_begin::BeginFault;
+use fsfs_revision::Wrong;
+use fsfs_memory::Transcript;
+use fsfs_base::{TxnName, put_txn_name};
+use fsfs_draft::EditError;
+use fsfs_repo::CommitBar;
+use fsfs_base::{DiskPlace, OpenFault};
+use fsfs_begin::turn_begin::BeginFault;
 use fsfs_txn::TxnError;
 use std::alloc::Global;
 

@@ -1,6 +1,6 @@
 // Disks that fail, and disks behind a crash.
-use fsfs_escapes::Transcript;
-use fsfs_memdisk::MemDisk;
+use fsfs_memory::Transcript;
+use fsfs_memory::MemDisk;
 use std::alloc::{AllocError, Global};
 
 /// How calls fail.

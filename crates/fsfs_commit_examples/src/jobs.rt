@@ -2,15 +2,15 @@
 use crate::answers::{say_bar, say_begin_fault, say_disk_fault, say_edit_error};
 use crate::lines::{MOMENT, cut};
 use fsfs_base::{FsPath, Pairs};
-use fsfs_book::Book;
+use fsfs_revision::Book;
 use fsfs_disk::Bench;
-use fsfs_escapes::{Transcript, bytes_of};
-use fsfs_fields::RevNum;
-use fsfs_held::HeldNodes;
-use fsfs_memdisk::{MemBench, MemDisk};
-use fsfs_memstreams::{MemSource, NoGate};
-use fsfs_owned_repo::Repo;
-use fsfs_pass_txns::CommitAnswer;
+use fsfs_memory::{Transcript, bytes_of};
+use fsfs_base::RevNum;
+use fsfs_txn_nodes::HeldNodes;
+use fsfs_memory::{MemBench, MemDisk};
+use fsfs_memory::{MemSource, NoGate};
+use fsfs_repo::Repo;
+use fsfs_repo::CommitAnswer;
 use fsfs_txn::{Deleted, Made, PathOpened, TextSet, Txn, TxnError};
 use std::alloc::Global;
 

@@ -15,7 +15,7 @@ mod table;
 mod tally;
 
 use anyhow::Result;
-use fsfs_escapes::Transcript;
+use fsfs_memory::Transcript;
 use std::io;
 
 fn main(rt: HostRuntime) -> Result<()> {

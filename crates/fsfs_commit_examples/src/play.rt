@@ -1,7 +1,7 @@
 // A whole text of examples.
 use crate::scene::Scene;
 use crate::table::put_table;
-use fsfs_escapes::Transcript;
+use fsfs_memory::Transcript;
 use std::alloc::{AllocError, Global};
 use std::sync::Wait;
 use std::thread::Threads;

@@ -12,11 +12,11 @@ ghost use Rattle.fsfs_turn.specs.Learning.{MayPurge, Purged, SpentPurged};
 
 use fsfs_base::{Failed, Name};
 use fsfs_disk::{Bench, Disk, Label, ListFault};
-use fsfs_fields::RevNum;
+use fsfs_base::RevNum;
 use fsfs_layout::Layout;
-use fsfs_memdisk::{MemBench, MemDisk};
-use fsfs_note::Note;
-use fsfs_places::DiskPlace;
+use fsfs_memory::{MemBench, MemDisk};
+use fsfs_base::Note;
+use fsfs_base::DiskPlace;
 use fsfs_turn::{Adoption, LoneTurns, Owned, Turns};
 use std::alloc::Global;
 

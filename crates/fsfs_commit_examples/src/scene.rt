@@ -1,7 +1,7 @@
 // What stands before a call.
 use crate::lines::call_lines;
-use fsfs_escapes::Transcript;
-use fsfs_memdisk::MemDisk;
+use fsfs_memory::Transcript;
+use fsfs_memory::MemDisk;
 use std::alloc::Global;
 use std::sync::Wait;
 use std::thread::Threads;

@@ -1,5 +1,5 @@
 // What a table counts: what crashes left, and the commits that were answered before them.
-use fsfs_escapes::Transcript;
+use fsfs_memory::Transcript;
 
 /// What crashes left, counted.
 #[derive(Clone, Copy)]

@@ -10,7 +10,7 @@ use fsfs_machine::labels::{drop_label, is_labelled, put_label};
 use fsfs_machine::passes::learn;
 use fsfs_machine::section::{answer_of, is_lock_up, is_outside_section};
 use fsfs_machine::{Drawn, Marks, Numbers, Outcome, Txn, Went};
-use fsfs_places::DiskPlace;
+use fsfs_base::DiskPlace;
 use std::alloc::AllocError;
 use std::collections::VecDeque;
 use std::mem;

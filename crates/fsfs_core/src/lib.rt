@@ -13,5 +13,5 @@ pub use fsfs_machine::{
     Bytes, Coming, Contents, Drawn, Entry, FileName, Line, Lock, Marks, NameChange, Numbers,
     Outcome, Pass, Picks, Places, Recorded, Section, Step, Txn, Went, every_run_keeps_one_history,
 };
-pub use fsfs_places::{BeginPlace, CommitPlace, DiskPlace};
+pub use fsfs_base::{BeginPlace, CommitPlace, DiskPlace};
 pub use state::State;

@@ -8,7 +8,7 @@ use crate::state::State;
 use fsfs_machine::files::{find, find_number, is_fine};
 use fsfs_machine::passes::{join_to, learn, read_floor_by};
 use fsfs_machine::{Contents, FileName, Outcome, Went};
-use fsfs_places::DiskPlace;
+use fsfs_base::DiskPlace;
 use std::alloc::AllocError;
 
 fn floor_answer(found: Option<u64>, went: &Went) -> Outcome

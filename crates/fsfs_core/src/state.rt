@@ -7,11 +7,11 @@ ghost use Rattle.fsfs_machine.specs.Kept.{Kept, Keeps, RunKeeps};
 ghost use Rattle.fsfs_core.specs.State.{world_of};
 
 use fsfs_base::{FsPath, Kind, Pairs};
-use fsfs_fields::RevNum;
+use fsfs_base::RevNum;
 use fsfs_machine::{
     Bytes, Contents, Drawn, Entry, FileName, Line, Lock, NameChange, Outcome, Pass, Step, Txn,
 };
-use fsfs_places::DiskPlace;
+use fsfs_base::DiskPlace;
 use fsfs_tree::{ChangeMap, History, Node, Revision, Text, Tree};
 use std::alloc::{AllocError, Global};
 use std::collections::VecDeque;

@@ -2,7 +2,7 @@
 use crate::line::{Block, Line};
 use crate::player::{Named, Player, steps_of};
 use crate::step::calls_the_disk;
-use fsfs_escapes::Transcript;
+use fsfs_memory::Transcript;
 use std::alloc::{AllocError, Global};
 
 // What a block prints in a run with these lines before it, after these steps, and after the next has failed.

@@ -6,8 +6,8 @@ use crate::words::Words;
 use anyhow::{Result, bail};
 use fsfs_base::{FsPath, Pairs};
 use fsfs_core::{Bytes, Outcome, State, Step};
-use fsfs_escapes::Transcript;
-use fsfs_fields::RevNum;
+use fsfs_memory::Transcript;
+use fsfs_base::RevNum;
 use std::alloc::{AllocError, Global};
 use std::collections::VecDeque;
 

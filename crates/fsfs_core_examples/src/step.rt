@@ -3,8 +3,8 @@ use crate::words::Words;
 use anyhow::Result;
 use fsfs_base::{FsPath, Pairs};
 use fsfs_core::{Bytes, Picks, Step, Went};
-use fsfs_fields::PropName;
-use fsfs_flat::Edit;
+use fsfs_base::PropName;
+use fsfs_model::Edit;
 use std::alloc::Global;
 
 /// So many labels come through a stop.

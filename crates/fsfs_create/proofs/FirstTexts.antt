@@ -4,10 +4,10 @@ use Rattle.std.specs.Prelude.{codes, is_some, unwrap_or}
 use Rattle.std.proofs.lemmas.Option.{same_Some}
 use Rattle.std.specs.List.{flat_map}
 use Rattle.hex.specs.Hex.{encode_lower, decode_pairs}
-use Rattle.fsfs_grammar.specs.Grammar.{Appends}
-use Rattle.fsfs_grammar.specs.Numeral.{IsPlain, IsNumeral, numeral_at, plain_at}
-use Rattle.fsfs_grammar.proofs.Numerals.{numeral_found}
-use Rattle.fsfs_grammar.proofs.Unique.{numeral_same}
+use Rattle.fsfs_base.specs.Grammar.{Appends}
+use Rattle.fsfs_base.specs.Numeral.{IsPlain, IsNumeral, numeral_at, plain_at}
+use Rattle.fsfs_base.proofs.Numerals.{numeral_found}
+use Rattle.fsfs_base.proofs.Unique.{numeral_same}
 use Rattle.fsfs_base.specs.declared.kind.Kind.{Kind}
 use Rattle.fsfs_base.specs.declared.kind.Kind.TheVariants.{Dir}
 use Rattle.fsfs_base.specs.Paths.{Path}

@@ -4,3 +4,8 @@ pub mod CrashLemmas
 pub mod NewStoreLemmas
 pub mod InitialLemmas
 pub mod FirstTexts
+pub mod OpeningLemmas
+pub mod DecidingLemmas
+pub mod ShortTexts
+pub mod FirstTextLemmas
+pub mod Knowing

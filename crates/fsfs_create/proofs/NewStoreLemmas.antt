@@ -5,7 +5,7 @@ use Rattle.std.specs.FinMap.{get}
 use Rattle.std.proofs.Math.Nat.{zero-mod}
 use Rattle.fsfs_base.specs.Files.{Files}
 use Rattle.fsfs_base.specs.declared.small_fault.SmallFault.{SmallFault}
-use Rattle.fsfs_fields.specs.Dates.{IsDateAt}
+use Rattle.fsfs_base.specs.Dates.{IsDateAt}
 use Rattle.fsfs_tree.specs.Revisions.{Revision}
 use Rattle.fsfs_layout.specs.CreatedFiles.{created_over, identifier_text}
 use Rattle.fsfs_layout.specs.Opening.{text_at}
@@ -14,7 +14,7 @@ use Rattle.fsfs_layout.specs.declared.layout.Layout.{Layout}
 use Rattle.fsfs_disk.specs.Trace.{Trace, files_now}
 use Rattle.fsfs_disk.specs.Crash.{AllImages, Leaves, IsFirm}
 use Rattle.fsfs_disk.proofs.CrashLemmas.{leaves_with}
-use Rattle.fsfs_rev_file.proofs.FloorLemmas.{floor_is}
+use Rattle.fsfs_revision.proofs.FloorLemmas.{floor_is}
 use Rattle.fsfs_stands.specs.Files.{StandsFor}
 use Rattle.fsfs_stands.specs.NewRepository.{HoldsNew}
 use Rattle.fsfs_stands.proofs.Creations.{creations_hold_new}

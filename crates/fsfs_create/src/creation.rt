@@ -9,11 +9,9 @@ ghost use Rattle.fsfs_create.specs.Creation.{after_puts, after_publishing, after
 ghost use Rattle.fsfs_create.specs.NewStore.{IsNewStore, IsNoneOrNew};
 
 use crate::initial::{NewFile, created_files};
-use fsfs_base::Failed;
+use fsfs_base::{CreateFault, CreatePlace, DiskPlace, Failed, write_date};
 use fsfs_disk::Disk;
-use fsfs_fields::write_date;
 use fsfs_layout::{Format, Layout, OnlyFile, RepositoryFile, write_format};
-use fsfs_places::{CreateFault, CreatePlace, DiskPlace};
 use std::alloc::Global;
 use uuid::Uuid;
 

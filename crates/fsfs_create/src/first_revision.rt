@@ -3,9 +3,8 @@ ghost use Rattle.std.specs.Prelude.{◌≡◌, IfOk};
 ghost use Rattle.fsfs_base.specs.FirstRevision.{first_bytes};
 ghost use Rattle.fsfs_create.specs.FirstRoot.{IsFirstRoot};
 
-use fsfs_base::{B36, FsPath, Kind, Pairs};
-use fsfs_fields::{HexDigest, RevNum};
-use fsfs_hash::write_hash;
+use fsfs_base::{B36, FsPath, HexDigest, Kind, Pairs, RevNum};
+use fsfs_layout::write_hash;
 use fsfs_noderev::{Contents, NodeId, NodeRev, Part, Place, Rep, write_noderev};
 use fsfs_revision::{Trailer, put_trailer};
 use std::alloc::{AllocError, Global};

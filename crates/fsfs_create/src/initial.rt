@@ -4,12 +4,10 @@ ghost use Rattle.fsfs_create.specs.NewFiles.{named};
 ghost use Rattle.fsfs_layout.specs.CreatedFiles.{unpublished_files, date_properties, identifier_text as text_of_identifier};
 
 use crate::first_revision::write_first_revision;
-use fsfs_base::{B36, Name, Pairs};
-use fsfs_fields::RevNum;
-use fsfs_hash::write_hash;
+use fsfs_base::{B36, Name, Pairs, RevNum};
 use fsfs_layout::{
-    Layout, OnlyFile, RepositoryFile, Uuid as Identifier, write_current, write_min_unpacked_rev,
-    write_txn_current, write_uuid,
+    Layout, OnlyFile, RepositoryFile, Uuid as Identifier, write_current, write_hash,
+    write_min_unpacked_rev, write_txn_current, write_uuid,
 };
 use std::alloc::{AllocError, Global};
 use uuid::Uuid;

@@ -2,10 +2,10 @@
 use Rattle.std.proofs.Common.{◌≡◌, ℕ, true, false, refl, sym, ap, subst, ◌∙◌, arith, eq-eqb}
 use Rattle.std.specs.Prelude.{◌==◌, ◌&&◌}
 use Rattle.std.proofs.lemmas.Bool.Decides.{nat_tests}
-use Rattle.fsfs_grammar.specs.declared.base36.B36.{B36}
-use Rattle.fsfs_grammar.proofs.Base36Texts.{b36_same}
-use Rattle.fsfs_fields.specs.declared.txn_name.TxnName.{TxnName}
-use Rattle.fsfs_fields.proofs.TxnNameTexts.{txn_same}
+use Rattle.fsfs_base.specs.declared.base36.B36.{B36}
+use Rattle.fsfs_base.proofs.Base36Texts.{b36_same}
+use Rattle.fsfs_base.specs.declared.txn_name.TxnName.{TxnName}
+use Rattle.fsfs_base.proofs.TxnNameTexts.{txn_same}
 use Rattle.fsfs_noderev.specs.declared.node_id.Part.{Part}
 use Rattle.fsfs_noderev.specs.declared.node_id.Part.TheVariants.{New, Old, Made}
 use Rattle.fsfs_noderev.specs.declared.node_id.Place.{Place}

@@ -5,24 +5,24 @@ use Rattle.std.specs.declared.vec.Vec.{Vec}
 use Rattle.std.specs.declared.alloc.Global.{Global}
 use Rattle.std.proofs.lemmas.List.{append-nil}
 use Rattle.fsfs_noderev.specs.declared.rep.Rep.{Rep}
-use Rattle.fsfs_damage.specs.declared.damage.RevOffset.{RevOffset}
-use Rattle.fsfs_damage.specs.declared.wrong.Wrong.{Wrong}
-use Rattle.fsfs_damage.specs.declared.wrong.ReadError.{ReadError}
-use Rattle.fsfs_damage.specs.declared.wrong.ReadError.TheVariants as errors
-use Rattle.fsfs_damage.specs.declared.damage.DamageKind.TheVariants as what
-use Rattle.fsfs_damage.specs.declared.damage.RepWhat.TheVariants as repwhat
-use Rattle.fsfs_damage.specs.Damages.{damaged}
-use Rattle.fsfs_damage.specs.Readings.{AndThen, Answers}
+use Rattle.fsfs_revision.specs.declared.damage.RevOffset.{RevOffset}
+use Rattle.fsfs_revision.specs.declared.wrong.Wrong.{Wrong}
+use Rattle.fsfs_revision.specs.declared.wrong.ReadError.{ReadError}
+use Rattle.fsfs_revision.specs.declared.wrong.ReadError.TheVariants as errors
+use Rattle.fsfs_revision.specs.declared.damage.DamageKind.TheVariants as what
+use Rattle.fsfs_revision.specs.declared.damage.RepWhat.TheVariants as repwhat
+use Rattle.fsfs_revision.specs.DamageDamages.{damaged}
+use Rattle.fsfs_revision.specs.Readings.{AndThen, Answers}
 use Rattle.fsfs_noderev.specs.Fields.{IsIdText}
 use Rattle.fsfs_noderev.specs.declared.node_id.NodeId.{NodeId}
-use Rattle.fsfs_rep.specs.Frames.{bad_rep}
-use Rattle.fsfs_rep.proofs.HeaderLemmas.{head_same}
-use Rattle.fsfs_shows.proofs.OneEntry.{value_one}
-use Rattle.fsfs_shows.specs.Reading.{DirEntry as EntryValue, IsEntryName, IsEntryValue, IsEntry, AreEntries, FirstPairFails, kind_word, EntriesIn, EntriesOf, ChildOf, OfNamed, OfEntry, named, offset_of}
+use Rattle.fsfs_revision.specs.Frames.{bad_rep}
+use Rattle.fsfs_revision.proofs.HeaderLemmas.{head_same}
+use Rattle.fsfs_revision.proofs.OneEntry.{value_one}
+use Rattle.fsfs_revision.specs.ShowsReading.{DirEntry as EntryValue, IsEntryName, IsEntryValue, IsEntry, AreEntries, FirstPairFails, kind_word, EntriesIn, EntriesOf, ChildOf, OfNamed, OfEntry, named, offset_of}
 use Rattle.fsfs_base.specs.Paths.{PathName, same_name}
 use Rattle.fsfs_base.specs.declared.kind.Kind.{Kind}
 use Rattle.fsfs_base.specs.declared.kind.Kind.TheVariants.{File, Dir}
-use Rattle.fsfs_book.specs.Told.{RevisionBytes}
+use Rattle.fsfs_revision.specs.Told.{RevisionBytes}
 use Rattle.fsfs_noderev.specs.declared.node_id.Place.{Place}
 use Rattle.fsfs_noderev.specs.declared.node_id.Place.TheVariants as places
 use Rattle.fsfs_noderev.specs.declared.node_rev.NodeRev.{NodeRev}

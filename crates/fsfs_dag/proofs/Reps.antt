@@ -2,21 +2,21 @@
 use Rattle.std.proofs.Common.{◌≡◌, ℕ, ◌≤◌, List, true, Option, Some, None, Result, Ok, Err, refl, sym, ap, subst, arith, inl, inr}
 use Rattle.std.specs.Prelude.{IsSome, MatchResult, unwrap_or}
 use Rattle.std.proofs.lemmas.Bool.Decides.{nat_tests}
-use Rattle.fsfs_damage.specs.declared.damage.RevOffset.{RevOffset}
-use Rattle.fsfs_damage.specs.declared.wrong.Refusal.{Refusal}
-use Rattle.fsfs_damage.specs.declared.wrong.Wrong.{Wrong}
-use Rattle.fsfs_damage.specs.declared.wrong.ReadError.{ReadError}
-use Rattle.fsfs_damage.specs.declared.wrong.ReadError.TheVariants as errors
-use Rattle.fsfs_damage.specs.Readings.{Answers}
-use Rattle.fsfs_damage.proofs.Answering.{err_as}
-use Rattle.fsfs_book.specs.Told.{RevisionBytes}
+use Rattle.fsfs_revision.specs.declared.damage.RevOffset.{RevOffset}
+use Rattle.fsfs_revision.specs.declared.wrong.Refusal.{Refusal}
+use Rattle.fsfs_revision.specs.declared.wrong.Wrong.{Wrong}
+use Rattle.fsfs_revision.specs.declared.wrong.ReadError.{ReadError}
+use Rattle.fsfs_revision.specs.declared.wrong.ReadError.TheVariants as errors
+use Rattle.fsfs_revision.specs.Readings.{Answers}
+use Rattle.fsfs_revision.proofs.Answering.{err_as}
+use Rattle.fsfs_revision.specs.Told.{RevisionBytes}
 use Rattle.fsfs_noderev.specs.declared.rep.Rep.{Rep}
 use Rattle.fsfs_noderev.specs.declared.rep.Contents.{Contents}
 use Rattle.fsfs_noderev.specs.declared.rep.Contents.TheVariants as contents
-use Rattle.fsfs_rep.specs.Faults.{IsRefusedFor}
-use Rattle.fsfs_rep.specs.Frames.{rev_of, text_of, IsWhole, IsTextOf, IsFaultOf}
+use Rattle.fsfs_revision.specs.Faults.{IsRefusedFor}
+use Rattle.fsfs_revision.specs.Frames.{rev_of, text_of, IsWhole, IsTextOf, IsFaultOf}
 use Rattle.fsfs_revision.specs.Nodes.{is_before, rep_place_before}
-use Rattle.fsfs_shows.specs.Reading.{RepAt, OfContents}
+use Rattle.fsfs_revision.specs.ShowsReading.{RepAt, OfContents}
 
 module _ (look : RevisionBytes) (rep : Rep) where
   found_in : (read : Result (List ℕ) Refusal) (text : List ℕ) → look (rev_of rep) ≡ read → ((bytes : List ℕ) → read ≡ Ok bytes → (text ≡ text_of rep bytes) × IsWhole rep bytes) → ((why : Refusal) → read ≡ Err why → ⊥) → RepAt look rep (Ok text)

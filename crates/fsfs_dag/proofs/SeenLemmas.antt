@@ -1,16 +1,16 @@
 -- What a kept part of a revision shows.
 use Rattle.std.proofs.Common.{◌≡◌, ℕ, ◌+◌, ◌-◌, ◌<◌, ◌≤◌, ◌⊎◌, List, length, take, drop, true, Result, Ok, Err, ap, subst, ◌∙◌, arith, inl, inr}
 use Rattle.std.proofs.lemmas.List.{length-take, take-take, take_rest, drop-take, drop-drop}
-use Rattle.fsfs_book.specs.Told.{RevisionBytes}
+use Rattle.fsfs_revision.specs.Told.{RevisionBytes}
 use Rattle.fsfs_noderev.specs.NodeRevs.{IsRead}
 use Rattle.fsfs_noderev.specs.declared.node_rev.NodeRev.{NodeRev}
-use Rattle.fsfs_damage.specs.declared.damage.RevOffset.{RevOffset}
-use Rattle.fsfs_damage.specs.declared.wrong.ReadError.{ReadError}
-use Rattle.fsfs_damage.specs.declared.wrong.ReadError.TheVariants as errors
-use Rattle.fsfs_damage.specs.Readings.{Answers}
+use Rattle.fsfs_revision.specs.declared.damage.RevOffset.{RevOffset}
+use Rattle.fsfs_revision.specs.declared.wrong.ReadError.{ReadError}
+use Rattle.fsfs_revision.specs.declared.wrong.ReadError.TheVariants as errors
+use Rattle.fsfs_revision.specs.Readings.{Answers}
 use Rattle.fsfs_revision.specs.Nodes.{IsNodeAt}
 use Rattle.fsfs_revision.specs.Damages.{NodeIn}
-use Rattle.fsfs_shows.specs.Reading.{NodeAt}
+use Rattle.fsfs_revision.specs.ShowsReading.{NodeAt}
 use Rattle.fsfs_dag.specs.Seen.{IsKept}
 use Rattle.fsfs_dag.specs.Told.{WindowAt, is_decided}
 use Rattle.fsfs_dag.specs.declared.seen_bytes.Stretch.{Stretch}

@@ -4,17 +4,17 @@ use Rattle.std.specs.Prelude.{OnOk, IfErr, MatchOption, option_to_list}
 use Rattle.std.proofs.Math.Nat.{one-le-pow, pow-le-pow_right, pow-suc, mul-le-mul_left}
 use Rattle.std.proofs.lemmas.Bool.Decides.{nat_tests}
 use Rattle.std.proofs.lemmas.List.{reverse-append, nil_from_length}
-use Rattle.fsfs_book.specs.Told.{RevisionBytes}
+use Rattle.fsfs_revision.specs.Told.{RevisionBytes}
 use Rattle.fsfs_noderev.specs.declared.node_id.Place.{Place}
 use Rattle.fsfs_noderev.specs.declared.node_id.Place.TheVariants as places
 use Rattle.fsfs_noderev.specs.declared.node_rev.NodeRev.{NodeRev}
-use Rattle.fsfs_damage.specs.declared.damage.RevOffset.{RevOffset}
-use Rattle.fsfs_damage.specs.declared.wrong.ReadError.{ReadError}
-use Rattle.fsfs_damage.specs.declared.wrong.ReadError.TheVariants as errors
-use Rattle.fsfs_damage.specs.Damages.{place_of}
-use Rattle.fsfs_damage.specs.Readings.{Answers}
+use Rattle.fsfs_revision.specs.declared.damage.RevOffset.{RevOffset}
+use Rattle.fsfs_revision.specs.declared.wrong.ReadError.{ReadError}
+use Rattle.fsfs_revision.specs.declared.wrong.ReadError.TheVariants as errors
+use Rattle.fsfs_revision.specs.DamageDamages.{place_of}
+use Rattle.fsfs_revision.specs.Readings.{Answers}
 use Rattle.fsfs_revision.specs.Nodes.{is_before, place_before}
-use Rattle.fsfs_shows.specs.Reading.{EntriesOf, offset_of}
+use Rattle.fsfs_revision.specs.ShowsReading.{EntriesOf, offset_of}
 use Rattle.fsfs_dag.specs.declared.directory.DirEntry.{DirEntry}
 use Rattle.fsfs_dag.specs.declared.tree_walk.Pending.{Pending}
 use Rattle.fsfs_dag.specs.TreeWalks.{pending_value, Left, in_order, at_level, AreWithin, Enters, rank, weight, total}

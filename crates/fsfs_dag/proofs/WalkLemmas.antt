@@ -4,13 +4,13 @@ use Rattle.std.proofs.lemmas.List.{drop_all}
 use Rattle.fsfs_base.specs.Paths.{PathName, Path}
 use Rattle.fsfs_base.specs.declared.kind.Kind.{Kind}
 use Rattle.fsfs_base.specs.declared.kind.Kind.TheVariants.{File, Dir}
-use Rattle.fsfs_book.specs.Told.{RevisionBytes}
+use Rattle.fsfs_revision.specs.Told.{RevisionBytes}
 use Rattle.fsfs_noderev.specs.declared.node_rev.NodeRev.{NodeRev}
-use Rattle.fsfs_damage.specs.declared.wrong.Wrong.{Wrong}
-use Rattle.fsfs_damage.specs.declared.wrong.ReadError.{ReadError}
-use Rattle.fsfs_damage.specs.declared.wrong.ReadError.TheVariants as errors
-use Rattle.fsfs_damage.specs.Readings.{Answers}
-use Rattle.fsfs_shows.specs.Reading.{RootOf, ChildOf, Met, Stands, Lacking, Blocked, InDirectory, MetFrom, MetAt}
+use Rattle.fsfs_revision.specs.declared.wrong.Wrong.{Wrong}
+use Rattle.fsfs_revision.specs.declared.wrong.ReadError.{ReadError}
+use Rattle.fsfs_revision.specs.declared.wrong.ReadError.TheVariants as errors
+use Rattle.fsfs_revision.specs.Readings.{Answers}
+use Rattle.fsfs_revision.specs.ShowsReading.{RootOf, ChildOf, Met, Stands, Lacking, Blocked, InDirectory, MetFrom, MetAt}
 
 pub names_step : {S : Type 0} (text : S → PathName) (items : List S) (i : ℕ) (item : S) → i < length items → item ≡ get_or items i item → map text (drop i items) ≡ text item ∷ map text (drop (i + 1) items)
 names_step text items i item lt e =

@@ -4,29 +4,29 @@ use Rattle.std.specs.Prelude.{MatchResult, ◌==◌}
 use Rattle.std.proofs.lemmas.Bool.{and_parts}
 use Rattle.std.proofs.lemmas.Bool.Decides.{nat_tests}
 use Rattle.std.proofs.lemmas.List.{take-take, take_all, take-append-drop, length-take, length-drop}
-use Rattle.fsfs_damage.specs.declared.damage.RevOffset.{RevOffset}
-use Rattle.fsfs_damage.specs.declared.damage.DamageKind.TheVariants as what
-use Rattle.fsfs_damage.specs.declared.wrong.Refusal.{Refusal}
-use Rattle.fsfs_damage.specs.declared.wrong.Wrong.{Wrong}
-use Rattle.fsfs_damage.specs.declared.wrong.Wrong.TheVariants as wrongs
-use Rattle.fsfs_damage.specs.declared.wrong.ReadError.{ReadError}
-use Rattle.fsfs_damage.specs.declared.wrong.ReadError.TheVariants as errors
-use Rattle.fsfs_damage.specs.Damages.{place_of, damaged}
-use Rattle.fsfs_damage.specs.Readings.{AndThen, IfWrong, Answers}
-use Rattle.fsfs_book.specs.declared.book.BookFault.TheVariants as books
-use Rattle.fsfs_book.specs.Told.{RevisionBytes, BytesOf, size_read}
+use Rattle.fsfs_revision.specs.declared.damage.RevOffset.{RevOffset}
+use Rattle.fsfs_revision.specs.declared.damage.DamageKind.TheVariants as what
+use Rattle.fsfs_revision.specs.declared.wrong.Refusal.{Refusal}
+use Rattle.fsfs_revision.specs.declared.wrong.Wrong.{Wrong}
+use Rattle.fsfs_revision.specs.declared.wrong.Wrong.TheVariants as wrongs
+use Rattle.fsfs_revision.specs.declared.wrong.ReadError.{ReadError}
+use Rattle.fsfs_revision.specs.declared.wrong.ReadError.TheVariants as errors
+use Rattle.fsfs_revision.specs.DamageDamages.{place_of, damaged}
+use Rattle.fsfs_revision.specs.Readings.{AndThen, IfWrong, Answers}
+use Rattle.fsfs_revision.specs.declared.book.BookFault.TheVariants as books
+use Rattle.fsfs_revision.specs.Told.{RevisionBytes, BytesOf, size_read}
 use Rattle.fsfs_noderev.specs.NodeRevs.{IsRead}
 use Rattle.fsfs_noderev.specs.declared.node_rev.NodeRev.{NodeRev}
 use Rattle.fsfs_noderev.specs.declared.node_id.NodeId.{NodeId}
 use Rattle.fsfs_noderev.specs.declared.node_id.Place.{Place}
 use Rattle.fsfs_noderev.specs.declared.node_id.Place.TheVariants as places
-use Rattle.fsfs_rep.specs.Faults.{IsRefusedFor}
+use Rattle.fsfs_revision.specs.Faults.{IsRefusedFor}
 use Rattle.fsfs_revision.specs.declared.trailer.Trailer.{Trailer}
 use Rattle.fsfs_revision.specs.Trailers.{EndsWith}
 use Rattle.fsfs_revision.specs.Nodes.{Holds, IsNodeAt, is_root, is_ordered, is_own_place, is_directory}
 use Rattle.fsfs_revision.specs.Damages.{NodeIn, AsRoot, RootAt}
 use Rattle.fsfs_revision.proofs.TrailerLemmas.{from_tail, in_tail}
-use Rattle.fsfs_shows.specs.Reading.{NodeAt, RootOf, offset_of}
+use Rattle.fsfs_revision.specs.ShowsReading.{NodeAt, RootOf, offset_of}
 use Rattle.fsfs_dag.specs.Told.{LengthOf, WindowAt, EndOf, is_decided}
 
 -- ---- the length of a revision

@@ -2,12 +2,12 @@
 -- that it names.
 use Rattle.std.specs.Prelude.{◌≡◌, ◌≤◌, ℕ, suc, ◌+◌, ◌-◌, ◌*◌, ◌^◌, min, List, [], ◌∷◌, ◌++◌, map, reverse, Result, Ok, Err}
 use Rattle.std.specs.List.{AllByRecursion}
-use Rattle.fsfs_book.specs.Told.{RevisionBytes}
-use Rattle.fsfs_damage.specs.declared.damage.RevOffset.{RevOffset}
-use Rattle.fsfs_damage.specs.declared.wrong.ReadError.{ReadError}
-use Rattle.fsfs_damage.specs.declared.wrong.ReadError.TheVariants as errors
+use Rattle.fsfs_revision.specs.Told.{RevisionBytes}
+use Rattle.fsfs_revision.specs.declared.damage.RevOffset.{RevOffset}
+use Rattle.fsfs_revision.specs.declared.wrong.ReadError.{ReadError}
+use Rattle.fsfs_revision.specs.declared.wrong.ReadError.TheVariants as errors
 use Rattle.fsfs_noderev.specs.declared.node_rev.NodeRev.{NodeRev}
-use Rattle.fsfs_shows.specs.Reading.{DirEntry as EntryValue, EntriesOf, offset_of}
+use Rattle.fsfs_revision.specs.ShowsReading.{DirEntry as EntryValue, EntriesOf, offset_of}
 use Rattle.fsfs_dag.specs.Views.{entry_value}
 use Rattle.fsfs_dag.specs.declared.tree_walk.Pending.{Pending}
 use Rattle.fsfs_dag.specs.declared.tree_walk.TreeWalk.{TreeWalk}

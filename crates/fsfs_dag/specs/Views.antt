@@ -3,12 +3,12 @@ use Rattle.std.specs.Prelude.{◌≡◌, ◌∷◌, [], ◌++◌, ℕ, List, map
 use Rattle.std.specs.List.{AllByRecursion}
 use Rattle.std.specs.String.{string_bytes}
 use Rattle.fsfs_noderev.specs.declared.node_rev.NodeRev.{NodeRev}
-use Rattle.fsfs_damage.specs.declared.damage.RevOffset.{RevOffset}
-use Rattle.fsfs_damage.specs.declared.wrong.ReadError.{ReadError}
-use Rattle.fsfs_damage.specs.declared.wrong.ReadError.TheVariants as errors
+use Rattle.fsfs_revision.specs.declared.damage.RevOffset.{RevOffset}
+use Rattle.fsfs_revision.specs.declared.wrong.ReadError.{ReadError}
+use Rattle.fsfs_revision.specs.declared.wrong.ReadError.TheVariants as errors
 use Rattle.fsfs_noderev.specs.declared.rep.Rep.{Rep}
 use Rattle.fsfs_revision.specs.Nodes.{place_before}
-use Rattle.fsfs_shows.specs.Reading.{DirEntry as EntryValue, IsEntry, EntryIn, offset_of, Met as MetValue, Stands, Lacking, Blocked}
+use Rattle.fsfs_revision.specs.ShowsReading.{DirEntry as EntryValue, IsEntry, EntryIn, offset_of, Met as MetValue, Stands, Lacking, Blocked}
 use Rattle.fsfs_dag.specs.declared.directory.DirEntry.{DirEntry}
 use Rattle.fsfs_dag.specs.declared.walk.Met.{Met}
 use Rattle.fsfs_dag.specs.declared.walk.Met.TheVariants as mets

@@ -1,10 +1,10 @@
 -- What writing a text leaves of a sink.
 use Rattle.std.specs.Prelude.{◌≡◌, ◌≤◌, ℕ, List, Option, Result, Ok, Err, IfErr}
 use Rattle.fsfs_base.specs.Failures.{Rose}
-use Rattle.fsfs_streams.specs.Streams.{Adds}
-use Rattle.fsfs_streams.specs.Output.{AddsFront}
-use Rattle.fsfs_damage.specs.declared.wrong.Wrong.{Wrong}
-use Rattle.fsfs_damage.specs.declared.wrong.ReadError.TheVariants as errors
+use Rattle.fsfs_base.specs.Streams.{Adds}
+use Rattle.fsfs_base.specs.Output.{AddsFront}
+use Rattle.fsfs_revision.specs.declared.wrong.Wrong.{Wrong}
+use Rattle.fsfs_revision.specs.declared.wrong.ReadError.TheVariants as errors
 use Rattle.fsfs_dag.specs.declared.writing.TextError.{TextError}
 use Rattle.fsfs_dag.specs.declared.writing.TextError.TheVariants.{Unread, WriteFault}
 

@@ -1,21 +1,19 @@
 //! A node's properties and a file's text.
 ghost use Rattle.std.specs.Prelude.{◌≡◌, IsSome};
 ghost use Rattle.fsfs_base.specs.declared.kind.Kind.TheVariants.{File};
-ghost use Rattle.fsfs_book.specs.Told.{RevisionBytes, Knows, Keeps, IsTold};
-ghost use Rattle.fsfs_hash.specs.Reading.{views};
-ghost use Rattle.fsfs_rep.specs.Frames.{rev_of};
-ghost use Rattle.fsfs_damage.specs.Readings.{Answers};
-ghost use Rattle.fsfs_shows.specs.Reading.{RepAt, PairsIn, PairsAt, PropsOf, TextOf};
-ghost use Rattle.fsfs_damage.specs.Causes.{HasCause, IsQuiet};
+ghost use Rattle.fsfs_revision.specs.Told.{RevisionBytes, Knows, Keeps, IsTold};
+ghost use Rattle.fsfs_layout.specs.HashReading.{views};
+ghost use Rattle.fsfs_revision.specs.Frames.{rev_of};
+ghost use Rattle.fsfs_revision.specs.Readings.{Answers};
+ghost use Rattle.fsfs_revision.specs.ShowsReading.{RepAt, PairsIn, PairsAt, PropsOf, TextOf};
+ghost use Rattle.fsfs_revision.specs.Causes.{HasCause, IsQuiet};
 ghost use Rattle.fsfs_dag.specs.Views.{home_of};
 
 use crate::node::PlacedNode;
 use fsfs_base::Pairs;
-use fsfs_book::Book;
-use fsfs_damage::{ReadError, RepWhat};
-use fsfs_hash::{HashError, read_hash, read_hash_in_place};
+use fsfs_layout::{HashError, read_hash, read_hash_in_place};
 use fsfs_noderev::Rep;
-use fsfs_rep::{bad_rep, read_rep_bytes};
+use fsfs_revision::{Book, ReadError, RepWhat, bad_rep, read_rep_bytes};
 use std::alloc::Global;
 
 /// The bytes of a representation.

@@ -3,22 +3,21 @@ ghost use Rattle.std.specs.Prelude.{◌≡◌, ◌++◌, ℕ, List, true, Some, 
 ghost use Rattle.std.specs.String.{string_bytes};
 ghost use Rattle.fsfs_base.specs.declared.kind.Kind.{Kind};
 ghost use Rattle.fsfs_base.specs.declared.kind.Kind.TheVariants.{Dir};
-ghost use Rattle.fsfs_book.specs.Told.{RevisionBytes, Knows, Keeps};
-ghost use Rattle.fsfs_hash.specs.Reading.{views};
+ghost use Rattle.fsfs_revision.specs.Told.{RevisionBytes, Knows, Keeps};
+ghost use Rattle.fsfs_layout.specs.HashReading.{views};
 ghost use Rattle.fsfs_revision.specs.Nodes.{place_before};
-ghost use Rattle.fsfs_damage.specs.Readings.{AndThen, Answers};
-ghost use Rattle.fsfs_shows.specs.Reading.{PairsIn, EntriesIn, EntriesOf, IsEntryName, kind_word, named};
-ghost use Rattle.fsfs_damage.specs.Causes.{HasCause, IsQuiet};
+ghost use Rattle.fsfs_revision.specs.Readings.{AndThen, Answers};
+ghost use Rattle.fsfs_revision.specs.ShowsReading.{PairsIn, EntriesIn, EntriesOf, IsEntryName, kind_word, named};
+ghost use Rattle.fsfs_revision.specs.Causes.{HasCause, IsQuiet};
 ghost use Rattle.fsfs_dag.specs.Views.{entry_value, entry_values, home_of, AreBefore, PutsEntry};
 
 use crate::contents::{hash_in_place, rep_read};
 use crate::node::PlacedNode;
 use fsfs_base::{Kind, is_name};
-use fsfs_book::Book;
-use fsfs_damage::{DamageKind, ReadError, RepWhat, RevOffset};
 use fsfs_noderev::{NodeId, Place, Rep, read_id};
-use fsfs_rep::bad_rep;
-use fsfs_revision::{is_before, is_revision_id};
+use fsfs_revision::{
+    Book, DamageKind, ReadError, RepWhat, RevOffset, bad_rep, is_before, is_revision_id,
+};
 use std::alloc::Global;
 
 /// An entry of a directory: a name, and the kind and the id of the node-revision that it names.

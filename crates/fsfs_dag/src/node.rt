@@ -2,11 +2,11 @@
 ghost use Rattle.std.specs.Prelude.{◌≡◌, true, None, Some, MatchOption, IfSome, IsSome};
 ghost use Rattle.fsfs_noderev.specs.declared.rep.Contents.TheVariants.{At};
 ghost use Rattle.fsfs_revision.specs.Nodes.{is_ordered, rep_before, rep_place_before};
-ghost use Rattle.fsfs_shows.specs.Reading.{offset_of};
+ghost use Rattle.fsfs_revision.specs.ShowsReading.{offset_of};
 
 use crate::places::offset_of;
-use fsfs_damage::RevOffset;
 use fsfs_noderev::{Contents, NodeRev, Rep};
+use fsfs_revision::RevOffset;
 
 /// A node-revision that a reading came to, at the place that its id says. What it names stands before it.
 #[derive(Debug, Drop)]

@@ -1,10 +1,10 @@
 //! Where node-revisions stand.
 ghost use Rattle.std.specs.Prelude.{◌≡◌};
-ghost use Rattle.fsfs_shows.specs.Reading.{offset_of};
+ghost use Rattle.fsfs_revision.specs.ShowsReading.{offset_of};
 
-use fsfs_damage::RevOffset;
-use fsfs_fields::RevNum;
+use fsfs_base::RevNum;
 use fsfs_noderev::Place;
+use fsfs_revision::RevOffset;
 
 /// Where a node-revision stands by the place of its id.
 pub(crate) fn offset_of(place: Place) -> RevOffset

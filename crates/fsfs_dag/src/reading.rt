@@ -1,11 +1,11 @@
 //! The node-revision at a place of a revision, and a revision's root.
 ghost use Rattle.std.specs.Prelude.{◌≡◌, ◌≤◌, ◌<◌, ◌^◌, ◌+◌, ℕ, true, length, take, IfOk};
-ghost use Rattle.fsfs_book.specs.Told.{RevisionBytes, Knows, Keeps, IsTold};
+ghost use Rattle.fsfs_revision.specs.Told.{RevisionBytes, Knows, Keeps, IsTold};
 ghost use Rattle.fsfs_revision.specs.Nodes.{is_ordered};
-ghost use Rattle.fsfs_damage.specs.Readings.{Answers};
+ghost use Rattle.fsfs_revision.specs.Readings.{Answers};
 ghost use Rattle.fsfs_noderev.specs.Writing.{HasText};
-ghost use Rattle.fsfs_shows.specs.Reading.{NodeAt, RootOf, OfEntry, OfId, HasId, HasKind, offset_of};
-ghost use Rattle.fsfs_damage.specs.Causes.{HasCause, IsQuiet};
+ghost use Rattle.fsfs_revision.specs.ShowsReading.{NodeAt, RootOf, OfEntry, OfId, HasId, HasKind, offset_of};
+ghost use Rattle.fsfs_revision.specs.Causes.{HasCause, IsQuiet};
 ghost use Rattle.fsfs_dag.specs.Told.{LengthOf, WindowAt, EndOf, is_decided};
 ghost use Rattle.fsfs_dag.specs.Views.{entry_value};
 
@@ -13,11 +13,12 @@ use crate::directory::DirEntry;
 use crate::node::PlacedNode;
 use crate::places::offset_of;
 use crate::same::same_id;
-use fsfs_book::{Book, BookFault};
-use fsfs_damage::{DamageKind, ReadError, RevOffset, Wrong};
-use fsfs_fields::RevNum;
+use fsfs_base::RevNum;
 use fsfs_noderev::{MAX_NODE_REV, NodeId, NodeRev};
-use fsfs_revision::{TRAILER_LIMIT, as_root, read_node_at, read_tail};
+use fsfs_revision::{
+    Book, BookFault, DamageKind, ReadError, RevOffset, TRAILER_LIMIT, Wrong, as_root, read_node_at,
+    read_tail,
+};
 use std::alloc::Global;
 
 // What is read first of a node-revision. But for its paths it has some hundreds of bytes, so that few are longer than this;
@@ -50,7 +51,7 @@ pub(crate) fn window<B: Book>(
     ensures kept { Keeps (B.told book.old) (B.told book.new) }
     ensures cause { HasCause (B.faults book.old) (B.faults book.new) result }
 {
-    fsfs_rep::window(book, at.rev, at.offset, buffer)
+    fsfs_revision::window(book, at.rev, at.offset, buffer)
 }
 
 // Where the trailer says that a revision's root stands.

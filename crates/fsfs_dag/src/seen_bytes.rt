@@ -2,11 +2,11 @@
 //!
 //! The nodes of a directory are mostly written in one revision, one behind the other and before the directory itself.
 ghost use Rattle.std.specs.Prelude.{◌≡◌, ◌==◌, ◌&&◌, ◌||◌, ◌-◌, nat_le, nat_lt, ℕ, true, length, take, Ok, IfOk, IfSome};
-ghost use Rattle.fsfs_book.specs.Told.{RevisionBytes, Knows, Keeps, IsTold};
+ghost use Rattle.fsfs_revision.specs.Told.{RevisionBytes, Knows, Keeps, IsTold};
 ghost use Rattle.fsfs_revision.specs.Nodes.{is_ordered};
-ghost use Rattle.fsfs_damage.specs.Readings.{Answers};
-ghost use Rattle.fsfs_damage.specs.Causes.{HasCause, IsQuiet};
-ghost use Rattle.fsfs_shows.specs.Reading.{NodeAt, OfEntry, offset_of};
+ghost use Rattle.fsfs_revision.specs.Readings.{Answers};
+ghost use Rattle.fsfs_revision.specs.Causes.{HasCause, IsQuiet};
+ghost use Rattle.fsfs_revision.specs.ShowsReading.{NodeAt, OfEntry, offset_of};
 ghost use Rattle.fsfs_dag.specs.Told.{WindowAt, is_decided};
 ghost use Rattle.fsfs_dag.specs.Seen.{IsKept, IsSeen};
 ghost use Rattle.fsfs_dag.specs.Views.{entry_value};
@@ -15,11 +15,9 @@ use crate::directory::DirEntry;
 use crate::node::PlacedNode;
 use crate::places::offset_of;
 use crate::reading::{check_id, check_kind, is_decided, node_in_whole, node_read, window};
-use fsfs_book::Book;
-use fsfs_damage::{DamageKind, ReadError, RevOffset};
-use fsfs_fields::RevNum;
+use fsfs_base::RevNum;
 use fsfs_noderev::NodeRev;
-use fsfs_revision::read_node_at;
+use fsfs_revision::{Book, DamageKind, ReadError, RevOffset, read_node_at};
 use std::alloc::Global;
 
 // How many bytes are kept: some twenty node-revisions with short texts between them.

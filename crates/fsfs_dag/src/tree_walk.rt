@@ -4,11 +4,11 @@
 //! takes no more of the machine's own stack.
 ghost use Rattle.std.specs.Prelude.{◌≡◌, ◌≤◌, ◌+◌, ◌++◌, ◌<◌, ◌∷◌, ℕ, [], OnOk, IfOk, IfErr, MatchOption};
 ghost use Rattle.fsfs_base.specs.declared.kind.Kind.TheVariants.{Dir};
-ghost use Rattle.fsfs_book.specs.Told.{RevisionBytes, Knows, Keeps};
-ghost use Rattle.fsfs_damage.specs.Causes.{HasCause};
-ghost use Rattle.fsfs_damage.specs.Readings.{Answers};
-ghost use Rattle.fsfs_damage.specs.declared.wrong.ReadError.TheVariants.{OutOfMemory};
-ghost use Rattle.fsfs_shows.specs.Reading.{OfEntry, offset_of};
+ghost use Rattle.fsfs_revision.specs.Told.{RevisionBytes, Knows, Keeps};
+ghost use Rattle.fsfs_revision.specs.Causes.{HasCause};
+ghost use Rattle.fsfs_revision.specs.Readings.{Answers};
+ghost use Rattle.fsfs_revision.specs.declared.wrong.ReadError.TheVariants.{OutOfMemory};
+ghost use Rattle.fsfs_revision.specs.ShowsReading.{OfEntry, offset_of};
 ghost use Rattle.fsfs_dag.specs.Seen.{IsSeen};
 ghost use Rattle.fsfs_dag.specs.TreeWalks.{pending_value, in_order, left, at_level, AreWithin, Enters, weight, total};
 ghost use Rattle.fsfs_dag.specs.Views.{entry_value, entry_values, home_of};
@@ -16,8 +16,7 @@ ghost use Rattle.fsfs_dag.specs.Views.{entry_value, entry_values, home_of};
 use crate::directory::{DirEntry, entries};
 use crate::node::PlacedNode;
 use crate::seen_bytes::{SeenBytes, child_seen};
-use fsfs_book::Book;
-use fsfs_damage::ReadError;
+use fsfs_revision::{Book, ReadError};
 use std::alloc::Global;
 
 /// An entry that is left, and how many levels it stands below where the walk began.

@@ -1,19 +1,17 @@
 //! The node at a path.
 ghost use Rattle.std.specs.Prelude.{◌≡◌, ◌≤◌, IfOk, IfSome, option_map};
 ghost use Rattle.fsfs_base.specs.declared.kind.Kind.TheVariants.{Dir};
-ghost use Rattle.fsfs_book.specs.Told.{RevisionBytes, Knows, Keeps};
-ghost use Rattle.fsfs_damage.specs.Readings.{Answers};
-ghost use Rattle.fsfs_shows.specs.Reading.{ChildOf, MetAt};
-ghost use Rattle.fsfs_damage.specs.Causes.{HasCause};
+ghost use Rattle.fsfs_revision.specs.Told.{RevisionBytes, Knows, Keeps};
+ghost use Rattle.fsfs_revision.specs.Readings.{Answers};
+ghost use Rattle.fsfs_revision.specs.ShowsReading.{ChildOf, MetAt};
+ghost use Rattle.fsfs_revision.specs.Causes.{HasCause};
 ghost use Rattle.fsfs_dag.specs.Views.{home_of, met_value};
 
 use crate::directory::{entries, entry_named};
 use crate::node::PlacedNode;
 use crate::reading::{child_of, root_of};
-use fsfs_base::{FsPath, Kind};
-use fsfs_book::Book;
-use fsfs_damage::ReadError;
-use fsfs_fields::RevNum;
+use fsfs_base::{FsPath, Kind, RevNum};
+use fsfs_revision::{Book, ReadError};
 use std::alloc::Global;
 
 /// What stands at a path.

@@ -1,16 +1,15 @@
 //! A file's text, written into a sink.
 ghost use Rattle.std.specs.Prelude.{◌≡◌};
 ghost use Rattle.fsfs_base.specs.declared.kind.Kind.TheVariants.{File};
-ghost use Rattle.fsfs_book.specs.Told.{RevisionBytes, Knows, Keeps};
-ghost use Rattle.fsfs_shows.specs.Reading.{TextOf};
+ghost use Rattle.fsfs_revision.specs.Told.{RevisionBytes, Knows, Keeps};
+ghost use Rattle.fsfs_revision.specs.ShowsReading.{TextOf};
 ghost use Rattle.fsfs_dag.specs.Views.{home_of};
 ghost use Rattle.fsfs_dag.specs.Writing.{Writes, HasCauses};
 
 use crate::contents::text_of;
 use crate::node::PlacedNode;
-use fsfs_book::Book;
-use fsfs_damage::ReadError;
-use fsfs_streams::{Sink, print};
+use fsfs_base::{Sink, print};
+use fsfs_revision::{Book, ReadError};
 use std::alloc::Global;
 use thiserror::Error;
 

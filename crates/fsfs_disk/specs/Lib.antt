@@ -3,3 +3,13 @@ pub mod Benches
 pub mod Trace
 pub mod Crash
 pub mod Short
+pub mod Last
+pub mod Published
+pub mod Seen
+pub mod Codes
+pub mod FileFaults
+pub mod DiskParts
+pub mod FirstBytes
+pub mod Txns
+pub mod Entries
+pub mod Removals

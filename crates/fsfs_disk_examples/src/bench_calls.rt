@@ -3,7 +3,7 @@ use crate::calls::{say_bytes, say_done, say_length, say_there};
 use crate::line::BenchCall;
 use anyhow::Result;
 use fsfs_disk::Bench;
-use fsfs_escapes::{Transcript, bytes_of};
+use fsfs_memory::{Transcript, bytes_of};
 use std::alloc::Global;
 
 /// Makes the call, and writes what it answers.

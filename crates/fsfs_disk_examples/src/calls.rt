@@ -6,8 +6,8 @@ use crate::line::{Call, Change, Look, Part, Published};
 use anyhow::{Result, bail};
 use fsfs_base::{Failed, Name};
 use fsfs_disk::{Disk, Label};
-use fsfs_escapes::{Transcript, bytes_of};
-use fsfs_publish::{PublishFault, publish};
+use fsfs_memory::{Transcript, bytes_of};
+use fsfs_disk::{PublishFault, publish};
 use std::alloc::Global;
 
 pub fn say_done(out: &mut Transcript, answer: Result<(), Failed>) {

@@ -6,7 +6,7 @@ use crate::line::Call;
 use crate::words::Words;
 use anyhow::{Result, bail};
 use fsfs_disk::{Disk, Host};
-use fsfs_escapes::{Transcript, bytes_of};
+use fsfs_memory::{Transcript, bytes_of};
 use fsfs_hostcalls::HostFileSystem;
 use fsfs_mount::FolderHost;
 use std::alloc::Global;

@@ -1,7 +1,7 @@
 // A whole text of examples.
 use crate::{edge, folders, memory};
 use anyhow::{Result, bail};
-use fsfs_escapes::Transcript;
+use fsfs_memory::Transcript;
 
 // How many lines stand before the first crash.
 fn count_calls(lines: &[&str]) -> usize {

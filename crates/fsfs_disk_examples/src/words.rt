@@ -2,7 +2,7 @@
 use anyhow::{Result, bail};
 use fsfs_base::Name;
 use fsfs_disk::Label;
-use fsfs_fields::read_txn_name;
+use fsfs_base::read_txn_name;
 
 /// What is left of a line, a word after another.
 #[derive(Clone, Copy)]

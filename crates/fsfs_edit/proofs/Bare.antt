@@ -6,21 +6,21 @@ use Rattle.fsfs_base.specs.Paths.{PathName, Path}
 use Rattle.fsfs_base.specs.declared.kind.Kind.{Kind}
 use Rattle.fsfs_base.specs.declared.kind.Kind.TheVariants.{File, Dir}
 use Rattle.fsfs_tree.specs.Nodes.{Node, TreeFunction}
-use Rattle.fsfs_flat.specs.Edits.{is_dir_node}
-use Rattle.fsfs_book.specs.Told.{RevisionBytes}
-use Rattle.fsfs_shows.specs.ByTree.{LacksAt, IsBlockedAt}
-use Rattle.fsfs_drafts.specs.Own.{Own, draft_tree}
-use Rattle.fsfs_drafts.specs.Drafts.{bare}
-use Rattle.fsfs_steps.specs.Mutable.{LeadsTo}
-use Rattle.fsfs_own.specs.Walks.{HasKind, IsFound}
+use Rattle.fsfs_model.specs.Edits.{is_dir_node}
+use Rattle.fsfs_revision.specs.Told.{RevisionBytes}
+use Rattle.fsfs_revision.specs.ByTree.{LacksAt, IsBlockedAt}
+use Rattle.fsfs_draft.specs.Own.{Own, draft_tree}
+use Rattle.fsfs_draft.specs.Drafts.{bare}
+use Rattle.fsfs_edit.specs.Mutable.{LeadsTo}
+use Rattle.fsfs_draft.specs.Walks.{HasKind, IsFound}
 use Rattle.fsfs_edit.specs.Ways.{IsNoDirectory, IsTarget, IsFoundIn}
-use Rattle.fsfs_own.specs.declared.error.EditError.{EditError}
-use Rattle.fsfs_own.specs.declared.walk.Found.{Found}
-use Rattle.fsfs_own.specs.declared.walk.Found.TheVariants as founds
+use Rattle.fsfs_draft.specs.declared.error.EditError.{EditError}
+use Rattle.fsfs_draft.specs.declared.walk.Found.{Found}
+use Rattle.fsfs_draft.specs.declared.walk.Found.TheVariants as founds
 use Rattle.fsfs_edit.specs.declared.way.Target.{Target}
 use Rattle.fsfs_edit.specs.declared.way.Target.TheVariants as targets
-use Rattle.fsfs_own.proofs.OwnEntries.{has_kind}
-use Rattle.fsfs_own.proofs.Walking.{HasNode, kind_node, dir_node}
+use Rattle.fsfs_draft.proofs.OwnEntries.{has_kind}
+use Rattle.fsfs_draft.proofs.Walking.{HasNode, kind_node, dir_node}
 
 pub bare_none : (a b : Option Node) → bare a ≡ bare b → a ≡ None → b ≡ None
 bare_none None None e is = refl

@@ -3,17 +3,17 @@ use Rattle.std.proofs.Common.{◌≡◌, ◌≤◌, ◌<◌, ℕ, arith}
 use Rattle.std.specs.Prelude.{Option, Some, None, IsSomeAnd, Err}
 use Rattle.fsfs_base.specs.Paths.{Path}
 use Rattle.fsfs_tree.specs.Nodes.{Node, TreeFunction}
-use Rattle.fsfs_book.specs.Told.{RevisionBytes}
+use Rattle.fsfs_revision.specs.Told.{RevisionBytes}
 use Rattle.fsfs_noderev.specs.declared.node_rev.NodeRev.{NodeRev}
-use Rattle.fsfs_shows.specs.Reading.{MetAt}
-use Rattle.fsfs_shows.specs.Shown.{IsShown, Shows}
-use Rattle.fsfs_shows.proofs.ByTree.{by_tree}
-use Rattle.fsfs_damage.specs.Readings.{Answers}
-use Rattle.fsfs_damage.specs.declared.wrong.ReadError.{ReadError}
-use Rattle.fsfs_damage.specs.declared.wrong.ReadError.TheVariants as reads
+use Rattle.fsfs_revision.specs.ShowsReading.{MetAt}
+use Rattle.fsfs_revision.specs.Shown.{IsShown, Shows}
+use Rattle.fsfs_revision.proofs.ByTree.{by_tree}
+use Rattle.fsfs_revision.specs.Readings.{Answers}
+use Rattle.fsfs_revision.specs.declared.wrong.ReadError.{ReadError}
+use Rattle.fsfs_revision.specs.declared.wrong.ReadError.TheVariants as reads
 use Rattle.fsfs_dag.specs.Views.{met_value}
-use Rattle.fsfs_own.specs.Errors.{of_read, IsFailure}
-use Rattle.fsfs_own.specs.Walks.{HasKind}
+use Rattle.fsfs_draft.specs.Errors.{of_read, IsFailure}
+use Rattle.fsfs_draft.specs.Walks.{HasKind}
 
 pub not_above : (youngest rev top : ℕ) → youngest ≡ top → rev ≤ youngest → rev ≤ top
 not_above youngest rev top is e = omega (arith, is, e)

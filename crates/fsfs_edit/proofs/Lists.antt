@@ -1,17 +1,17 @@
 -- A changed list of properties, and failures to read it.
 use Rattle.std.specs.Prelude.{ℕ, List, Option, Vec, Err}
 use Rattle.std.specs.Global.{Global}
-use Rattle.fsfs_book.specs.Told.{RevisionBytes}
-use Rattle.fsfs_damage.specs.declared.wrong.Wrong.{Wrong}
-use Rattle.fsfs_damage.specs.declared.wrong.ReadError.{ReadError}
-use Rattle.fsfs_damage.specs.declared.wrong.ReadError.TheVariants as reads
-use Rattle.fsfs_damage.specs.Readings.{Answers}
-use Rattle.fsfs_shows.specs.Reading.{Pairs}
-use Rattle.fsfs_drafts.specs.Drafts.{Kept}
-use Rattle.fsfs_own.specs.Errors.{of_read, IsFailure}
-use Rattle.fsfs_own.specs.Properties.{OfKeptProps}
-use Rattle.fsfs_own.specs.declared.error.EditError.{EditError}
-use Rattle.fsfs_own.specs.declared.error.EditError.TheVariants as errors
+use Rattle.fsfs_revision.specs.Told.{RevisionBytes}
+use Rattle.fsfs_revision.specs.declared.wrong.Wrong.{Wrong}
+use Rattle.fsfs_revision.specs.declared.wrong.ReadError.{ReadError}
+use Rattle.fsfs_revision.specs.declared.wrong.ReadError.TheVariants as reads
+use Rattle.fsfs_revision.specs.Readings.{Answers}
+use Rattle.fsfs_revision.specs.ShowsReading.{Pairs}
+use Rattle.fsfs_draft.specs.Drafts.{Kept}
+use Rattle.fsfs_draft.specs.Errors.{of_read, IsFailure}
+use Rattle.fsfs_draft.specs.Properties.{OfKeptProps}
+use Rattle.fsfs_draft.specs.declared.error.EditError.{EditError}
+use Rattle.fsfs_draft.specs.declared.error.EditError.TheVariants as errors
 use Rattle.fsfs_edit.specs.Properties.{IsChangedList}
 
 pub list_fails : (look : RevisionBytes) (k : Kept) (name : List ℕ) (value : Option (Vec ℕ Global)) (e : ReadError) → Answers (λ (pairs : Pairs). pairs) (OfKeptProps look k) (Err e) → IsChangedList look k name value (Err (of_read e))

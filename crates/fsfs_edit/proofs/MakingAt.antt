@@ -3,14 +3,14 @@ use Rattle.std.proofs.Common.{◌≡◌, true, [], ◌∷◌, ◌++◌, refl, ap
 use Rattle.std.specs.Prelude.{Option, Some, None, is_some, not}
 use Rattle.fsfs_base.specs.Paths.{PathName, Path, is_above}
 use Rattle.fsfs_tree.specs.Nodes.{Node, TreeFunction}
-use Rattle.fsfs_flat.specs.Edits.{is_dir, is_dir_node}
+use Rattle.fsfs_model.specs.Edits.{is_dir, is_dir_node}
 use Rattle.fsfs_tree.specs.Trees.{IsTree}
 use Rattle.fsfs_base.specs.declared.kind.Kind.{Kind}
 use Rattle.fsfs_base.specs.declared.kind.Kind.TheVariants.{Dir}
 use Rattle.fsfs_base.proofs.PathLemmas.{covers-longer}
-use Rattle.fsfs_drafts.proofs.Moving.{longer_covers_not}
-use Rattle.fsfs_steps.specs.Mutable.{LeadsTo}
-use Rattle.fsfs_own.specs.Walks.{HasKind}
+use Rattle.fsfs_draft.proofs.Moving.{longer_covers_not}
+use Rattle.fsfs_edit.specs.Mutable.{LeadsTo}
+use Rattle.fsfs_draft.specs.Walks.{HasKind}
 use Rattle.std.proofs.lemmas.Bool.{and_from}
 
 above_more : (p : Path) (x : PathName) (rest : Path) → is_above p (p ++ x ∷ rest) ≡ true

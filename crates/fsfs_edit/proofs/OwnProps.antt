@@ -3,24 +3,24 @@ use Rattle.std.proofs.Common.{◌≡◌, ◌≤◌, ℕ, [], refl, sym, subst, �
 use Rattle.std.specs.Prelude.{Option, Some, None, Ok, Err}
 use Rattle.fsfs_base.specs.Paths.{Path}
 use Rattle.fsfs_tree.specs.Nodes.{TreeFunction}
-use Rattle.fsfs_fields.specs.declared.txn_name.TxnName.{TxnName}
-use Rattle.fsfs_book.specs.Told.{RevisionBytes}
+use Rattle.fsfs_base.specs.declared.txn_name.TxnName.{TxnName}
+use Rattle.fsfs_revision.specs.Told.{RevisionBytes}
 use Rattle.fsfs_noderev.specs.declared.node_id.NodeId.{NodeId}
 use Rattle.fsfs_noderev.specs.declared.rep.Contents.{Contents}
 use Rattle.fsfs_noderev.specs.declared.node_rev.CopySource.{CopySource}
 use Rattle.fsfs_noderev.specs.declared.node_rev.NodeRev.{NodeRev}
-use Rattle.fsfs_damage.specs.declared.wrong.Wrong.{Wrong}
-use Rattle.fsfs_damage.proofs.OneAnswer.{ok_same}
-use Rattle.fsfs_shows.specs.Reading.{Pairs, OfId, PairsAt, OfContents, PropsOf, StandsAt, offset_of}
-use Rattle.fsfs_shows.proofs.OneWalk.{props_one, of_id_one}
-use Rattle.fsfs_drafts.specs.Own.{OwnNode, Own, shared_under, shared_at}
-use Rattle.fsfs_drafts.specs.Rules.{Above, Keeps, ComesBy, Change, Copied, Made, stands_from, stands_under, above_at, stands_at, at_top}
-use Rattle.fsfs_drafts.specs.Drafts.{Folder, kept_of, AreDraftProps, IsDraft, ShowTrees}
-use Rattle.fsfs_drafts.specs.Agreeing.{Agrees}
-use Rattle.fsfs_drafts.specs.Sides.{HasFiles}
-use Rattle.fsfs_drafts.proofs.Here.{rule_here, agrees_below}
-use Rattle.fsfs_own.specs.Entries.{IsWithin}
-use Rattle.fsfs_own.specs.Properties.{OfSetProps, OfKeptProps}
+use Rattle.fsfs_revision.specs.declared.wrong.Wrong.{Wrong}
+use Rattle.fsfs_revision.proofs.OneAnswer.{ok_same}
+use Rattle.fsfs_revision.specs.ShowsReading.{Pairs, OfId, PairsAt, OfContents, PropsOf, StandsAt, offset_of}
+use Rattle.fsfs_revision.proofs.OneWalk.{props_one, of_id_one}
+use Rattle.fsfs_draft.specs.Own.{OwnNode, Own, shared_under, shared_at}
+use Rattle.fsfs_draft.specs.Rules.{Above, Keeps, ComesBy, Change, Copied, Made, stands_from, stands_under, above_at, stands_at, at_top}
+use Rattle.fsfs_draft.specs.Drafts.{Folder, kept_of, AreDraftProps, IsDraft, ShowTrees}
+use Rattle.fsfs_draft.specs.Agreeing.{Agrees}
+use Rattle.fsfs_draft.specs.Sides.{HasFiles}
+use Rattle.fsfs_draft.proofs.Here.{rule_here, agrees_below}
+use Rattle.fsfs_draft.specs.Entries.{IsWithin}
+use Rattle.fsfs_draft.specs.Properties.{OfSetProps, OfKeptProps}
 
 -- what an own node-revision goes on from stands below it, and has the properties that it does not set
 keeps_from : (look : RevisionBytes) (top : ℕ) (v : OwnNode) (above : Above) (S : Path → NodeRev → Type 0) (id : NodeId) → ComesBy look top S above v → v.node.predecessor ≡ Some id → (u : NodeRev) × stands_under look (Some v) S [] u × (u.id ≡ id) × Keeps v u

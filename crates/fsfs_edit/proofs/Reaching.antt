@@ -6,25 +6,25 @@ use Rattle.fsfs_base.specs.declared.kind.Kind.{Kind}
 use Rattle.fsfs_base.specs.declared.kind.Kind.TheVariants.{Dir}
 use Rattle.fsfs_tree.specs.Nodes.{Node, TreeFunction}
 use Rattle.fsfs_tree.specs.Trees.{IsTree}
-use Rattle.fsfs_flat.specs.declared.mark.Mark.{Mark}
-use Rattle.fsfs_fields.specs.declared.txn_name.TxnName.{TxnName}
-use Rattle.fsfs_book.specs.Told.{RevisionBytes}
+use Rattle.fsfs_model.specs.declared.mark.Mark.{Mark}
+use Rattle.fsfs_base.specs.declared.txn_name.TxnName.{TxnName}
+use Rattle.fsfs_revision.specs.Told.{RevisionBytes}
 use Rattle.fsfs_noderev.specs.Ids.{place_value}
 use Rattle.fsfs_noderev.specs.declared.node_id.NodeId.{NodeId}
 use Rattle.fsfs_noderev.proofs.Same.{id_same}
-use Rattle.fsfs_drafts.specs.Own.{OwnNode, Own, draft_tree}
-use Rattle.fsfs_drafts.specs.Drafts.{Folder, IsDraft, ShowTrees}
-use Rattle.fsfs_drafts.proofs.OwnShown.{own_shown}
-use Rattle.fsfs_drafts.specs.Edits.{IsDraftAfter}
-use Rattle.fsfs_drafts.proofs.EditLaw.{edits_keep_drafts}
-use Rattle.fsfs_steps.specs.Mutable.{LeadsTo, LeavesAbove}
-use Rattle.fsfs_own.specs.Walks.{IsRootId, HasKind, IsFound}
+use Rattle.fsfs_draft.specs.Own.{OwnNode, Own, draft_tree}
+use Rattle.fsfs_draft.specs.Drafts.{Folder, IsDraft, ShowTrees}
+use Rattle.fsfs_draft.proofs.OwnShown.{own_shown}
+use Rattle.fsfs_draft.specs.Edits.{IsDraftAfter}
+use Rattle.fsfs_draft.proofs.EditLaw.{edits_keep_drafts}
+use Rattle.fsfs_edit.specs.Mutable.{LeadsTo, LeavesAbove}
+use Rattle.fsfs_draft.specs.Walks.{IsRootId, HasKind, IsFound}
 use Rattle.fsfs_edit.specs.Ways.{IsTarget, IsFoundIn, LeavesOpened}
-use Rattle.fsfs_own.specs.declared.error.EditError.{EditError}
-use Rattle.fsfs_own.specs.declared.walk.Found.{Found}
+use Rattle.fsfs_draft.specs.declared.error.EditError.{EditError}
+use Rattle.fsfs_draft.specs.declared.walk.Found.{Found}
 use Rattle.fsfs_edit.specs.declared.way.Target.{Target}
-use Rattle.fsfs_own.proofs.OwnEntries.{has_kind}
-use Rattle.fsfs_own.proofs.Walking.{own_kind}
+use Rattle.fsfs_draft.proofs.OwnEntries.{has_kind}
+use Rattle.fsfs_draft.proofs.Walking.{own_kind}
 use Rattle.fsfs_edit.proofs.MakingAt.{kind_some, leads_to}
 use Rattle.fsfs_edit.proofs.Bare.{bare_kind, target_over, leads_over, found_over}
 

@@ -4,22 +4,22 @@ use Rattle.std.specs.Prelude.{Option, Some, None, is_some, nat_lt, Ok, Err}
 use Rattle.fsfs_base.specs.Paths.{PathName, Path}
 use Rattle.fsfs_base.specs.declared.kind.Kind.TheVariants.{Dir}
 use Rattle.fsfs_tree.specs.Nodes.{Node, TreeFunction}
-use Rattle.fsfs_flat.specs.declared.mark.Mark.{Mark}
-use Rattle.fsfs_fields.specs.declared.txn_name.TxnName.{TxnName}
-use Rattle.fsfs_book.specs.Told.{RevisionBytes}
+use Rattle.fsfs_model.specs.declared.mark.Mark.{Mark}
+use Rattle.fsfs_base.specs.declared.txn_name.TxnName.{TxnName}
+use Rattle.fsfs_revision.specs.Told.{RevisionBytes}
 use Rattle.fsfs_noderev.specs.declared.node_id.NodeId.{NodeId}
-use Rattle.fsfs_damage.specs.declared.wrong.Wrong.{Wrong}
-use Rattle.fsfs_shows.specs.Reading.{DirEntry, named}
-use Rattle.fsfs_drafts.specs.Own.{Own, draft_tree}
-use Rattle.fsfs_drafts.specs.Drafts.{Kept, Folder, kept_of, bare, ShowTrees}
-use Rattle.fsfs_drafts.specs.Steps.{kept_at, EntriesHere}
-use Rattle.fsfs_own.specs.Entries.{OfKept, IsWithin}
-use Rattle.fsfs_own.specs.Errors.{IsFailure}
-use Rattle.fsfs_own.specs.Names.{HasNames, HasEntries, IsFull, HasSpace, IsRoomOf}
-use Rattle.fsfs_own.specs.declared.error.EditError.{EditError}
-use Rattle.fsfs_own.specs.declared.error.EditError.TheVariants as errors
-use Rattle.fsfs_own.proofs.OwnEntries.{pred_within, entries_here, entries_never, lacks_node, none_named}
-use Rattle.fsfs_own.proofs.Counting.{held_alike}
+use Rattle.fsfs_revision.specs.declared.wrong.Wrong.{Wrong}
+use Rattle.fsfs_revision.specs.ShowsReading.{DirEntry, named}
+use Rattle.fsfs_draft.specs.Own.{Own, draft_tree}
+use Rattle.fsfs_draft.specs.Drafts.{Kept, Folder, kept_of, bare, ShowTrees}
+use Rattle.fsfs_draft.specs.Steps.{kept_at, EntriesHere}
+use Rattle.fsfs_draft.specs.Entries.{OfKept, IsWithin}
+use Rattle.fsfs_draft.specs.Errors.{IsFailure}
+use Rattle.fsfs_draft.specs.Names.{HasNames, HasEntries, IsFull, HasSpace, IsRoomOf}
+use Rattle.fsfs_draft.specs.declared.error.EditError.{EditError}
+use Rattle.fsfs_draft.specs.declared.error.EditError.TheVariants as errors
+use Rattle.fsfs_draft.proofs.OwnEntries.{pred_within, entries_here, entries_never, lacks_node, none_named}
+use Rattle.fsfs_draft.proofs.Counting.{held_alike}
 use Rattle.fsfs_edit.specs.Ways.{IsOpenedAt}
 
 bare_is : (a b : Option Node) → bare a ≡ bare b → is_some a ≡ is_some b

@@ -7,33 +7,33 @@ use Rattle.fsfs_base.specs.Paths.{Path}
 use Rattle.fsfs_base.specs.declared.kind.Kind.{Kind}
 use Rattle.fsfs_base.specs.declared.kind.Kind.TheVariants.{File, Dir}
 use Rattle.fsfs_tree.specs.Nodes.{Node, TreeFunction, Content, Bytes}
-use Rattle.fsfs_flat.specs.Edits.{is_dir, is_file_node, kind_of_node, changed_props, bytes_of, mark_of}
-use Rattle.fsfs_flat.specs.declared.edit.Edit.TheVariants.{PutText, SetProp}
-use Rattle.fsfs_flat.specs.declared.mark.Mark.{Mark}
-use Rattle.fsfs_flat.specs.declared.mark.What.TheVariants as whats
-use Rattle.fsfs_fields.specs.declared.txn_name.TxnName.{TxnName}
-use Rattle.fsfs_book.specs.Told.{RevisionBytes}
+use Rattle.fsfs_model.specs.Edits.{is_dir, is_file_node, kind_of_node, changed_props, bytes_of, mark_of}
+use Rattle.fsfs_model.specs.declared.edit.Edit.TheVariants.{PutText, SetProp}
+use Rattle.fsfs_model.specs.declared.mark.Mark.{Mark}
+use Rattle.fsfs_model.specs.declared.mark.What.TheVariants as whats
+use Rattle.fsfs_base.specs.declared.txn_name.TxnName.{TxnName}
+use Rattle.fsfs_revision.specs.Told.{RevisionBytes}
 use Rattle.fsfs_noderev.specs.Ids.{PartValue, part_value}
 use Rattle.fsfs_noderev.specs.declared.node_id.NodeId.{NodeId}
 use Rattle.fsfs_noderev.specs.declared.rep.Rep.{Rep}
 use Rattle.fsfs_noderev.specs.declared.rep.Contents.{Contents}
 use Rattle.fsfs_noderev.specs.declared.rep.Contents.TheVariants as contents
 use Rattle.fsfs_noderev.specs.declared.node_rev.NodeRev.{NodeRev}
-use Rattle.fsfs_changes.specs.declared.item.ChangeItem.{ChangeItem}
-use Rattle.fsfs_shows.specs.Reading.{Pairs, PairsAt, OfContents}
-use Rattle.fsfs_drafts.specs.Own.{OwnNode}
-use Rattle.fsfs_drafts.specs.Drafts.{Kept, Folder, IsItemOf, pair_of, kept_of, IsLasting, IsFileText, Lasting, Put, IsDraftText, AreDraftProps, HasContent, IsBelow, ShowTrees}
-use Rattle.fsfs_drafts.specs.Steps.{same_value, with_kept, kept_at}
-use Rattle.fsfs_drafts.specs.Sides.{HasFiles}
-use Rattle.fsfs_drafts.specs.Setting.{IsSet, IsSetting, Setting}
-use Rattle.fsfs_drafts.specs.Edits.{IsEdited, IsMarked, IsDraftAfter}
-use Rattle.fsfs_drafts.proofs.Files.{same_value-is, put_files, other_files}
-use Rattle.fsfs_drafts.proofs.Changing.{same_text}
-use Rattle.fsfs_drafts.proofs.EditLaw.{edits_keep_drafts}
-use Rattle.fsfs_own.specs.Items.{with_item}
-use Rattle.fsfs_own.specs.Properties.{OfKeptProps}
-use Rattle.fsfs_own.specs.Views.{text_kept, props_kept, text_put, props_put}
-use Rattle.fsfs_own.specs.Walks.{HasKind}
+use Rattle.fsfs_noderev.specs.declared.item.ChangeItem.{ChangeItem}
+use Rattle.fsfs_revision.specs.ShowsReading.{Pairs, PairsAt, OfContents}
+use Rattle.fsfs_draft.specs.Own.{OwnNode}
+use Rattle.fsfs_draft.specs.Drafts.{Kept, Folder, IsItemOf, pair_of, kept_of, IsLasting, IsFileText, Lasting, Put, IsDraftText, AreDraftProps, HasContent, IsBelow, ShowTrees}
+use Rattle.fsfs_draft.specs.Steps.{same_value, with_kept, kept_at}
+use Rattle.fsfs_draft.specs.Sides.{HasFiles}
+use Rattle.fsfs_draft.specs.Setting.{IsSet, IsSetting, Setting}
+use Rattle.fsfs_draft.specs.Edits.{IsEdited, IsMarked, IsDraftAfter}
+use Rattle.fsfs_draft.proofs.Files.{same_value-is, put_files, other_files}
+use Rattle.fsfs_draft.proofs.Changing.{same_text}
+use Rattle.fsfs_draft.proofs.EditLaw.{edits_keep_drafts}
+use Rattle.fsfs_draft.specs.Items.{with_item}
+use Rattle.fsfs_draft.specs.Properties.{OfKeptProps}
+use Rattle.fsfs_draft.specs.Views.{text_kept, props_kept, text_put, props_put}
+use Rattle.fsfs_draft.specs.Walks.{HasKind}
 use Rattle.fsfs_edit.specs.Items.{IsModifyOf, ModifiesItem}
 use Rattle.fsfs_edit.specs.Texts.{IsProtoText, IsTextSet}
 use Rattle.fsfs_edit.specs.Properties.{IsPropertyIn}

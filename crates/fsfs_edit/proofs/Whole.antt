@@ -6,37 +6,37 @@ use Rattle.fsfs_base.specs.Paths.{PathName, Path, is_root}
 use Rattle.fsfs_base.specs.declared.kind.Kind.{Kind}
 use Rattle.fsfs_base.specs.declared.kind.Kind.TheVariants.{File, Dir}
 use Rattle.fsfs_tree.specs.Nodes.{Node, TreeFunction}
-use Rattle.fsfs_flat.specs.Edits.{is_dir_node, kind_of_node, parent, can_make, mark_of}
-use Rattle.fsfs_flat.specs.declared.edit.Edit.TheVariants.{MakeDir, MakeFile, Delete, Copy}
-use Rattle.fsfs_flat.specs.declared.mark.Mark.{Mark}
-use Rattle.fsfs_fields.specs.declared.txn_name.TxnName.{TxnName}
-use Rattle.fsfs_book.specs.Told.{RevisionBytes}
+use Rattle.fsfs_model.specs.Edits.{is_dir_node, kind_of_node, parent, can_make, mark_of}
+use Rattle.fsfs_model.specs.declared.edit.Edit.TheVariants.{MakeDir, MakeFile, Delete, Copy}
+use Rattle.fsfs_model.specs.declared.mark.Mark.{Mark}
+use Rattle.fsfs_base.specs.declared.txn_name.TxnName.{TxnName}
+use Rattle.fsfs_revision.specs.Told.{RevisionBytes}
 use Rattle.fsfs_noderev.specs.declared.node_id.NodeId.{NodeId}
 use Rattle.fsfs_noderev.specs.declared.node_rev.CopySource.{CopySource}
-use Rattle.fsfs_changes.specs.declared.item.ChangeItem.{ChangeItem}
-use Rattle.fsfs_shows.proofs.Walks.{take_front}
-use Rattle.fsfs_drafts.specs.Drafts.{Kept, Folder, pair_of}
-use Rattle.fsfs_drafts.specs.Edits.{IsEdited, IsDraftAfter}
-use Rattle.fsfs_drafts.specs.Steps.{kept_at}
-use Rattle.fsfs_own.specs.Errors.{IfMemory, IsWant, IsFailure, IfStays, of_own}
-use Rattle.fsfs_own.specs.Items.{with_item, IsFileAt}
+use Rattle.fsfs_noderev.specs.declared.item.ChangeItem.{ChangeItem}
+use Rattle.fsfs_revision.proofs.Walks.{take_front}
+use Rattle.fsfs_draft.specs.Drafts.{Kept, Folder, pair_of}
+use Rattle.fsfs_draft.specs.Edits.{IsEdited, IsDraftAfter}
+use Rattle.fsfs_draft.specs.Steps.{kept_at}
+use Rattle.fsfs_draft.specs.Errors.{IfMemory, IsWant, IsFailure, IfStays, of_own}
+use Rattle.fsfs_draft.specs.Items.{with_item, IsFileAt}
 use Rattle.fsfs_edit.specs.Items.{IsAddOf, IsDeleteOf, AddsItem}
-use Rattle.fsfs_steps.specs.Made.{Makes}
-use Rattle.fsfs_steps.specs.Copied.{Copies}
-use Rattle.fsfs_steps.specs.Taken.{Takes}
-use Rattle.fsfs_own.specs.Walks.{IsAt, HasKind}
+use Rattle.fsfs_edit.specs.Made.{Makes}
+use Rattle.fsfs_edit.specs.Copied.{Copies}
+use Rattle.fsfs_edit.specs.Taken.{Takes}
+use Rattle.fsfs_draft.specs.Walks.{IsAt, HasKind}
 use Rattle.fsfs_edit.specs.Ways.{HasRoom, IsOpenedAt}
 use Rattle.fsfs_edit.specs.Making.{IsMadeIn}
 use Rattle.fsfs_edit.specs.Copying.{IsCopiedTo}
 use Rattle.fsfs_edit.specs.Deleting.{before_kept, IsDeletedId, IsGoneId, OfOwn, OfLasting, IsGoneFrom}
-use Rattle.fsfs_own.specs.declared.error.EditError.{EditError}
-use Rattle.fsfs_own.specs.declared.error.EditError.TheVariants as errors
-use Rattle.fsfs_own.specs.declared.own.OwnError.{OwnError}
-use Rattle.fsfs_own.specs.declared.own.OwnError.TheVariants as owns
-use Rattle.fsfs_own.specs.declared.walk.Step.{Step}
-use Rattle.fsfs_own.specs.declared.walk.Step.TheVariants as steps
+use Rattle.fsfs_draft.specs.declared.error.EditError.{EditError}
+use Rattle.fsfs_draft.specs.declared.error.EditError.TheVariants as errors
+use Rattle.fsfs_draft.specs.declared.own.OwnError.{OwnError}
+use Rattle.fsfs_draft.specs.declared.own.OwnError.TheVariants as owns
+use Rattle.fsfs_draft.specs.declared.walk.Step.{Step}
+use Rattle.fsfs_draft.specs.declared.walk.Step.TheVariants as steps
 use Rattle.fsfs_edit.proofs.MakingAt.{kind_some}
-use Rattle.fsfs_own.proofs.Walking.{dir_node, length_push}
+use Rattle.fsfs_draft.proofs.Walking.{dir_node, length_push}
 
 -- ---- failures
 

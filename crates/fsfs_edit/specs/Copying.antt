@@ -4,24 +4,24 @@ use Rattle.fsfs_base.specs.Paths.{PathName, Path}
 use Rattle.fsfs_base.specs.declared.kind.Kind.TheVariants.{Dir}
 use Rattle.fsfs_tree.specs.Nodes.{TreeFunction}
 use Rattle.fsfs_tree.specs.Trees.{IsTree}
-use Rattle.fsfs_flat.specs.Edits.{kind_of_node}
-use Rattle.fsfs_flat.specs.declared.edit.Edit.TheVariants.{Copy}
-use Rattle.fsfs_flat.specs.declared.mark.Mark.{Mark}
-use Rattle.fsfs_fields.specs.declared.txn_name.TxnName.{TxnName}
-use Rattle.fsfs_book.specs.Told.{Told, RevisionBytes, Knows}
+use Rattle.fsfs_model.specs.Edits.{kind_of_node}
+use Rattle.fsfs_model.specs.declared.edit.Edit.TheVariants.{Copy}
+use Rattle.fsfs_model.specs.declared.mark.Mark.{Mark}
+use Rattle.fsfs_base.specs.declared.txn_name.TxnName.{TxnName}
+use Rattle.fsfs_revision.specs.Told.{Told, RevisionBytes, Knows}
 use Rattle.fsfs_noderev.specs.declared.node_rev.CopySource.{CopySource}
 use Rattle.fsfs_noderev.specs.declared.node_rev.NodeRev.{NodeRev}
-use Rattle.fsfs_shows.specs.Reading.{StandsAt}
-use Rattle.fsfs_shows.specs.ByTree.{LacksAt, IsBlockedAt}
-use Rattle.fsfs_drafts.specs.Drafts.{Folder, ShowTrees}
-use Rattle.fsfs_drafts.specs.Edits.{IsDraftAfter}
-use Rattle.fsfs_own.specs.Errors.{IsFailure, IfStays}
+use Rattle.fsfs_revision.specs.ShowsReading.{StandsAt}
+use Rattle.fsfs_revision.specs.ByTree.{LacksAt, IsBlockedAt}
+use Rattle.fsfs_draft.specs.Drafts.{Folder, ShowTrees}
+use Rattle.fsfs_draft.specs.Edits.{IsDraftAfter}
+use Rattle.fsfs_draft.specs.Errors.{IsFailure, IfStays}
 use Rattle.fsfs_edit.specs.Items.{AddsItem}
-use Rattle.fsfs_own.specs.Names.{IsFull, HasSpace}
-use Rattle.fsfs_own.specs.Walks.{HasKind}
+use Rattle.fsfs_draft.specs.Names.{IsFull, HasSpace}
+use Rattle.fsfs_draft.specs.Walks.{HasKind}
 use Rattle.fsfs_edit.specs.Ways.{IsNoDirectory, HasRoom}
 use Rattle.fsfs_edit.specs.Meeting.{IsDone}
-use Rattle.fsfs_own.specs.declared.error.EditError.{EditError}
+use Rattle.fsfs_draft.specs.declared.error.EditError.{EditError}
 use Rattle.fsfs_edit.specs.declared.copy.Copied.{Copied}
 use Rattle.fsfs_edit.specs.declared.copy.Copied.TheVariants as copies
 use Rattle.fsfs_edit.specs.declared.copy.Source.{Source}

@@ -4,30 +4,30 @@ use Rattle.fsfs_base.specs.Paths.{PathName, Path}
 use Rattle.fsfs_base.specs.declared.kind.Kind.TheVariants.{Dir}
 use Rattle.fsfs_tree.specs.Nodes.{TreeFunction}
 use Rattle.fsfs_tree.specs.Trees.{IsTree}
-use Rattle.fsfs_flat.specs.Edits.{kind_of_node}
-use Rattle.fsfs_flat.specs.declared.edit.Edit.TheVariants.{Delete}
-use Rattle.fsfs_flat.specs.declared.mark.Mark.{Mark}
-use Rattle.fsfs_fields.specs.declared.txn_name.TxnName.{TxnName}
-use Rattle.fsfs_book.specs.Told.{Told, RevisionBytes, Knows}
+use Rattle.fsfs_model.specs.Edits.{kind_of_node}
+use Rattle.fsfs_model.specs.declared.edit.Edit.TheVariants.{Delete}
+use Rattle.fsfs_model.specs.declared.mark.Mark.{Mark}
+use Rattle.fsfs_base.specs.declared.txn_name.TxnName.{TxnName}
+use Rattle.fsfs_revision.specs.Told.{Told, RevisionBytes, Knows}
 use Rattle.fsfs_noderev.specs.declared.node_id.NodeId.{NodeId}
 use Rattle.fsfs_noderev.specs.declared.node_rev.NodeRev.{NodeRev}
-use Rattle.fsfs_changes.specs.declared.item.ChangeItem.{ChangeItem}
-use Rattle.fsfs_shows.specs.ByTree.{LacksAt}
-use Rattle.fsfs_drafts.specs.Own.{OwnNode, Own}
-use Rattle.fsfs_drafts.specs.Drafts.{Kept, Folder, ShowTrees}
-use Rattle.fsfs_drafts.specs.Steps.{Files, kept_at}
-use Rattle.fsfs_drafts.specs.Edits.{IsDraftAfter}
-use Rattle.fsfs_own.specs.Errors.{IfStays}
+use Rattle.fsfs_noderev.specs.declared.item.ChangeItem.{ChangeItem}
+use Rattle.fsfs_revision.specs.ByTree.{LacksAt}
+use Rattle.fsfs_draft.specs.Own.{OwnNode, Own}
+use Rattle.fsfs_draft.specs.Drafts.{Kept, Folder, ShowTrees}
+use Rattle.fsfs_draft.specs.Steps.{Files, kept_at}
+use Rattle.fsfs_draft.specs.Edits.{IsDraftAfter}
+use Rattle.fsfs_draft.specs.Errors.{IfStays}
 use Rattle.fsfs_edit.specs.Items.{IsDeleteOf}
-use Rattle.fsfs_own.specs.Walks.{IsAt, IsLastingAt, HasKind}
+use Rattle.fsfs_draft.specs.Walks.{IsAt, IsLastingAt, HasKind}
 use Rattle.fsfs_edit.specs.Ways.{IsNoDirectory}
 use Rattle.fsfs_edit.specs.Meeting.{IsDone}
-use Rattle.fsfs_own.specs.declared.error.EditError.{EditError}
+use Rattle.fsfs_draft.specs.declared.error.EditError.{EditError}
 use Rattle.fsfs_edit.specs.declared.delete.Gone.{Gone}
 use Rattle.fsfs_edit.specs.declared.delete.Gone.TheVariants as gones
-use Rattle.fsfs_own.specs.declared.walk.Child.{Child}
-use Rattle.fsfs_own.specs.declared.walk.Step.{Step}
-use Rattle.fsfs_own.specs.declared.walk.Step.TheVariants as steps
+use Rattle.fsfs_draft.specs.declared.walk.Child.{Child}
+use Rattle.fsfs_draft.specs.declared.walk.Step.{Step}
+use Rattle.fsfs_draft.specs.declared.walk.Step.TheVariants as steps
 
 -- the predecessor's id, or the node-revision's own
 abbrev pub before_or : NodeId → Option NodeId → NodeId

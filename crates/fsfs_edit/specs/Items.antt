@@ -5,9 +5,9 @@ use Rattle.fsfs_base.specs.declared.kind.Kind.{Kind}
 use Rattle.fsfs_base.specs.declared.action.Action.TheVariants as actions
 use Rattle.fsfs_noderev.specs.declared.node_id.NodeId.{NodeId}
 use Rattle.fsfs_noderev.specs.declared.node_rev.CopySource.{CopySource}
-use Rattle.fsfs_changes.specs.declared.item.ChangeItem.{ChangeItem}
-use Rattle.fsfs_drafts.specs.Drafts.{Folder}
-use Rattle.fsfs_own.specs.Items.{IsFileAt}
+use Rattle.fsfs_noderev.specs.declared.item.ChangeItem.{ChangeItem}
+use Rattle.fsfs_draft.specs.Drafts.{Folder}
+use Rattle.fsfs_draft.specs.Items.{IsFileAt}
 
 -- the item of a node that was put at the path
 pub record IsAddOf (item : ChangeItem) (id : NodeId) (kind : Kind) (path : Path) (source : Option CopySource) : Type 0 where

@@ -5,21 +5,21 @@ use Rattle.fsfs_base.specs.declared.kind.Kind.{Kind}
 use Rattle.fsfs_base.specs.declared.kind.Kind.TheVariants.{File, Dir}
 use Rattle.fsfs_tree.specs.Nodes.{TreeFunction}
 use Rattle.fsfs_tree.specs.Trees.{IsTree}
-use Rattle.fsfs_flat.specs.declared.edit.Edit.{Edit}
-use Rattle.fsfs_flat.specs.declared.edit.Edit.TheVariants.{MakeDir, MakeFile}
-use Rattle.fsfs_flat.specs.declared.mark.Mark.{Mark}
-use Rattle.fsfs_fields.specs.declared.txn_name.TxnName.{TxnName}
-use Rattle.fsfs_book.specs.Told.{Told, RevisionBytes, Knows}
-use Rattle.fsfs_shows.specs.ByTree.{LacksAt}
-use Rattle.fsfs_drafts.specs.Drafts.{Folder, ShowTrees}
-use Rattle.fsfs_drafts.specs.Edits.{IsDraftAfter}
-use Rattle.fsfs_own.specs.Errors.{IfStays}
+use Rattle.fsfs_model.specs.declared.edit.Edit.{Edit}
+use Rattle.fsfs_model.specs.declared.edit.Edit.TheVariants.{MakeDir, MakeFile}
+use Rattle.fsfs_model.specs.declared.mark.Mark.{Mark}
+use Rattle.fsfs_base.specs.declared.txn_name.TxnName.{TxnName}
+use Rattle.fsfs_revision.specs.Told.{Told, RevisionBytes, Knows}
+use Rattle.fsfs_revision.specs.ByTree.{LacksAt}
+use Rattle.fsfs_draft.specs.Drafts.{Folder, ShowTrees}
+use Rattle.fsfs_draft.specs.Edits.{IsDraftAfter}
+use Rattle.fsfs_draft.specs.Errors.{IfStays}
 use Rattle.fsfs_edit.specs.Items.{AddsItem}
-use Rattle.fsfs_own.specs.Names.{IsFull, HasSpace}
-use Rattle.fsfs_own.specs.Walks.{HasKind}
+use Rattle.fsfs_draft.specs.Names.{IsFull, HasSpace}
+use Rattle.fsfs_draft.specs.Walks.{HasKind}
 use Rattle.fsfs_edit.specs.Ways.{IsNoDirectory, HasRoom}
 use Rattle.fsfs_edit.specs.Meeting.{IsDone}
-use Rattle.fsfs_own.specs.declared.error.EditError.{EditError}
+use Rattle.fsfs_draft.specs.declared.error.EditError.{EditError}
 use Rattle.fsfs_edit.specs.declared.make.Made.{Made}
 use Rattle.fsfs_edit.specs.declared.make.Made.TheVariants as mades
 

@@ -1,18 +1,17 @@
 //! Putting a copy at a path, with its refusals.
 ghost use Rattle.std.specs.Prelude.{◌≡◌, ℕ};
-ghost use Rattle.fsfs_book.specs.Told.{Keeps};
+ghost use Rattle.fsfs_revision.specs.Told.{Keeps};
 ghost use Rattle.fsfs_edit.specs.Copying.{IsSource, FindsSource, CopiesIn, CopiesFree, MeetsCopy};
-ghost use Rattle.fsfs_own.specs.Causes.{HasDiskCause, HasBenchCause};
+ghost use Rattle.fsfs_draft.specs.Causes.{HasDiskCause, HasBenchCause};
 
 use crate::items::added;
 use crate::way::{Target, opened_to, way_to};
-use fsfs_base::FsPath;
-use fsfs_book::Book;
+use crate::{copy_to, same_source};
+use fsfs_base::{FsPath, RevNum};
 use fsfs_dag::{Met, PlacedNode, node_at};
-use fsfs_fields::RevNum;
+use fsfs_draft::{EditError, Own, room_in};
 use fsfs_noderev::{CopySource, NodeRev};
-use fsfs_own::{EditError, Own, room_in};
-use fsfs_steps::{copy_to, same_source};
+use fsfs_revision::Book;
 use std::alloc::Global;
 
 /// What became of a copy: it was put, or why it can't be.

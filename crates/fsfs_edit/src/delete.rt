@@ -1,16 +1,16 @@
 //! Deletes at a path, with their refusals.
 ghost use Rattle.std.specs.Prelude.{◌≡◌};
-ghost use Rattle.fsfs_book.specs.Told.{Keeps};
+ghost use Rattle.fsfs_revision.specs.Told.{Keeps};
 ghost use Rattle.fsfs_edit.specs.Deleting.{IsDeletedId, DeletesIn, MeetsDelete};
-ghost use Rattle.fsfs_own.specs.Causes.{HasDiskCause, HasBenchCause};
+ghost use Rattle.fsfs_draft.specs.Causes.{HasDiskCause, HasBenchCause};
 
 use crate::items::deleted;
+use crate::take_away;
 use crate::way::{Target, opened_to, way_to};
 use fsfs_base::FsPath;
-use fsfs_book::Book;
+use fsfs_draft::{Child, EditError, Own, Step};
 use fsfs_noderev::NodeId;
-use fsfs_own::{Child, EditError, Own, Step};
-use fsfs_steps::take_away;
+use fsfs_revision::Book;
 use std::alloc::Global;
 
 /// What became of a delete: it was done, or why it can't be.

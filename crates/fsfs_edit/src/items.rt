@@ -3,8 +3,7 @@ ghost use Rattle.std.specs.Prelude.{IfOk, ◌++◌, ◌∷◌, []};
 ghost use Rattle.fsfs_edit.specs.Items.{IsAddOf, IsDeleteOf, IsModifyOf};
 
 use fsfs_base::{Action, FsPath, Kind};
-use fsfs_changes::ChangeItem;
-use fsfs_noderev::{CopySource, NodeId};
+use fsfs_noderev::{ChangeItem, CopySource, NodeId};
 use std::alloc::{AllocError, Global};
 
 /// The item of a node that was put under a name of a directory.

@@ -1,15 +1,15 @@
 //! Making a new node at a path, with its refusals.
 ghost use Rattle.std.specs.Prelude.{◌≡◌};
-ghost use Rattle.fsfs_book.specs.Told.{Keeps};
+ghost use Rattle.fsfs_revision.specs.Told.{Keeps};
 ghost use Rattle.fsfs_edit.specs.Making.{MakesIn, MeetsMake};
-ghost use Rattle.fsfs_own.specs.Causes.{HasDiskCause, HasBenchCause};
+ghost use Rattle.fsfs_draft.specs.Causes.{HasDiskCause, HasBenchCause};
 
 use crate::items::added;
+use crate::make_node;
 use crate::way::{Target, opened_to, way_to};
 use fsfs_base::{FsPath, Kind};
-use fsfs_book::Book;
-use fsfs_own::{EditError, Own, room_in};
-use fsfs_steps::make_node;
+use fsfs_draft::{EditError, Own, room_in};
+use fsfs_revision::Book;
 use std::alloc::Global;
 
 /// What became of a new node: it was made, or why it can't be.

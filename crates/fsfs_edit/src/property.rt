@@ -1,18 +1,17 @@
 //! A property set or removed at a path, with its refusals.
 ghost use Rattle.std.specs.Prelude.{◌≡◌, not, IfOk};
-ghost use Rattle.fsfs_book.specs.Told.{Keeps};
-ghost use Rattle.fsfs_flat.specs.Edits.{changed_props, bytes_of, fits_value};
-ghost use Rattle.fsfs_own.specs.Causes.{HasDiskCause, HasBenchCause};
+ghost use Rattle.fsfs_revision.specs.Told.{Keeps};
+ghost use Rattle.fsfs_model.specs.Edits.{changed_props, bytes_of, fits_value};
+ghost use Rattle.fsfs_draft.specs.Causes.{HasDiskCause, HasBenchCause};
 ghost use Rattle.fsfs_edit.specs.Properties.{Changes, SetsProperty, MeetsProperty};
 
 use crate::items::modified;
+use crate::set_props;
 use crate::way::{found_at, opened_to};
-use fsfs_base::{FsPath, Kind, Pairs};
-use fsfs_book::Book;
-use fsfs_fields::PropName;
+use fsfs_base::{FsPath, Kind, Pairs, PropName};
+use fsfs_draft::{EditError, Found, Own, properties_in};
 use fsfs_noderev::NodeId;
-use fsfs_own::{EditError, Found, Own, properties_in};
-use fsfs_steps::set_props;
+use fsfs_revision::Book;
 use std::alloc::{AllocError, Global};
 
 const LONGEST_VALUE: usize = 1048576;

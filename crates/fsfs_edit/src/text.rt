@@ -1,16 +1,16 @@
 //! A text put at a path, with its refusals.
 ghost use Rattle.std.specs.Prelude.{◌≡◌};
-ghost use Rattle.fsfs_book.specs.Told.{Keeps};
-ghost use Rattle.fsfs_own.specs.Causes.{HasDiskCause, HasBenchCause};
+ghost use Rattle.fsfs_revision.specs.Told.{Keeps};
+ghost use Rattle.fsfs_draft.specs.Causes.{HasDiskCause, HasBenchCause};
 ghost use Rattle.fsfs_edit.specs.Texts.{SetsText, MeetsText};
 
 use crate::items::modified;
+use crate::set_text;
 use crate::way::{found_at, opened_to};
 use fsfs_base::{FsPath, Kind};
-use fsfs_book::Book;
+use fsfs_draft::{EditError, Found, Own};
 use fsfs_noderev::Rep;
-use fsfs_own::{EditError, Found, Own};
-use fsfs_steps::set_text;
+use fsfs_revision::Book;
 use std::alloc::Global;
 
 /// What became of a text: it was put, or why it can't be.

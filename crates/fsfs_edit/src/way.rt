@@ -3,18 +3,18 @@ ghost use Rattle.std.specs.Prelude.{◌≡◌, ◌≤◌, ◌++◌, ◌∷◌, [
 ghost use Rattle.fsfs_tree.specs.Nodes.{TreeFunction};
 ghost use Rattle.fsfs_base.specs.Paths.{Path};
 ghost use Rattle.fsfs_base.specs.declared.kind.Kind.TheVariants.{Dir};
-ghost use Rattle.fsfs_book.specs.Told.{RevisionBytes, Knows, Keeps};
-ghost use Rattle.fsfs_drafts.specs.Own.{Own as Owns, OwnNode, draft_tree};
-ghost use Rattle.fsfs_drafts.specs.Drafts.{IsDraft, ShowTrees};
-ghost use Rattle.fsfs_own.specs.Walks.{IsAt, HasKind};
+ghost use Rattle.fsfs_revision.specs.Told.{RevisionBytes, Knows, Keeps};
+ghost use Rattle.fsfs_draft.specs.Own.{Own as Owns, OwnNode, draft_tree};
+ghost use Rattle.fsfs_draft.specs.Drafts.{IsDraft, ShowTrees};
+ghost use Rattle.fsfs_draft.specs.Walks.{IsAt, HasKind};
 ghost use Rattle.fsfs_edit.specs.Ways.{IsTarget, LooksAt, Finds, Opens};
-ghost use Rattle.fsfs_own.specs.Causes.{HasDiskCause, HasBenchCause};
+ghost use Rattle.fsfs_draft.specs.Causes.{HasDiskCause, HasBenchCause};
 
+use crate::bubble_up;
 use fsfs_base::{FsPath, Kind};
-use fsfs_book::Book;
+use fsfs_draft::{Child, EditError, Found, Own, Step, met, next, root_id};
 use fsfs_noderev::NodeId;
-use fsfs_own::{Child, EditError, Found, Own, Step, met, next, root_id};
-use fsfs_steps::bubble_up;
+use fsfs_revision::Book;
 use std::alloc::Global;
 
 /// What stands where an edit is asked for.

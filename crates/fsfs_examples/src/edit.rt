@@ -2,7 +2,7 @@
 use crate::files::Files;
 use crate::line::FileLine;
 use anyhow::{Result, bail};
-use fsfs_escapes::bytes_of;
+use fsfs_memory::bytes_of;
 use std::alloc::Global;
 
 // The bytes of a file that is there.

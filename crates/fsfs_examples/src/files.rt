@@ -2,9 +2,9 @@
 use anyhow::{Result, anyhow, bail};
 use fsfs_base::{Failed, Name};
 use fsfs_disk::{Disk, Label};
-use fsfs_fields::{TxnName, read_txn_name};
+use fsfs_base::{TxnName, read_txn_name};
 use fsfs_layout::TxnFile;
-use fsfs_memdisk::MemDisk;
+use fsfs_memory::MemDisk;
 use std::alloc::{AllocError, Global};
 use std::collections::BTreeMap;
 

@@ -2,7 +2,7 @@
 use crate::files::{Files, copy_of};
 use crate::line::{Line, Place};
 use crate::stage::{Stage, Whole};
-use fsfs_escapes::Transcript;
+use fsfs_memory::Transcript;
 use std::alloc::{AllocError, Global};
 use std::mem;
 use std::sync::Wait;

@@ -1,7 +1,7 @@
 // What is printed of a run.
 use crate::command::Ran;
 use crate::files::Files;
-use fsfs_escapes::Transcript;
+use fsfs_memory::Transcript;
 use md5::{Digest, Md5};
 
 /// Output that is longer than this is told by its length and its MD5.

@@ -8,15 +8,15 @@ use Rattle.std.specs.FinMap as map
 use Rattle.fsfs_base.specs.Files.{Files}
 use Rattle.fsfs_base.specs.declared.small_fault.SmallFault.{SmallFault}
 use Rattle.fsfs_layout.specs.Names.{in_shard}
-use Rattle.fsfs_damage.specs.declared.wrong.Refusal.{Refusal}
-use Rattle.fsfs_damage.specs.declared.wrong.Refusal.TheVariants.{Missing, Small}
-use Rattle.fsfs_book.specs.declared.book.BookFault.{BookFault}
-use Rattle.fsfs_book.specs.declared.book.BookFault.TheVariants.{Refused, Short, DiskFault, OutOfMemory}
-use Rattle.fsfs_book.specs.Told.{Gives, part_read, size_read}
+use Rattle.fsfs_revision.specs.declared.wrong.Refusal.{Refusal}
+use Rattle.fsfs_revision.specs.declared.wrong.Refusal.TheVariants.{Missing, Small}
+use Rattle.fsfs_revision.specs.declared.book.BookFault.{BookFault}
+use Rattle.fsfs_revision.specs.declared.book.BookFault.TheVariants.{Refused, Short, DiskFault, OutOfMemory}
+use Rattle.fsfs_revision.specs.Told.{Gives, part_read, size_read}
 use Rattle.fsfs_layout.specs.declared.layout.Layout.{Layout}
 use Rattle.fsfs_layout.specs.Layouts.{shard_of}
 use Rattle.fsfs_fetch.specs.declared.manifests.KeptManifest.{KeptManifest}
-use Rattle.fsfs_rev_file.specs.RevBytes.{floor_in, rev_bytes, packed_bytes, by_floor, or_missing, rev_file, props_file, props_bytes, manifest_of}
+use Rattle.fsfs_revision.specs.RevBytes.{floor_in, rev_bytes, packed_bytes, by_floor, or_missing, rev_file, props_file, props_bytes, manifest_of}
 use Rattle.fsfs_fetch.specs.Views.{Reach, IsKnown, View, Follows, Later, is_packed, is_below}
 use Rattle.fsfs_fetch.specs.Answers.{MayGo, FromFile, refused}
 use Rattle.fsfs_fetch.specs.Kept.{fits, agrees, is_right, are_offsets, IsPackedAt, ServesAsWell, IsFoundAt, FindsAsWell, IsGoneAt}

@@ -8,7 +8,7 @@ use Rattle.fsfs_base.specs.declared.small_fault.SmallFile.TheVariants.{MinUnpack
 use Rattle.fsfs_base.specs.declared.small_fault.SmallFault.{SmallFault}
 use Rattle.fsfs_disk.specs.Trace.{IsRead}
 use Rattle.fsfs_layout.specs.declared.layout.Layout.{Layout}
-use Rattle.fsfs_rev_file.specs.RevBytes.{floor_of, floor_in, text_in}
+use Rattle.fsfs_revision.specs.RevBytes.{floor_of, floor_in, text_in}
 use Rattle.fsfs_fetch.specs.Answers.{refused}
 use Rattle.fsfs_disk.proofs.WholeFiles.{read_bytes}
 

@@ -10,21 +10,21 @@ use Rattle.std.specs.Cmp.Lexicographic.{same_text, nat_list_eq_equiv}
 use Rattle.fsfs_base.specs.Files.{Files}
 use Rattle.fsfs_base.specs.declared.small_fault.SmallFile.TheVariants.{Manifest}
 use Rattle.fsfs_base.specs.declared.small_fault.SmallFault.{SmallFault}
-use Rattle.fsfs_damage.specs.declared.wrong.Refusal.TheVariants.{Small}
-use Rattle.fsfs_grammar.specs.Grammar.{IsFaultAt}
+use Rattle.fsfs_revision.specs.declared.wrong.Refusal.TheVariants.{Small}
+use Rattle.fsfs_base.specs.Grammar.{IsFaultAt}
 use Rattle.fsfs_layout.specs.FileNames.{small_name}
 use Rattle.fsfs_layout.specs.Manifest.{offset_line, IsManifest}
 use Rattle.fsfs_layout.specs.Small.{IsFaultOf}
-use Rattle.fsfs_whole_file.specs.FirstBytes.{first_of, IsShorter}
-use Rattle.fsfs_whole_file.proofs.FirstBytesLemmas.{text_of_first, first_of_text, fault_of_first}
-use Rattle.fsfs_rev_file.proofs.ManifestLemmas.{manifest_ok, manifest_err}
-use Rattle.fsfs_book.specs.declared.book.BookFault.{BookFault}
-use Rattle.fsfs_book.specs.declared.book.BookFault.TheVariants.{Refused, Short, DiskFault, OutOfMemory}
-use Rattle.fsfs_book.specs.Told.{Gives}
+use Rattle.fsfs_disk.specs.FirstBytes.{first_of, IsShorter}
+use Rattle.fsfs_disk.proofs.FirstBytesLemmas.{text_of_first, first_of_text, fault_of_first}
+use Rattle.fsfs_revision.proofs.ManifestLemmas.{manifest_ok, manifest_err}
+use Rattle.fsfs_revision.specs.declared.book.BookFault.{BookFault}
+use Rattle.fsfs_revision.specs.declared.book.BookFault.TheVariants.{Refused, Short, DiskFault, OutOfMemory}
+use Rattle.fsfs_revision.specs.Told.{Gives}
 use Rattle.fsfs_layout.specs.declared.layout.Layout.{Layout}
 use Rattle.fsfs_layout.specs.Layouts.{shard_of}
 use Rattle.fsfs_fetch.specs.declared.manifests.KeptManifest.{KeptManifest}
-use Rattle.fsfs_rev_file.specs.RevBytes.{manifest_of, manifest_in, manifest_file}
+use Rattle.fsfs_revision.specs.RevBytes.{manifest_of, manifest_in, manifest_file}
 use Rattle.fsfs_fetch.specs.Views.{View}
 use Rattle.fsfs_fetch.specs.Answers.{Stays, refused}
 use Rattle.fsfs_fetch.specs.Kept.{IsPackedAt, fits, are_offsets, keeps_shard, kept_offsets}

@@ -3,9 +3,9 @@ use Rattle.std.proofs.Common.{◌≡◌, ℕ, Bool, List, ap, ◌∙◌, arith}
 use Rattle.std.specs.Prelude.{Option, Some, Ok, option_map}
 use Rattle.fsfs_base.specs.Files.{Files}
 use Rattle.fsfs_disk.specs.Trace.{Trace, files_now}
-use Rattle.fsfs_book.specs.Told.{Telling}
+use Rattle.fsfs_revision.specs.Told.{Telling}
 use Rattle.fsfs_layout.specs.declared.layout.Layout.{Layout}
-use Rattle.fsfs_rev_file.specs.RevBytes.{rev_bytes, props_bytes, floor_in}
+use Rattle.fsfs_revision.specs.RevBytes.{rev_bytes, props_bytes, floor_in}
 use Rattle.fsfs_fetch.specs.Kept.{TellsFiles}
 use Rattle.fsfs_fetch.specs.Views.{DiskState}
 use Rattle.fsfs_fetch.specs.Owned.{owned_view, state_of, TellsAll}

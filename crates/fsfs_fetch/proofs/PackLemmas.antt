@@ -8,16 +8,16 @@ use Rattle.fsfs_base.specs.Files.{Files}
 use Rattle.fsfs_base.specs.declared.small_fault.SmallFault.{SmallFault}
 use Rattle.fsfs_layout.specs.Names.{in_pack}
 use Rattle.fsfs_disk.specs.Trace.{IsRead, IsSize}
-use Rattle.fsfs_damage.specs.declared.wrong.Refusal.{Refusal}
-use Rattle.fsfs_damage.specs.declared.wrong.Refusal.TheVariants.{Missing, Small}
-use Rattle.fsfs_book.specs.declared.book.BookFault.{BookFault}
-use Rattle.fsfs_book.specs.declared.book.BookFault.TheVariants.{Refused, Short, DiskFault, OutOfMemory}
-use Rattle.fsfs_book.specs.Told.{Gives, size_read, part_read}
+use Rattle.fsfs_revision.specs.declared.wrong.Refusal.{Refusal}
+use Rattle.fsfs_revision.specs.declared.wrong.Refusal.TheVariants.{Missing, Small}
+use Rattle.fsfs_revision.specs.declared.book.BookFault.{BookFault}
+use Rattle.fsfs_revision.specs.declared.book.BookFault.TheVariants.{Refused, Short, DiskFault, OutOfMemory}
+use Rattle.fsfs_revision.specs.Told.{Gives, size_read, part_read}
 use Rattle.fsfs_layout.specs.declared.layout.Layout.{Layout}
 use Rattle.fsfs_layout.specs.Layouts.{shard_of, place_in_shard}
 use Rattle.fsfs_fetch.specs.declared.manifests.KeptManifest.{KeptManifest}
-use Rattle.fsfs_rev_file.specs.declared.section.Section.{Section}
-use Rattle.fsfs_rev_file.specs.RevBytes.{manifest_in, pack_in, section_at, section_of, packed_section, packed_bytes, cut, cut_from}
+use Rattle.fsfs_revision.specs.declared.section.Section.{Section}
+use Rattle.fsfs_revision.specs.RevBytes.{manifest_in, pack_in, section_at, section_of, packed_section, packed_bytes, cut, cut_from}
 use Rattle.fsfs_fetch.specs.Views.{View, Later}
 use Rattle.fsfs_fetch.specs.Answers.{Stays, refused, as_book}
 use Rattle.fsfs_fetch.specs.Kept.{IsPackedAt}

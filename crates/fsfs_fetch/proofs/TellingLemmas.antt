@@ -7,16 +7,16 @@ use Rattle.std.proofs.lemmas.List.{length-take, length-drop}
 use Rattle.std.proofs.lemmas.Bool.Decides.{nat_tests}
 use Rattle.fsfs_base.specs.Files.{Files}
 use Rattle.fsfs_base.specs.declared.small_fault.SmallFault.{SmallFault}
-use Rattle.fsfs_damage.specs.declared.wrong.Refusal.{Refusal}
-use Rattle.fsfs_damage.specs.declared.wrong.Refusal.TheVariants.{NoRev}
-use Rattle.fsfs_book.specs.declared.book.BookFault.{BookFault}
-use Rattle.fsfs_book.specs.declared.book.BookFault.TheVariants.{Refused}
-use Rattle.fsfs_book.specs.Told.{Keeps, Gives}
+use Rattle.fsfs_revision.specs.declared.wrong.Refusal.{Refusal}
+use Rattle.fsfs_revision.specs.declared.wrong.Refusal.TheVariants.{NoRev}
+use Rattle.fsfs_revision.specs.declared.book.BookFault.{BookFault}
+use Rattle.fsfs_revision.specs.declared.book.BookFault.TheVariants.{Refused}
+use Rattle.fsfs_revision.specs.Told.{Keeps, Gives}
 use Rattle.fsfs_layout.specs.declared.layout.Layout.{Layout}
 use Rattle.fsfs_layout.specs.Layouts.{shard_of}
 use Rattle.fsfs_fetch.specs.declared.manifests.KeptManifest.{KeptManifest}
-use Rattle.fsfs_rev_file.specs.declared.section.Section.{Section}
-use Rattle.fsfs_rev_file.specs.RevBytes.{rev_bytes, rev_file, props_bytes, or_missing, by_floor, floor_in, packed_bytes, packed_section, pack_in, cut, cut_from}
+use Rattle.fsfs_revision.specs.declared.section.Section.{Section}
+use Rattle.fsfs_revision.specs.RevBytes.{rev_bytes, rev_file, props_bytes, or_missing, by_floor, floor_in, packed_bytes, packed_section, pack_in, cut, cut_from}
 use Rattle.fsfs_fetch.specs.Views.{Reach, Ends, Grows, IsKnown, IsYoungest, Extends, View, Later}
 use Rattle.fsfs_disk.specs.Benches.{HasShortFiles}
 use Rattle.fsfs_fetch.specs.Kept.{TellsFiles, TellsOwn, telling, within, revs_in, props_in, is_short, is_right, last_of, IsFoundAt, FindsAsWell}

@@ -3,14 +3,14 @@ use Rattle.std.specs.Prelude.{◌≡◌, ◌≤◌, ℕ, Bool, true, false, nat_
 use Rattle.std.specs.Cmp.Lexicographic.{pointwise}
 use Rattle.fsfs_base.specs.Files.{Files}
 use Rattle.fsfs_base.specs.declared.small_fault.SmallFault.{SmallFault}
-use Rattle.fsfs_damage.specs.declared.wrong.Refusal.{Refusal}
-use Rattle.fsfs_damage.specs.declared.wrong.Refusal.TheVariants.{NoRev}
-use Rattle.fsfs_book.specs.Told.{Telling}
+use Rattle.fsfs_revision.specs.declared.wrong.Refusal.{Refusal}
+use Rattle.fsfs_revision.specs.declared.wrong.Refusal.TheVariants.{NoRev}
+use Rattle.fsfs_revision.specs.Told.{Telling}
 use Rattle.fsfs_layout.specs.declared.layout.Layout.{Layout}
 use Rattle.fsfs_layout.specs.Layouts.{shard_of}
 use Rattle.fsfs_fetch.specs.declared.manifests.KeptManifest.{KeptManifest}
 use Rattle.fsfs_fetch.specs.Views.{View, Reach, Ends, Grows, IsKnown, is_packed}
-use Rattle.fsfs_rev_file.specs.RevBytes.{rev_bytes, rev_file, props_bytes, manifest_in}
+use Rattle.fsfs_revision.specs.RevBytes.{rev_bytes, rev_file, props_bytes, manifest_in}
 
 abbrev pub are_offsets : List ℕ → Result (List ℕ) SmallFault → Bool
 are_offsets offsets (Err fault) = false

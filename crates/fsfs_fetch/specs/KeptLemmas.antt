@@ -3,10 +3,10 @@ use Rattle.std.proofs.Common.{◌≡◌, ℕ, ◌^◌, ◌<◌, List, length, Op
 use Rattle.std.specs.Prelude.{Result, ◌&&◌}
 use Rattle.std.proofs.lemmas.Bool.Decides.{nat_tests}
 use Rattle.fsfs_base.specs.Files.{Files}
-use Rattle.fsfs_damage.specs.declared.wrong.Refusal.{Refusal}
+use Rattle.fsfs_revision.specs.declared.wrong.Refusal.{Refusal}
 use Rattle.fsfs_layout.specs.declared.layout.Layout.{Layout}
 use Rattle.fsfs_fetch.specs.declared.manifests.KeptManifest.{KeptManifest}
-use Rattle.fsfs_rev_file.specs.RevBytes.{rev_bytes}
+use Rattle.fsfs_revision.specs.RevBytes.{rev_bytes}
 use Rattle.fsfs_fetch.specs.Views.{View, Reach, Ends, Grows}
 use Rattle.fsfs_fetch.specs.Kept.{telling, is_right, is_short, revs_in, within}
 

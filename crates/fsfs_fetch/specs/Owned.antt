@@ -2,10 +2,10 @@
 use Rattle.std.specs.Prelude.{◌≡◌, ℕ, Bool, List, Option, Some, option_map}
 use Rattle.fsfs_base.specs.Files.{Files}
 use Rattle.fsfs_disk.specs.Trace.{Trace, files_now}
-use Rattle.fsfs_book.specs.Told.{Telling, Knows}
+use Rattle.fsfs_revision.specs.Told.{Telling, Knows}
 use Rattle.fsfs_layout.specs.declared.layout.Layout.{Layout}
 use Rattle.fsfs_fetch.specs.Views.{View, DiskState, Ends}
-use Rattle.fsfs_rev_file.specs.RevBytes.{rev_bytes, props_bytes}
+use Rattle.fsfs_revision.specs.RevBytes.{rev_bytes, props_bytes}
 
 abbrev pub owned_view : DiskState → ℕ → Layout → View (Option DiskState)
 owned_view disk youngest layout = record { layout = layout; reach = Ends youngest; files = option_map files_now disk.trace; below = Some disk }

@@ -1,10 +1,10 @@
 -- Views follow one another.
 use Rattle.std.proofs.Common.{◌≡◌, ◌≤◌, ℕ, List, Option, Some, None, refl, sym, subst, ◌∙◌, inl, inr, arith}
 use Rattle.std.specs.Prelude.{IfSome, IfErr, Result, Ok, Err, ◌⊎◌}
-use Rattle.fsfs_book.specs.declared.book.BookFault.{BookFault}
-use Rattle.fsfs_book.specs.declared.book.BookFault.TheVariants.{Refused, Short, DiskFault, OutOfMemory}
+use Rattle.fsfs_revision.specs.declared.book.BookFault.{BookFault}
+use Rattle.fsfs_revision.specs.declared.book.BookFault.TheVariants.{Refused, Short, DiskFault, OutOfMemory}
 use Rattle.fsfs_base.specs.Counts.{Rose}
-use Rattle.fsfs_book.specs.Told.{HasCause, IfDisk}
+use Rattle.fsfs_revision.specs.Told.{HasCause, IfDisk}
 use Rattle.std.specs.FinMap as map
 use Rattle.fsfs_base.specs.Files.{Files}
 use Rattle.fsfs_layout.specs.declared.layout.Layout.{Layout}

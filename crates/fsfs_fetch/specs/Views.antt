@@ -5,7 +5,7 @@ use Rattle.fsfs_base.specs.declared.small_fault.SmallFault.{SmallFault}
 use Rattle.fsfs_disk.specs.Trace.{Trace}
 use Rattle.fsfs_layout.specs.declared.layout.Layout.{Layout}
 use Rattle.fsfs_layout.specs.Layouts.{shard_of}
-use Rattle.fsfs_rev_file.specs.RevBytes.{rev_bytes, rev_file, props_file, floor_in, manifest_file, pack_in}
+use Rattle.fsfs_revision.specs.RevBytes.{rev_bytes, rev_file, props_file, floor_in, manifest_file, pack_in}
 
 -- which revisions there are: those up to the youngest, which stays the youngest, or at least those up to a number
 pub data Reach : Type 0 where

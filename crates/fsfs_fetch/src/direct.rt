@@ -1,12 +1,12 @@
 //! A book over a store that is read.
 ghost use Rattle.std.specs.Prelude.{◌≡◌, ◌≤◌, ◌<◌, ℕ, List, Some, None, Ok, length, take, IfOk, IfErr, OnOk};
 ghost use Rattle.fsfs_base.specs.Files.{Files};
-ghost use Rattle.fsfs_book.specs.declared.book.BookFault.TheVariants.{Refused};
-ghost use Rattle.fsfs_damage.specs.declared.wrong.Refusal.TheVariants.{NoRev};
-ghost use Rattle.fsfs_book.specs.Told.{HasCause, Gives, IsAbout, size_read, part_read};
+ghost use Rattle.fsfs_revision.specs.declared.book.BookFault.TheVariants.{Refused};
+ghost use Rattle.fsfs_revision.specs.declared.wrong.Refusal.TheVariants.{NoRev};
+ghost use Rattle.fsfs_revision.specs.Told.{HasCause, Gives, IsAbout, size_read, part_read};
 ghost use Rattle.fsfs_disk.specs.Trace.{Trace, files_now};
 ghost use Rattle.fsfs_fetch.specs.Owned.{TellsAll, state_of};
-ghost use Rattle.fsfs_rev_file.specs.RevBytes.{rev_bytes, props_bytes, floor_in};
+ghost use Rattle.fsfs_revision.specs.RevBytes.{rev_bytes, props_bytes, floor_in};
 ghost use Rattle.fsfs_fetch.specs.Views.{Later, IsYoungest, IsKnown};
 ghost use Rattle.fsfs_fetch.specs.Kept.{IsFoundAt, FindsAsWell, IsGoneAt, TellsFiles, TellsOwn, telling};
 
@@ -16,10 +16,10 @@ use crate::manifests::KeptManifest;
 use crate::owned::OwnedReads;
 use crate::packs::{packed_len, packed_part};
 use crate::reads::Reads;
-use fsfs_book::{Book, BookFault};
-use fsfs_damage::Refusal;
+use fsfs_revision::{Book, BookFault};
+use fsfs_revision::Refusal;
 use fsfs_disk::Disk;
-use fsfs_fields::RevNum;
+use fsfs_base::RevNum;
 use fsfs_layout::{Layout, RepositoryFile};
 use std::alloc::Global;
 

@@ -2,18 +2,18 @@
 ghost use Rattle.std.specs.Prelude.{◌≡◌, ◌≤◌, ◌<◌, ℕ, List, Option, length, take, unwrap_or, [], IfOk, IfErr, IfSome};
 ghost use Rattle.std.specs.FinMap.{get};
 ghost use Rattle.fsfs_disk.specs.Trace.{IsRead, IsSize};
-ghost use Rattle.fsfs_book.specs.declared.book.BookFault.{BookFault};
-ghost use Rattle.fsfs_book.specs.declared.book.BookFault.TheVariants.{DiskFault};
-ghost use Rattle.fsfs_book.specs.Told.{HasCause, IsAbout};
+ghost use Rattle.fsfs_revision.specs.declared.book.BookFault.{BookFault};
+ghost use Rattle.fsfs_revision.specs.declared.book.BookFault.TheVariants.{DiskFault};
+ghost use Rattle.fsfs_revision.specs.Told.{HasCause, IsAbout};
 ghost use Rattle.fsfs_fetch.specs.Views.{Later};
 ghost use Rattle.fsfs_fetch.specs.Answers.{Stays, MayGo, FromFile, part_of_file, size_of_file, OnlyMemory};
 
 use crate::parts::StoreParts;
 use crate::reads::Reads;
 use fsfs_base::Name;
-use fsfs_book::BookFault;
-use fsfs_fields::RevNum;
-use fsfs_whole_file::{FileFault, read_file};
+use fsfs_revision::BookFault;
+use fsfs_base::RevNum;
+use fsfs_disk::{FileFault, read_file};
 use std::alloc::Global;
 
 pub(crate) fn read_at<R: Reads>(

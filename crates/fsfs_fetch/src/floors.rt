@@ -1,16 +1,16 @@
 //! The floor: the oldest revision that isn't packed.
 ghost use Rattle.std.specs.Prelude.{◌≡◌, ℕ, None, IfErr, IfSome, OnOk, OnErr};
-ghost use Rattle.fsfs_book.specs.Told.{HasCause, Gives, IsAbout};
-ghost use Rattle.fsfs_rev_file.specs.RevBytes.{floor_in};
+ghost use Rattle.fsfs_revision.specs.Told.{HasCause, Gives, IsAbout};
+ghost use Rattle.fsfs_revision.specs.RevBytes.{floor_in};
 ghost use Rattle.fsfs_fetch.specs.Views.{Later};
 ghost use Rattle.fsfs_fetch.specs.Answers.{refused};
 
 use crate::files::read_at;
 use crate::manifests::KeptManifest;
 use crate::reads::Reads;
-use fsfs_book::BookFault;
-use fsfs_damage::Refusal;
-use fsfs_fields::RevNum;
+use fsfs_revision::BookFault;
+use fsfs_revision::Refusal;
+use fsfs_base::RevNum;
 use fsfs_layout::{OnlyFile, read_min_unpacked_rev};
 
 // Reads the floor, by one call.

@@ -4,16 +4,16 @@ ghost use Rattle.fsfs_base.specs.Files.{Files};
 ghost use Rattle.fsfs_base.specs.declared.small_fault.SmallFile.TheVariants.{Manifest};
 ghost use Rattle.fsfs_layout.specs.FileNames.{small_name};
 ghost use Rattle.fsfs_layout.specs.Layouts.{shard_of};
-ghost use Rattle.fsfs_book.specs.Told.{HasCause, Gives, IsAbout};
-ghost use Rattle.fsfs_rev_file.specs.RevBytes.{manifest_of, manifest_in};
+ghost use Rattle.fsfs_revision.specs.Told.{HasCause, Gives, IsAbout};
+ghost use Rattle.fsfs_revision.specs.RevBytes.{manifest_of, manifest_in};
 ghost use Rattle.fsfs_fetch.specs.Kept.{IsPackedAt, ServesAsWell, kept_offsets, keeps_shard};
 ghost use Rattle.fsfs_fetch.specs.Views.{Later, is_packed};
 ghost use Rattle.fsfs_fetch.specs.Answers.{Stays, refused};
 
 use crate::files::load;
 use crate::reads::Reads;
-use fsfs_book::BookFault;
-use fsfs_damage::Refusal;
+use fsfs_revision::BookFault;
+use fsfs_revision::Refusal;
 use fsfs_layout::{ManifestError, RepositoryFile, read_manifest};
 use std::alloc::Global;
 

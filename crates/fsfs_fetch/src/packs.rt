@@ -3,8 +3,8 @@ ghost use Rattle.std.specs.Prelude.{◌≡◌, ◌≤◌, ◌<◌, ◌+◌, ◌-
 ghost use Rattle.fsfs_base.specs.Files.{Files};
 ghost use Rattle.fsfs_layout.specs.Layouts.{shard_of};
 ghost use Rattle.fsfs_layout.specs.Names.{in_pack};
-ghost use Rattle.fsfs_book.specs.Told.{HasCause, Gives, IsAbout, size_read, part_read};
-ghost use Rattle.fsfs_rev_file.specs.RevBytes.{section_at, packed_section as section_in_files, packed_bytes, cut};
+ghost use Rattle.fsfs_revision.specs.Told.{HasCause, Gives, IsAbout, size_read, part_read};
+ghost use Rattle.fsfs_revision.specs.RevBytes.{section_at, packed_section as section_in_files, packed_bytes, cut};
 ghost use Rattle.fsfs_fetch.specs.Views.{Later};
 ghost use Rattle.fsfs_fetch.specs.Kept.{IsPackedAt, ServesAsWell};
 ghost use Rattle.fsfs_fetch.specs.Answers.{as_book, Stays};
@@ -13,11 +13,11 @@ use crate::files::{read_at, size_at};
 use crate::manifests::{KeptManifest, keep_manifest, offsets_of};
 use crate::reads::Reads;
 use fsfs_base::fitting;
-use fsfs_book::BookFault;
-use fsfs_damage::Refusal;
-use fsfs_fields::RevNum;
+use fsfs_revision::BookFault;
+use fsfs_revision::Refusal;
+use fsfs_base::RevNum;
 use fsfs_layout::RepositoryFile;
-use fsfs_rev_file::Section;
+use fsfs_revision::Section;
 use std::alloc::Global;
 
 // The part of a pack of this size from one offset to the next, no further than the pack goes.

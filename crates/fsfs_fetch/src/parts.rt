@@ -2,7 +2,7 @@
 
 use crate::reads::Reads;
 use fsfs_base::{Failed, Name};
-use fsfs_whole_file::Parts;
+use fsfs_disk::Parts;
 
 /// The parts of the files of a store. A file is told that stays as it is.
 #[derive(Drop)]

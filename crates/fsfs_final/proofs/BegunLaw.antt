@@ -5,23 +5,23 @@ use mathlib.Core.Bool.{false≢true}
 use Rattle.fsfs_base.specs.Paths.{PathName, Path}
 use Rattle.fsfs_tree.specs.Nodes.{Node, TreeFunction}
 use Rattle.fsfs_base.specs.declared.kind.Kind.TheVariants.{Dir}
-use Rattle.fsfs_flat.specs.Marks.{effects}
-use Rattle.fsfs_book.specs.Told.{RevisionBytes}
+use Rattle.fsfs_model.specs.Marks.{effects}
+use Rattle.fsfs_revision.specs.Told.{RevisionBytes}
 use Rattle.fsfs_noderev.specs.Ids.{part_value}
 use Rattle.fsfs_noderev.specs.declared.node_rev.NodeRev.{NodeRev}
-use Rattle.fsfs_shows.specs.Reading.{ChildOf, StandsAt}
-use Rattle.fsfs_shows.specs.Chains.{IsPred}
-use Rattle.fsfs_ancestry.specs.Trees.{ShowTrees}
-use Rattle.fsfs_ancestry.proofs.Earlier.{stands_of_id, pred_same}
-use Rattle.fsfs_drafts.specs.OwnSides.{NodesAt, in_txn, IsSuccessor, IsOwnSide, AreNodesOf}
-use Rattle.fsfs_drafts.proofs.Lasting.{lasting}
+use Rattle.fsfs_revision.specs.ShowsReading.{ChildOf, StandsAt}
+use Rattle.fsfs_revision.specs.Chains.{IsPred}
+use Rattle.fsfs_revision.specs.Trees.{ShowTrees}
+use Rattle.fsfs_revision.proofs.Earlier.{stands_of_id, pred_same}
+use Rattle.fsfs_draft.specs.OwnSides.{NodesAt, in_txn, IsSuccessor, IsOwnSide, AreNodesOf}
+use Rattle.fsfs_draft.proofs.Lasting.{lasting}
 use Rattle.fsfs_merge.proofs.SightLaw.{some_node, same_some}
-use Rattle.fsfs_drafts.specs.NodeDrafts.{IsOwn, IsDraft}
-use Rattle.fsfs_drafts.specs.Draws.{DrawsTree}
-use Rattle.fsfs_drafts.proofs.Parents.{parent, child_at}
+use Rattle.fsfs_draft.specs.NodeDrafts.{IsOwn, IsDraft}
+use Rattle.fsfs_draft.specs.Draws.{DrawsTree}
+use Rattle.fsfs_draft.proofs.Parents.{parent, child_at}
 use Rattle.fsfs_final.specs.Begun.{IsFirstRoot, begun, BegunIsADraft}
 use Rattle.std.proofs.lemmas.Bool.{both_ways}
-use Rattle.fsfs_drafts.proofs.HangLaw.{some_same}
+use Rattle.fsfs_draft.proofs.HangLaw.{some_same}
 
 module _ (look : RevisionBytes) (top : ℕ) (tree : ℕ → TreeFunction) (b : ℕ) (base : NodesAt) (x v : NodeRev)
     (shows : ShowTrees look top tree) (le : b ≤ top) (are : AreNodesOf look b base) (at : StandsAt look b [] x) (first : IsFirstRoot top x v) where

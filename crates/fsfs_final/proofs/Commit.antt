@@ -4,27 +4,27 @@ use Rattle.std.proofs.Common.{◌≡◌, ◌≤◌, ◌<◌, ◌⊎◌, ℕ, suc
 use Rattle.std.specs.Prelude.{Option, if◌then◌else◌}
 use Rattle.fsfs_base.specs.Paths.{Path}
 use Rattle.fsfs_tree.specs.Nodes.{Node, TreeFunction}
-use Rattle.fsfs_flat.specs.declared.mark.Mark.{Mark}
-use Rattle.fsfs_flat.specs.Landing.{NoClash, land}
-use Rattle.fsfs_flat.specs.Transactions.{IsTransaction, Landed}
-use Rattle.fsfs_book.specs.Told.{RevisionBytes}
-use Rattle.fsfs_shows.specs.Shown.{IsShownAs, Shows}
-use Rattle.fsfs_shows.specs.IdRules.{IdRule}
+use Rattle.fsfs_model.specs.declared.mark.Mark.{Mark}
+use Rattle.fsfs_model.specs.Landing.{NoClash, land}
+use Rattle.fsfs_model.specs.Transactions.{IsTransaction, Landed}
+use Rattle.fsfs_revision.specs.Told.{RevisionBytes}
+use Rattle.fsfs_revision.specs.Shown.{IsShownAs, Shows}
+use Rattle.fsfs_revision.specs.IdRules.{IdRule}
 use Rattle.fsfs_model.proofs.TwoMerges.{land_twice}
-use Rattle.fsfs_ancestry.specs.Trees.{ShowTrees}
+use Rattle.fsfs_revision.specs.Trees.{ShowTrees}
 use Rattle.fsfs_merge.specs.declared.sight.Sight.{Sight}
-use Rattle.fsfs_drafts.specs.OwnSides.{NodesAt, IsOwnSide, AreNodesOf}
+use Rattle.fsfs_draft.specs.OwnSides.{NodesAt, IsOwnSide, AreNodesOf}
 use Rattle.fsfs_merge.specs.MergeLaws.{IsMerge, landed_nodes}
 use Rattle.fsfs_merge.proofs.MergeLaw.{pre, side}
-use Rattle.fsfs_drafts.specs.NodeDrafts.{IsDraft}
+use Rattle.fsfs_draft.specs.NodeDrafts.{IsDraft}
 use Rattle.fsfs_final.specs.Final.{IsWritten}
-use Rattle.fsfs_drafts.specs.Draws.{DrawsTree}
+use Rattle.fsfs_draft.specs.Draws.{DrawsTree}
 use Rattle.fsfs_final.specs.Shown.{ReadsContents}
 use Rattle.fsfs_final.specs.Commits.{with_next, CommitsAddRevisions}
 use Rattle.fsfs_final.proofs.KeepsIds.{written_keeps_ids}
 use Rattle.fsfs_final.proofs.ShowsLanded.{written_shows_landing}
-use Rattle.fsfs_landed.proofs.LandedDraft.{merge_keeps_drafts}
-use Rattle.fsfs_landed.proofs.LandedTree.{merge_keeps_trees}
+use Rattle.fsfs_merge.proofs.LandedDraft.{merge_keeps_drafts}
+use Rattle.fsfs_merge.proofs.LandedTree.{merge_keeps_trees}
 
 less_or_same : (x y : ℕ) → x ≤ y → (x < y) ⊎ (x ≡ y)
 less_or_same x y h = grind arith

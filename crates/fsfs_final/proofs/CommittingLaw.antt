@@ -1,36 +1,36 @@
 -- The whole chain of a commit.
-use Rattle.fsfs_ancestry.proofs.Revisions.{shown_revisions}
+use Rattle.fsfs_revision.proofs.Revisions.{shown_revisions}
 use Rattle.std.proofs.Common.{◌≡◌, ◌∙◌, ◌≤◌, ◌<◌, ℕ, suc, Bool, true, false, ◌&&◌, List, [], ◌∷◌, ◌++◌, Option, Some, refl, sym, subst, arith}
 use Rattle.std.specs.Prelude.{Ok, is_some, nat_le}
 use Rattle.std.proofs.lemmas.Bool.{leb-true, and_from, and_parts, both_ways}
 use Rattle.std.proofs.lemmas.Bool.Decides.{nat_tests}
 use Rattle.fsfs_base.specs.Paths.{Path, covers}
 use Rattle.fsfs_tree.specs.Nodes.{Node, TreeFunction}
-use Rattle.fsfs_flat.specs.declared.mark.Mark.{Mark}
-use Rattle.fsfs_flat.specs.declared.mark.What.TheVariants.{Make}
-use Rattle.fsfs_flat.specs.declared.edit.Edit.{Edit}
-use Rattle.fsfs_flat.specs.declared.edit.Edit.TheVariants.{MakeDir, MakeFile, Delete, Copy, PutText, SetProp}
-use Rattle.fsfs_flat.specs.Edits.{accepts, applied, mark_of, can_make, with_copy, kind_of_node}
-use Rattle.fsfs_flat.specs.Landing.{NoClash, land, reached}
-use Rattle.fsfs_flat.specs.Transactions.{IsTransaction, Begun, Edited, Landed}
+use Rattle.fsfs_model.specs.declared.mark.Mark.{Mark}
+use Rattle.fsfs_model.specs.declared.mark.What.TheVariants.{Make}
+use Rattle.fsfs_model.specs.declared.edit.Edit.{Edit}
+use Rattle.fsfs_model.specs.declared.edit.Edit.TheVariants.{MakeDir, MakeFile, Delete, Copy, PutText, SetProp}
+use Rattle.fsfs_model.specs.Edits.{accepts, applied, mark_of, can_make, with_copy, kind_of_node}
+use Rattle.fsfs_model.specs.Landing.{NoClash, land, reached}
+use Rattle.fsfs_model.specs.Transactions.{IsTransaction, Begun, Edited, Landed}
 use Rattle.fsfs_base.proofs.PathLemmas.{covers-trans, covers-longer}
-use Rattle.fsfs_book.specs.Told.{RevisionBytes}
+use Rattle.fsfs_revision.specs.Told.{RevisionBytes}
 use Rattle.fsfs_noderev.specs.declared.node_rev.NodeRev.{NodeRev}
-use Rattle.fsfs_shows.specs.Reading.{StandsAt}
-use Rattle.fsfs_shows.proofs.Walks.{child_stands}
-use Rattle.fsfs_ancestry.specs.Trees.{ShowTrees}
-use Rattle.fsfs_ancestry.specs.Bounded.{AreSameUpTo}
-use Rattle.fsfs_ancestry.proofs.Behind.{shown_there}
-use Rattle.fsfs_ancestry.proofs.Bounded.{back_same, stands_same_bytes, child_same, text_shown, props_same}
-use Rattle.fsfs_shows.specs.Chains.{own_rev}
-use Rattle.fsfs_shows.proofs.TreeLaw.{stands_home}
+use Rattle.fsfs_revision.specs.ShowsReading.{StandsAt}
+use Rattle.fsfs_revision.proofs.Walks.{child_stands}
+use Rattle.fsfs_revision.specs.Trees.{ShowTrees}
+use Rattle.fsfs_revision.specs.Bounded.{AreSameUpTo}
+use Rattle.fsfs_revision.proofs.Behind.{shown_there}
+use Rattle.fsfs_revision.proofs.Bounded.{back_same, stands_same_bytes, child_same, text_shown, props_same}
+use Rattle.fsfs_revision.specs.Chains.{own_rev}
+use Rattle.fsfs_revision.proofs.TreeLaw.{stands_home}
 use Rattle.fsfs_merge.specs.declared.sight.Sight.{Sight}
 use Rattle.fsfs_merge.specs.Walks.{merges, stays, down}
-use Rattle.fsfs_drafts.specs.OwnSides.{NodesAt, in_txn, AreNodesOf}
+use Rattle.fsfs_draft.specs.OwnSides.{NodesAt, in_txn, AreNodesOf}
 use Rattle.fsfs_merge.specs.MergeLaws.{IsMerge, is_merged, landed_nodes}
 use Rattle.fsfs_merge.proofs.MergeLaw.{Way, Through, Stopped, way, keep, take_head, own_of, side}
 use Rattle.fsfs_merge.proofs.Sides.{self}
-use Rattle.fsfs_drafts.specs.NodeDrafts.{IsDraft}
+use Rattle.fsfs_draft.specs.NodeDrafts.{IsDraft}
 use Rattle.fsfs_final.specs.Directories.{HasAllBelow}
 use Rattle.fsfs_final.specs.Begun.{IsFirstRoot, begun}
 use Rattle.fsfs_final.specs.Bytes.{HoldsDraft}
@@ -38,19 +38,19 @@ use Rattle.fsfs_final.specs.Contents.{ReadsAs, LastingContents, OwnContents}
 use Rattle.fsfs_final.specs.FittingChanges.{ChangesFit}
 use Rattle.fsfs_final.specs.Commits.{with_next}
 use Rattle.fsfs_final.specs.Committing.{HasDraft, Committing}
-use Rattle.fsfs_drafts.specs.Draws.{DrawsTree}
+use Rattle.fsfs_draft.specs.Draws.{DrawsTree}
 use Rattle.fsfs_final.proofs.Stays.{drafts_stay}
 use Rattle.fsfs_final.proofs.BegunLaw.{begun_is_a_draft}
-use Rattle.fsfs_landed.proofs.LandedDraft as drafted
-use Rattle.fsfs_landed.proofs.LandedDraft.{merge_keeps_drafts}
-use Rattle.fsfs_landed.proofs.LandedTree.{merge_keeps_trees}
+use Rattle.fsfs_merge.proofs.LandedDraft as drafted
+use Rattle.fsfs_merge.proofs.LandedDraft.{merge_keeps_drafts}
+use Rattle.fsfs_merge.proofs.LandedTree.{merge_keeps_trees}
 use Rattle.fsfs_final.proofs.ContentsLaw.{content_laws}
 use Rattle.fsfs_final.proofs.Written.{directories_are_enough}
 use Rattle.fsfs_final.proofs.Held.{held_drafts_are_read}
 use Rattle.fsfs_final.proofs.Commit.{commits_add_revisions}
 use Rattle.fsfs_final.proofs.ChangesLaw.{changes_fit}
 use Rattle.fsfs_final.proofs.ShowsLanded.{written_shows_landing}
-use Rattle.fsfs_drafts.proofs.HangLaw.{some_same}
+use Rattle.fsfs_draft.proofs.HangLaw.{some_same}
 
 module _ (look : RevisionBytes) (top : ℕ) (tree : ℕ → TreeFunction) (b h : ℕ) (t : TreeFunction) (marks : List Mark) (base head own : NodesAt) (see : Path → Sight)
     (is : IsMerge look top tree b h t marks base head own see) (clear : NoClash b (tree b) (tree h) t marks) (draft : IsDraft look top b own) (below : HasAllBelow look own) where

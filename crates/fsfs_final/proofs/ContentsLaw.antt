@@ -1,44 +1,44 @@
 -- What the new revision's node-revisions read as, from what the draft's do.
-use Rattle.fsfs_ancestry.proofs.Revisions.{shown_revisions}
+use Rattle.fsfs_revision.proofs.Revisions.{shown_revisions}
 use Rattle.std.proofs.Common.{◌≡◌, ◌∙◌, ◌≤◌, ℕ, suc, Bool, true, false, cond, if◌then◌else◌, not, List, [], ◌++◌, Option, Some, None, refl, sym, ap, subst, arith, inl, inr}
 use Rattle.std.specs.Prelude.{Ok, is_some}
 use mathlib.Core.Bool.{false≢true}
-use Rattle.fsfs_flat.specs.declared.edit.Edit.{Edit}
-use Rattle.fsfs_flat.specs.declared.edit.Edit.TheVariants.{MakeDir, MakeFile, Delete, Copy, PutText, SetProp}
-use Rattle.fsfs_flat.specs.declared.mark.Mark.{Mark}
+use Rattle.fsfs_model.specs.declared.edit.Edit.{Edit}
+use Rattle.fsfs_model.specs.declared.edit.Edit.TheVariants.{MakeDir, MakeFile, Delete, Copy, PutText, SetProp}
+use Rattle.fsfs_model.specs.declared.mark.Mark.{Mark}
 use Rattle.fsfs_base.specs.declared.kind.Kind.{Kind}
 use Rattle.fsfs_base.specs.declared.kind.Kind.TheVariants.{File, Dir}
 use Rattle.fsfs_base.specs.Paths.{Path, covers, same_path}
 use Rattle.fsfs_tree.specs.Nodes.{Node, TreeFunction, Bytes, empty_node}
-use Rattle.fsfs_flat.specs.Marks.{effects}
-use Rattle.fsfs_flat.specs.Edits.{accepts, applied, with_text, with_prop, bytes_of, copied_node, rest_after, is_file_node}
-use Rattle.fsfs_flat.specs.Landing.{NoClash, land}
-use Rattle.fsfs_flat.specs.Transactions.{IsTransaction, Begun, Edited, Landed}
-use Rattle.fsfs_book.specs.Told.{RevisionBytes}
+use Rattle.fsfs_model.specs.Marks.{effects}
+use Rattle.fsfs_model.specs.Edits.{accepts, applied, with_text, with_prop, bytes_of, copied_node, rest_after, is_file_node}
+use Rattle.fsfs_model.specs.Landing.{NoClash, land}
+use Rattle.fsfs_model.specs.Transactions.{IsTransaction, Begun, Edited, Landed}
+use Rattle.fsfs_revision.specs.Told.{RevisionBytes}
 use Rattle.fsfs_model.proofs.Origins.{Origin, Head, Changed, Own, origin}
 use Rattle.fsfs_model.proofs.NextHistory.{whole}
 use Rattle.std.proofs.lemmas.Bool.{leb-true, and_parts, both_ways}
 use Rattle.fsfs_noderev.specs.declared.node_id.NodeId.{NodeId}
 use Rattle.fsfs_noderev.specs.declared.rep.Contents.{Contents}
 use Rattle.fsfs_noderev.specs.declared.node_rev.NodeRev.{NodeRev}
-use Rattle.fsfs_shows.specs.Reading.{StandsAt, PropsOf}
-use Rattle.fsfs_shows.specs.Shown.{IsTextOf, Shows}
-use Rattle.fsfs_ancestry.specs.Trees.{ShowTrees}
-use Rattle.fsfs_ancestry.proofs.Behind.{shown_there}
+use Rattle.fsfs_revision.specs.ShowsReading.{StandsAt, PropsOf}
+use Rattle.fsfs_revision.specs.Shown.{IsTextOf, Shows}
+use Rattle.fsfs_revision.specs.Trees.{ShowTrees}
+use Rattle.fsfs_revision.proofs.Behind.{shown_there}
 use Rattle.fsfs_merge.specs.Laws.{AreSame, IsSameNode}
 use Rattle.fsfs_merge.specs.declared.sight.Sight.{Sight}
 use Rattle.fsfs_merge.specs.Walks.{is_own, merged, merges}
-use Rattle.fsfs_drafts.specs.OwnSides.{NodesAt, in_txn}
+use Rattle.fsfs_draft.specs.OwnSides.{NodesAt, in_txn}
 use Rattle.fsfs_merge.specs.MergeLaws.{IsMerge, is_merged, relinked, landed_nodes}
 use Rattle.fsfs_merge.proofs.MergeLaw.{merging_is_by_ids}
 use Rattle.fsfs_merge.proofs.MergedLaw.{kept_props}
 use Rattle.fsfs_merge.proofs.Sides.{self}
 use Rattle.fsfs_merge.proofs.Texts.{keeps_texts}
 use Rattle.fsfs_final.specs.Final.{Finished, AsItWas, Done, IsWritten}
-use Rattle.fsfs_drafts.specs.Draws.{DrawsTree}
+use Rattle.fsfs_draft.specs.Draws.{DrawsTree}
 use Rattle.fsfs_final.specs.Shown.{ReadsContents}
 use Rattle.fsfs_final.specs.Contents.{HasBareDirs, TransactionsHaveBareDirs, ReadsAs, LastingContents, OwnContents, ContentLaws}
-use Rattle.fsfs_drafts.proofs.HangLaw.{some_same}
+use Rattle.fsfs_draft.proofs.HangLaw.{some_same}
 
 no_node : {A : Type 0} (n : Node) → None ≡ Some n → A
 no_node n e = absurd (false≢true (ap is_some e))
@@ -69,14 +69,14 @@ bare_text text (Some x) h n e k =
     let same : record x { text = Bytes text } ≡ n = cc in
     by x.kind (ap (λ (z : Node). z.kind) same ∙ k) h
   where
-    by : (kind : Kind) → kind ≡ Dir → not (Rattle.fsfs_flat.specs.Edits.is_dir kind) ≡ true → n.text ≡ Bytes []
+    by : (kind : Kind) → kind ≡ Dir → not (Rattle.fsfs_model.specs.Edits.is_dir kind) ≡ true → n.text ≡ Bytes []
     by Dir e h = absurd (false≢true h)
     by File e h = file_dir e
 
 bare_prop : (name : List ℕ) (value : Option (List ℕ)) (o : Option Node) → Bare o → Bare (with_prop name value o)
 bare_prop name value None was n e k = no_node n e
 bare_prop name value (Some x) was n e k =
-    let same : record x { properties = Rattle.fsfs_flat.specs.Edits.changed_props name value x.properties } ≡ n = cc in
+    let same : record x { properties = Rattle.fsfs_model.specs.Edits.changed_props name value x.properties } ≡ n = cc in
     sym (ap (λ (z : Node). z.text) same) ∙ was x refl (ap (λ (z : Node). z.kind) same ∙ k)
 
 bare_if : (b : Bool) (x y : Option Node) → Bare x → Bare y → Bare (cond b x y)
@@ -114,13 +114,13 @@ shown_bare look r tree shows p n e k = let w = shows.each p in by w.0 w.1 w.2
     text Dir v e h = h
     text File v e h = file_dir e
 
-    by : (m : Rattle.fsfs_shows.specs.Reading.Met) → Rattle.fsfs_shows.specs.Reading.MetAt look r p (Ok m) → Rattle.fsfs_shows.specs.Shown.IsShownAs look r p m (tree p) → n.text ≡ Bytes []
-    by (Rattle.fsfs_shows.specs.Reading.Stands v) at is =
+    by : (m : Rattle.fsfs_revision.specs.ShowsReading.Met) → Rattle.fsfs_revision.specs.ShowsReading.MetAt look r p (Ok m) → Rattle.fsfs_revision.specs.Shown.IsShownAs look r p m (tree p) → n.text ≡ Bytes []
+    by (Rattle.fsfs_revision.specs.ShowsReading.Stands v) at is =
         let s = shown_there look r tree shows p v at in
         let same : s.0 ≡ n = some_same (tree p) s.0 n s.1 e in
         text v.kind v (sym s.2.kind ∙ ap (λ (x : Node). x.kind) same ∙ k) (subst (λ (x : Node). IsTextOf look v.kind v x.text) same s.2.text)
-    by (Rattle.fsfs_shows.specs.Reading.Lacking d) at is = no_node n (sym is ∙ e)
-    by (Rattle.fsfs_shows.specs.Reading.Blocked d) at is = no_node n (sym is ∙ e)
+    by (Rattle.fsfs_revision.specs.ShowsReading.Lacking d) at is = no_node n (sym is ∙ e)
+    by (Rattle.fsfs_revision.specs.ShowsReading.Blocked d) at is = no_node n (sym is ∙ e)
 
 -- ---- the new revision
 
@@ -239,7 +239,7 @@ module _ (look : RevisionBytes) (top : ℕ) (tree : ℕ → TreeFunction) (b h n
       linked v k f ids props =
           let old = lasting p v m k (ap (λ z. in_txn z.place) ids ∙ plain) g in (
             λ file. file_dir (sym file ∙ sym same.kind ∙ kinds p v m k g ∙ merged_dir p v f k),
-            subst (λ z. Rattle.fsfs_shows.specs.Reading.OfContents [] (Rattle.fsfs_shows.specs.Reading.PairsAt look) z (Ok y.properties)) props (subst (λ x. PropsOf look v (Ok x)) same.properties old.1),
+            subst (λ z. Rattle.fsfs_revision.specs.ShowsReading.OfContents [] (Rattle.fsfs_revision.specs.ShowsReading.PairsAt look) z (Ok y.properties)) props (subst (λ x. PropsOf look v (Ok x)) same.properties old.1),
           )
 
       by : (c : Bool) → is_merged see p ≡ c → (s o : Option NodeRev) → own p ≡ o → relinked c s o ≡ Some u → ReadsAs look u y

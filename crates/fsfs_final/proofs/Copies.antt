@@ -4,13 +4,13 @@ use Rattle.std.proofs.Common.{◌≡◌, ◌≤◌, ◌⊎◌, ℕ, suc, max, tr
 use Rattle.std.specs.Prelude.{◌≢◌}
 use Rattle.std.proofs.lemmas.List.{take-append-le}
 use Rattle.fsfs_base.specs.Paths.{PathName, Path}
-use Rattle.fsfs_book.specs.Told.{RevisionBytes}
+use Rattle.fsfs_revision.specs.Told.{RevisionBytes}
 use Rattle.fsfs_noderev.specs.declared.node_rev.NodeRev.{NodeRev}
-use Rattle.fsfs_shows.specs.Reading.{StandsAt}
-use Rattle.fsfs_shows.specs.Chains.{copy_root_of, IsCopiedIn}
-use Rattle.fsfs_shows.specs.Shown.{Nearest}
-use Rattle.fsfs_shows.proofs.OneWalk.{stands_same}
-use Rattle.fsfs_ancestry.proofs.Roots.{length_push}
+use Rattle.fsfs_revision.specs.ShowsReading.{StandsAt}
+use Rattle.fsfs_revision.specs.Chains.{copy_root_of, IsCopiedIn}
+use Rattle.fsfs_revision.specs.Shown.{Nearest}
+use Rattle.fsfs_revision.proofs.OneWalk.{stands_same}
+use Rattle.fsfs_revision.proofs.Roots.{length_push}
 
 -- the paths at or above p and one name
 pub short : (p : Path) (name : PathName) (k : ℕ) → k ≤ length p → take k (p ++ name ∷ []) ≡ take k p
@@ -109,7 +109,7 @@ module _ (look : RevisionBytes) (r : ℕ) (p : Path) (name : PathName) (v : Node
 
 -- the nearest at the path itself, where that has the revision
 pub nearest_at : (look : RevisionBytes) (r : ℕ) (p : Path) (a : ℕ) (v : NodeRev) → StandsAt look r p v → (copy_root_of v).0 ≡ a → (z : Nearest look r p a) → z.node ≡ v
-nearest_at look r p a v at root z = elim (Rattle.fsfs_ids.proofs.Coming.below_or_at z.depth (length p) z.within) [
+nearest_at look r p a v at root z = elim (Rattle.fsfs_draft.proofs.Coming.below_or_at z.depth (length p) z.within) [
   | inl less ↦ absurd (z.nearest (length p) v less (omega arith) (subst (λ (x : Path). StandsAt look r x v) (sym (take-length p)) at) root)
   | inr e ↦ stands_same look r p z.node v (subst (λ (x : Path). StandsAt look r x z.node) (ap (λ (n : ℕ). take n p) e ∙ take-length p) z.stands) at
 ]

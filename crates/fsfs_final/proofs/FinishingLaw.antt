@@ -1,7 +1,7 @@
 -- What the writer makes of a draft's node-revision is final, in the form of a revision, and in order.
 use Rattle.std.proofs.Common.{◌≡◌, ◌∙◌, ℕ, suc, Bool, true, if◌then◌else◌, Option, Some, None, refl, sym, ap, subst, arith}
 use Rattle.fsfs_base.specs.Paths.{Path}
-use Rattle.fsfs_book.specs.Told.{RevisionBytes}
+use Rattle.fsfs_revision.specs.Told.{RevisionBytes}
 use Rattle.fsfs_noderev.specs.declared.node_id.NodeId.{NodeId}
 use Rattle.fsfs_noderev.specs.declared.node_id.Part.{Part}
 use Rattle.fsfs_noderev.specs.declared.node_id.Part.TheVariants as parts
@@ -9,9 +9,9 @@ use Rattle.fsfs_noderev.specs.declared.rep.Contents.{Contents}
 use Rattle.fsfs_noderev.specs.declared.node_rev.CopyRoot.{CopyRoot}
 use Rattle.fsfs_noderev.specs.declared.node_rev.NodeRev.{NodeRev}
 use Rattle.fsfs_revision.specs.Nodes.{is_lasting_part, is_revision_id, has_revision_pred, has_revision_rep, has_revision_root, is_of_revision}
-use Rattle.fsfs_shows.specs.Chains.{own_rev, root_or_own}
-use Rattle.fsfs_drafts.specs.OwnSides.{NodesAt, in_txn}
-use Rattle.fsfs_drafts.specs.NodeDrafts.{root_in, IsOwn, IsDraft}
+use Rattle.fsfs_revision.specs.Chains.{own_rev, root_or_own}
+use Rattle.fsfs_draft.specs.OwnSides.{NodesAt, in_txn}
+use Rattle.fsfs_draft.specs.NodeDrafts.{root_in, IsOwn, IsDraft}
 use Rattle.fsfs_final.specs.Final.{final_part, IsFinal}
 use Rattle.fsfs_final.specs.Finishing.{final_root, finish, FinishesProps, FinishingIsFinal}
 use Rattle.fsfs_final.proofs.Stays.{ready}

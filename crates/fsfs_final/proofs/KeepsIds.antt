@@ -5,7 +5,7 @@ use Rattle.std.proofs.lemmas.Bool.{and_parts, cases_Bool}
 use mathlib.Core.Bool.{false≢true}
 use Rattle.fsfs_base.specs.Paths.{PathName, Path}
 use Rattle.fsfs_base.specs.declared.kind.Kind.TheVariants.{Dir}
-use Rattle.fsfs_book.specs.Told.{RevisionBytes}
+use Rattle.fsfs_revision.specs.Told.{RevisionBytes}
 use Rattle.fsfs_noderev.specs.Ids.{part_value, Old}
 use Rattle.fsfs_noderev.specs.declared.node_id.Part.{Part}
 use Rattle.fsfs_noderev.specs.declared.node_id.Part.TheVariants as parts
@@ -13,21 +13,21 @@ use Rattle.fsfs_noderev.specs.declared.node_id.NodeId.{NodeId}
 use Rattle.fsfs_noderev.specs.declared.node_rev.CopySource.{CopySource}
 use Rattle.fsfs_noderev.specs.declared.node_rev.NodeRev.{NodeRev}
 use Rattle.fsfs_revision.specs.Nodes.{is_lasting_part, is_revision_id, is_revision_place, is_of_revision, has_revision_pred, has_revision_rep, has_revision_root}
-use Rattle.fsfs_shows.specs.Reading.{OfId, ChildOf, StandsAt}
-use Rattle.fsfs_shows.specs.Chains.{own_rev, IsPred, copy_root_of, contents_rev}
-use Rattle.fsfs_shows.specs.IdRules.{IdRule, IsOf, IsChild, IsBehind, Next, Further, HasSuffix, IsDrawn, CopyPartFrom, Directory, Before, Drawn, root_after}
-use Rattle.fsfs_shows.proofs.OneWalk.{stands_same}
-use Rattle.fsfs_shows.proofs.Walks.{child_stands}
-use Rattle.fsfs_shows.proofs.TreeLaw.{stands_home}
-use Rattle.fsfs_ancestry.proofs.Earlier.{pred_same}
-use Rattle.fsfs_drafts.specs.OwnSides.{NodesAt, in_txn}
-use Rattle.fsfs_drafts.proofs.Lasting.{lasting_id}
-use Rattle.fsfs_drafts.specs.NodeDrafts.{IsOwn, is_new_part, DraftPart, IsDraft}
-use Rattle.fsfs_drafts.specs.NodeDrafts as drafts
-use Rattle.fsfs_ancestry.proofs.Roots.{one_more}
+use Rattle.fsfs_revision.specs.ShowsReading.{OfId, ChildOf, StandsAt}
+use Rattle.fsfs_revision.specs.Chains.{own_rev, IsPred, copy_root_of, contents_rev}
+use Rattle.fsfs_revision.specs.IdRules.{IdRule, IsOf, IsChild, IsBehind, Next, Further, HasSuffix, IsDrawn, CopyPartFrom, Directory, Before, Drawn, root_after}
+use Rattle.fsfs_revision.proofs.OneWalk.{stands_same}
+use Rattle.fsfs_revision.proofs.Walks.{child_stands}
+use Rattle.fsfs_revision.proofs.TreeLaw.{stands_home}
+use Rattle.fsfs_revision.proofs.Earlier.{pred_same}
+use Rattle.fsfs_draft.specs.OwnSides.{NodesAt, in_txn}
+use Rattle.fsfs_draft.proofs.Lasting.{lasting_id}
+use Rattle.fsfs_draft.specs.NodeDrafts.{IsOwn, is_new_part, DraftPart, IsDraft}
+use Rattle.fsfs_draft.specs.NodeDrafts as drafts
+use Rattle.fsfs_revision.proofs.Roots.{one_more}
 use Rattle.fsfs_final.proofs.LastNames.{Ends, Root, Named, ends}
 use Rattle.fsfs_final.specs.Final.{final_part, IsFinal, Finished, AsItWas, Done, IsWritten, WrittenKeepsIds}
-use Rattle.fsfs_drafts.proofs.HangLaw.{some_same}
+use Rattle.fsfs_draft.proofs.HangLaw.{some_same}
 
 -- ---- parts
 

@@ -6,15 +6,15 @@ use Rattle.std.proofs.lemmas.List.{append-nil, length-append}
 use mathlib.Core.Bool.{false≢true}
 use Rattle.fsfs_base.specs.Paths.{Path, same_path}
 use Rattle.fsfs_base.proofs.PathLemmas.{same_path-is}
-use Rattle.fsfs_book.specs.Told.{RevisionBytes}
+use Rattle.fsfs_revision.specs.Told.{RevisionBytes}
 use Rattle.fsfs_noderev.specs.NodeRevs.{IsNodeRev}
 use Rattle.fsfs_noderev.specs.Lines.{line}
 use Rattle.fsfs_noderev.specs.declared.rep.Rep.{Rep}
 use Rattle.fsfs_noderev.specs.declared.node_rev.NodeRev.{NodeRev}
 use Rattle.fsfs_revision.specs.Nodes.{IsNodeAt}
-use Rattle.fsfs_damage.specs.Damages.{place_of}
-use Rattle.fsfs_rep.specs.Frames.{RepIn}
-use Rattle.fsfs_drafts.specs.OwnSides.{NodesAt}
+use Rattle.fsfs_revision.specs.DamageDamages.{place_of}
+use Rattle.fsfs_revision.specs.Frames.{RepIn}
+use Rattle.fsfs_draft.specs.OwnSides.{NodesAt}
 use Rattle.fsfs_final.specs.Bytes.{HoldsDraft}
 use Rattle.fsfs_final.specs.Laid.{IsTextAt, IsPlaced, IsRepAt, IsFramed, Laid, with_laid, IsLaid, LaysDraft, LoopLaws}
 use Rattle.fsfs_final.proofs.PiecesLaw.{pieces_are_read}

@@ -4,7 +4,7 @@ use Rattle.std.specs.Prelude.{nat_lt, nat_le}
 use Rattle.std.proofs.lemmas.Bool.Decides.{nat_tests}
 use mathlib.Core.Bool.{false≢true}
 use Rattle.fsfs_base.specs.Paths.{PathName, Path}
-use Rattle.fsfs_book.specs.Told.{RevisionBytes}
+use Rattle.fsfs_revision.specs.Told.{RevisionBytes}
 use Rattle.fsfs_noderev.specs.declared.node_id.NodeId.{NodeId}
 use Rattle.fsfs_noderev.specs.declared.node_id.Place.{Place}
 use Rattle.fsfs_noderev.specs.declared.node_id.Place.TheVariants as places
@@ -12,23 +12,23 @@ use Rattle.fsfs_noderev.specs.declared.node_rev.CopyRoot.{CopyRoot}
 use Rattle.fsfs_noderev.specs.declared.node_rev.CopySource.{CopySource}
 use Rattle.fsfs_noderev.specs.declared.node_rev.NodeRev.{NodeRev}
 use Rattle.fsfs_revision.specs.Nodes.{has_revision_root, is_some_rev, pred_before, place_before, source_before, root_not_after, rev_not_after}
-use Rattle.fsfs_damage.specs.Damages.{place_of}
-use Rattle.fsfs_shows.specs.Reading.{offset_of}
-use Rattle.fsfs_shows.specs.Chains.{own_rev, copy_root_of, root_or_own}
-use Rattle.fsfs_shows.specs.IdRules.{IsOf}
-use Rattle.fsfs_shows.proofs.TreeLaw.{stands_home, root_le}
-use Rattle.fsfs_ancestry.proofs.Roots.{length_push}
-use Rattle.fsfs_ancestry.proofs.Earlier.{pred_same}
-use Rattle.fsfs_drafts.specs.OwnSides.{NodesAt, in_txn}
-use Rattle.fsfs_drafts.proofs.Lasting.{lasting_id}
-use Rattle.fsfs_drafts.specs.NodeDrafts.{draft_root, IsOwn, IsDraft}
-use Rattle.fsfs_ids.proofs.Coming.{copy_or}
+use Rattle.fsfs_revision.specs.DamageDamages.{place_of}
+use Rattle.fsfs_revision.specs.ShowsReading.{offset_of}
+use Rattle.fsfs_revision.specs.Chains.{own_rev, copy_root_of, root_or_own}
+use Rattle.fsfs_revision.specs.IdRules.{IsOf}
+use Rattle.fsfs_revision.proofs.TreeLaw.{stands_home, root_le}
+use Rattle.fsfs_revision.proofs.Roots.{length_push}
+use Rattle.fsfs_revision.proofs.Earlier.{pred_same}
+use Rattle.fsfs_draft.specs.OwnSides.{NodesAt, in_txn}
+use Rattle.fsfs_draft.proofs.Lasting.{lasting_id}
+use Rattle.fsfs_draft.specs.NodeDrafts.{draft_root, IsOwn, IsDraft}
+use Rattle.fsfs_draft.proofs.Coming.{copy_or}
 use Rattle.fsfs_final.specs.Final.{IsFinal}
 use Rattle.fsfs_final.specs.Ordered.{FinalsAreInOrder}
 use Rattle.fsfs_final.proofs.LastNames.{Root, Named, ends}
 use Rattle.fsfs_final.proofs.Stays.{own_dir, ready}
 use Rattle.std.proofs.lemmas.Bool.{and_from}
-use Rattle.fsfs_drafts.proofs.HangLaw.{some_same}
+use Rattle.fsfs_draft.proofs.HangLaw.{some_same}
 
 pub pred_or : (o : Option NodeId) → (o ≡ None) ⊎ ((id : NodeId) × (o ≡ Some id))
 pred_or None = inl refl
@@ -103,7 +103,7 @@ module _ (look : RevisionBytes) (top : ℕ) (own : NodesAt) (draft : IsDraft loo
       | inr id ↦
           let r = ready look top top own (omega arith) draft p u e mine (λ none. (let f = sym none ∙ id.1 in cc)) in
           let l = lasting_id look r.1.0 r.0 r.1.2 in
-          let h = Rattle.fsfs_shows.proofs.TreeLaw.of_id_home look r.1.0 r.0 r.1.2 in
+          let h = Rattle.fsfs_revision.proofs.TreeLaw.of_id_home look r.1.0 r.0 r.1.2 in
           let at = stands_home look r.2.0 r.2.1 r.0 r.2.3 in
           let same : r.0.id ≡ r.1.0 = ap (λ (z : NodeRev). z.id) r.1.2.2.0 ∙ r.1.2.2.1 in
           let plain : in_txn r.1.0.place ≡ false = subst (λ (z : NodeId). in_txn z.place ≡ false) same l.place in

@@ -1,45 +1,45 @@
 -- The bytes of a new revision show the landing of the transaction that it was made of.
-use Rattle.fsfs_ancestry.proofs.Revisions.{shown_revisions}
+use Rattle.fsfs_revision.proofs.Revisions.{shown_revisions}
 use Rattle.std.proofs.Common.{◌≡◌, ◌≤◌, ◌<◌, ◌⊎◌, ℕ, zero, suc, max, not, Bool, true, false, ◌&&◌, List, [], ◌∷◌, ◌++◌, length, take, drop, refl, sym, ap, subst, ◌∙◌, arith, inl, inr}
 use Rattle.std.specs.Prelude.{◌≢◌, Ok, Option, Some, None, is_some, nat_lt, if◌then◌else◌}
 use Rattle.std.proofs.lemmas.Bool.Decides.{nat_tests}
 use mathlib.Core.Bool.{false≢true}
 use Rattle.fsfs_base.specs.Paths.{PathName, Path, covers}
 use Rattle.fsfs_tree.specs.Nodes.{Node, TreeFunction}
-use Rattle.fsfs_flat.specs.declared.mark.Mark.{Mark}
-use Rattle.fsfs_flat.specs.declared.mark.Effects.{Effects}
-use Rattle.fsfs_flat.specs.Marks.{effects}
-use Rattle.fsfs_flat.specs.Landing.{landed_at, land}
-use Rattle.fsfs_flat.specs.Transactions.{IsTransaction}
-use Rattle.fsfs_book.specs.Told.{RevisionBytes}
+use Rattle.fsfs_model.specs.declared.mark.Mark.{Mark}
+use Rattle.fsfs_model.specs.declared.mark.Effects.{Effects}
+use Rattle.fsfs_model.specs.Marks.{effects}
+use Rattle.fsfs_model.specs.Landing.{landed_at, land}
+use Rattle.fsfs_model.specs.Transactions.{IsTransaction}
+use Rattle.fsfs_revision.specs.Told.{RevisionBytes}
 use Rattle.fsfs_noderev.specs.declared.rep.Contents.TheVariants as contents
 use Rattle.fsfs_noderev.specs.declared.node_rev.NodeRev.{NodeRev}
-use Rattle.fsfs_shows.specs.Reading.{ChildOf, Met, Stands, Lacking, Blocked, MetAt, StandsAt}
-use Rattle.fsfs_shows.specs.Chains.{own_rev, IsPred, Chain, First, Goes, copy_root_of, IsCopiedIn, contents_rev}
-use Rattle.fsfs_shows.specs.Shown.{Nearest, copied_from, source_by, IsOfCopy, IsSource, IsShown, IsShownAs, Shows}
-use Rattle.fsfs_shows.specs.IdRules.{IsOf}
-use Rattle.fsfs_shows.proofs.OneWalk.{met_same, stands_same}
-use Rattle.fsfs_shows.proofs.TreeLaw.{IsHome, stands_home, chain_le, root_le, props_le}
+use Rattle.fsfs_revision.specs.ShowsReading.{ChildOf, Met, Stands, Lacking, Blocked, MetAt, StandsAt}
+use Rattle.fsfs_revision.specs.Chains.{own_rev, IsPred, Chain, First, Goes, copy_root_of, IsCopiedIn, contents_rev}
+use Rattle.fsfs_revision.specs.Shown.{Nearest, copied_from, source_by, IsOfCopy, IsSource, IsShown, IsShownAs, Shows}
+use Rattle.fsfs_revision.specs.IdRules.{IsOf}
+use Rattle.fsfs_revision.proofs.OneWalk.{met_same, stands_same}
+use Rattle.fsfs_revision.proofs.TreeLaw.{IsHome, stands_home, chain_le, root_le, props_le}
 use Rattle.fsfs_base.proofs.PathLemmas.{covers-longer, covers-length, split_at}
 use Rattle.fsfs_model.proofs.MergeWalk.{gone_down}
 use Rattle.fsfs_model.proofs.NextHistory.{IsWhole, whole, at_most}
-use Rattle.fsfs_ancestry.specs.Trees.{ShowTrees}
-use Rattle.fsfs_ancestry.proofs.Standing.{for_each}
-use Rattle.fsfs_ancestry.proofs.Earlier.{stands_of_id, pred_same}
-use Rattle.fsfs_ancestry.proofs.Behind.{shown_there}
-use Rattle.fsfs_ancestry.proofs.Roots.{length_push}
-use Rattle.fsfs_drafts.specs.OwnSides.{NodesAt, in_txn, IsSuccessor, IsOwnSide, AreNodesOf}
-use Rattle.fsfs_drafts.proofs.Lasting.{lasting}
+use Rattle.fsfs_revision.specs.Trees.{ShowTrees}
+use Rattle.fsfs_revision.proofs.Standing.{for_each}
+use Rattle.fsfs_revision.proofs.Earlier.{stands_of_id, pred_same}
+use Rattle.fsfs_revision.proofs.Behind.{shown_there}
+use Rattle.fsfs_revision.proofs.Roots.{length_push}
+use Rattle.fsfs_draft.specs.OwnSides.{NodesAt, in_txn, IsSuccessor, IsOwnSide, AreNodesOf}
+use Rattle.fsfs_draft.proofs.Lasting.{lasting}
 use Rattle.fsfs_merge.proofs.SightLaw.{some_node, node_some, props_touched}
-use Rattle.fsfs_drafts.specs.NodeDrafts.{draft_root, IsOwn, IsDraft}
-use Rattle.fsfs_ids.proofs.Coming.{copy_or}
+use Rattle.fsfs_draft.specs.NodeDrafts.{draft_root, IsOwn, IsDraft}
+use Rattle.fsfs_draft.proofs.Coming.{copy_or}
 use Rattle.fsfs_final.specs.Final.{IsFinal, Finished, AsItWas, Done, IsWritten}
-use Rattle.fsfs_drafts.specs.Draws.{FreshAt, MadeHere, CameWith, DrawsTree}
+use Rattle.fsfs_draft.specs.Draws.{FreshAt, MadeHere, CameWith, DrawsTree}
 use Rattle.fsfs_final.specs.Shown.{ReadsContents, WrittenShowsLanding}
 use Rattle.std.proofs.Math.Seq.{take-length}
 use Rattle.fsfs_final.proofs.Copies.{short, split, same_or_not, copied_down, nearest_here, nearest_above, NearestIs, AtPath, Above, nearest_is, nearest_at}
 use Rattle.std.proofs.lemmas.Bool.{and_from, and_parts, both_ways, cases_Bool, false_from_ne_true, not-true}
-use Rattle.fsfs_drafts.proofs.HangLaw.{some_same}
+use Rattle.fsfs_draft.proofs.HangLaw.{some_same}
 
 -- ---- the landing on the base itself
 
@@ -254,7 +254,7 @@ module _ (look : RevisionBytes) (top : ℕ) (tree : ℕ → TreeFunction) (t : T
   above_at : (p : Path) (name : PathName) (x : NodeRev) → StandsAt look top (p ++ name ∷ []) x → (d : NodeRev) × StandsAt look top p d
   above_at p name x at =
       let n = some_node look top (tree top) (shows.each top (omega arith)) base are (p ++ name ∷ []) x (base_at (p ++ name ∷ []) x at) in
-      let base_whole = whole tree top top (tree top) [] (shown_revisions look top tree shows) (Rattle.fsfs_flat.specs.Transactions.Begun top (omega arith)) in
+      let base_whole = whole tree top top (tree top) [] (shown_revisions look top tree shows) (Rattle.fsfs_model.specs.Transactions.Begun top (omega arith)) in
       let some = base_whole.sound.closed p (p ++ name ∷ []) (covers-longer p (name ∷ [])) (ap is_some n.1) in
       by (tree top p) refl some
     where
@@ -400,7 +400,7 @@ module _ (look : RevisionBytes) (top : ℕ) (tree : ℕ → TreeFunction) (t : T
             let same = pred_same look a.0 b.0 g.0 b.1 g.2 in
             let of : IsOf look top g.0 = subst (λ (x : NodeRev). IsOf look top x) same b.2 in
             let is_dir = sym (draft.pred p a.0 g.0 a.1 mine_dir g.2).1 ∙ a.2 in
-            (g.1, g.4, (of.0, of.1 ++ name ∷ [], of.2, Rattle.fsfs_shows.proofs.Walks.child_stands look of.0 g.0 g.1 of.1 name of.3 is_dir g.3))
+            (g.1, g.4, (of.0, of.1 ++ name ∷ [], of.2, Rattle.fsfs_revision.proofs.Walks.child_stands look of.0 g.0 g.1 of.1 name of.3 is_dir g.3))
       ]
 
   -- ---- a node
@@ -425,13 +425,13 @@ module _ (look : RevisionBytes) (top : ℕ) (tree : ℕ → TreeFunction) (t : T
   take_cov (y ∷ p) (suc k) = and_from _ _ (Rattle.fsfs_base.proofs.PathLemmas.same_name-refl y) (take_cov p k)
 
   take_to : (r p : Path) → covers r p ≡ true → take (length r) p ≡ r
-  take_to r p c = ap (λ (x : Path). take (length r) x) (sym (split_at r p c)) ∙ Rattle.fsfs_shows.proofs.Walks.take_front r (drop (length r) p)
+  take_to r p c = ap (λ (x : Path). take (length r) x) (sym (split_at r p c)) ∙ Rattle.fsfs_revision.proofs.Walks.take_front r (drop (length r) p)
 
   contents_le : (p : Path) (v : NodeRev) → StandsAt look N p v → contents_rev v.props ≤ N
   contents_le p v at = let h = stands_home look N p v at in let l = props_le (offset_rev v) v.props h.0.props in omega (arith, h.1, l)
     where
-      offset_rev : NodeRev → Rattle.fsfs_damage.specs.declared.damage.RevOffset.RevOffset
-      offset_rev v = Rattle.fsfs_shows.specs.Reading.offset_of v.id.place
+      offset_rev : NodeRev → Rattle.fsfs_revision.specs.declared.damage.RevOffset.RevOffset
+      offset_rev v = Rattle.fsfs_revision.specs.ShowsReading.offset_of v.id.place
 
   module _ (p : Path) (v : NodeRev) (y : Node) (at : StandsAt look N p v) (is : landed p ≡ Some y) where
     c : Copies p v

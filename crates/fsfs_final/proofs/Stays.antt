@@ -2,27 +2,27 @@
 use Rattle.std.proofs.Common.{◌≡◌, ◌≤◌, ◌<◌, ◌⊎◌, ℕ, zero, suc, [], ◌∷◌, ◌++◌, length, sym, ap, subst, ◌∙◌, arith, inl, inr}
 use Rattle.std.specs.Prelude.{◌≢◌, Ok, Option, Some, None}
 use Rattle.fsfs_base.specs.Paths.{PathName, Path}
-use Rattle.fsfs_book.specs.Told.{RevisionBytes}
+use Rattle.fsfs_revision.specs.Told.{RevisionBytes}
 use Rattle.fsfs_noderev.specs.declared.node_id.NodeId.{NodeId}
 use Rattle.fsfs_noderev.specs.declared.node_rev.NodeRev.{NodeRev}
-use Rattle.fsfs_shows.specs.Reading.{offset_of, ChildOf}
-use Rattle.fsfs_shows.specs.Chains.{own_rev, IsPred}
-use Rattle.fsfs_shows.specs.IdRules.{IsOf}
-use Rattle.fsfs_shows.proofs.TreeLaw.{of_id_home}
-use Rattle.fsfs_shows.proofs.Walks.{child_stands}
-use Rattle.fsfs_ancestry.specs.Bounded.{AreSameUpTo}
-use Rattle.fsfs_ancestry.proofs.Earlier.{stands_of_id, pred_same}
-use Rattle.fsfs_ancestry.proofs.Roots.{length_push}
-use Rattle.fsfs_ancestry.proofs.Bounded.{back_same, of_id_same, child_same}
-use Rattle.fsfs_ancestry.proofs.BoundedIds.{InTime, in_time, behind_to, stands_to}
-use Rattle.fsfs_drafts.specs.OwnSides.{NodesAt, in_txn}
-use Rattle.fsfs_drafts.specs.NodeDrafts.{IsOwn, DraftPart, IsDraft}
-use Rattle.fsfs_drafts.specs.NodeDrafts as drafts
-use Rattle.fsfs_ids.proofs.Coming.{copy_or}
+use Rattle.fsfs_revision.specs.ShowsReading.{offset_of, ChildOf}
+use Rattle.fsfs_revision.specs.Chains.{own_rev, IsPred}
+use Rattle.fsfs_revision.specs.IdRules.{IsOf}
+use Rattle.fsfs_revision.proofs.TreeLaw.{of_id_home}
+use Rattle.fsfs_revision.proofs.Walks.{child_stands}
+use Rattle.fsfs_revision.specs.Bounded.{AreSameUpTo}
+use Rattle.fsfs_revision.proofs.Earlier.{stands_of_id, pred_same}
+use Rattle.fsfs_revision.proofs.Roots.{length_push}
+use Rattle.fsfs_revision.proofs.Bounded.{back_same, of_id_same, child_same}
+use Rattle.fsfs_revision.proofs.BoundedIds.{InTime, in_time, behind_to, stands_to}
+use Rattle.fsfs_draft.specs.OwnSides.{NodesAt, in_txn}
+use Rattle.fsfs_draft.specs.NodeDrafts.{IsOwn, DraftPart, IsDraft}
+use Rattle.fsfs_draft.specs.NodeDrafts as drafts
+use Rattle.fsfs_draft.proofs.Coming.{copy_or}
 use Rattle.fsfs_final.proofs.LastNames.{Root, Named, ends}
 use Rattle.fsfs_final.specs.Staying.{DraftsStay}
 use Rattle.std.proofs.lemmas.Bool.{both_ways, cases_Bool}
-use Rattle.fsfs_drafts.proofs.HangLaw.{some_same}
+use Rattle.fsfs_draft.proofs.HangLaw.{some_same}
 
 module _ (look : RevisionBytes) (top b : ℕ) (own : NodesAt) (low : b ≤ top) (draft : IsDraft look top b own) where
   pub own_dir : (p : Path) (name : PathName) (d u : NodeRev) → own p ≡ Some d → own (p ++ name ∷ []) ≡ Some u → IsOwn u → IsOwn d

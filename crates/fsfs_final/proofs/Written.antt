@@ -5,23 +5,23 @@ use Rattle.fsfs_base.specs.Paths.{PathName, Path}
 use Rattle.fsfs_tree.specs.Nodes.{TreeFunction}
 use Rattle.fsfs_base.specs.declared.kind.Kind.{Kind}
 use Rattle.fsfs_base.specs.declared.kind.Kind.TheVariants.{File, Dir}
-use Rattle.fsfs_book.specs.Told.{RevisionBytes}
+use Rattle.fsfs_revision.specs.Told.{RevisionBytes}
 use Rattle.fsfs_noderev.specs.declared.node_rev.NodeRev.{NodeRev}
-use Rattle.fsfs_damage.specs.declared.wrong.Wrong.{Wrong}
-use Rattle.fsfs_shows.specs.Reading.{ChildOf, Met, Stands, Lacking, Blocked, OrLacking, InDirectory, MetFrom, MetAt, StandsAt}
-use Rattle.fsfs_damage.proofs.OneAnswer.{ok_same}
-use Rattle.fsfs_shows.proofs.OneWalk.{child_one, stands_same}
-use Rattle.fsfs_shows.proofs.Walks.{met_behind, in_dir, child_stands}
-use Rattle.fsfs_ancestry.specs.Trees.{ShowTrees}
-use Rattle.fsfs_ancestry.proofs.Standing.{for_each}
-use Rattle.fsfs_ancestry.proofs.Roots.{length_push}
-use Rattle.fsfs_drafts.specs.OwnSides.{NodesAt, in_txn}
-use Rattle.fsfs_drafts.specs.NodeDrafts.{IsOwn, IsDraft}
+use Rattle.fsfs_revision.specs.declared.wrong.Wrong.{Wrong}
+use Rattle.fsfs_revision.specs.ShowsReading.{ChildOf, Met, Stands, Lacking, Blocked, OrLacking, InDirectory, MetFrom, MetAt, StandsAt}
+use Rattle.fsfs_revision.proofs.OneAnswer.{ok_same}
+use Rattle.fsfs_revision.proofs.OneWalk.{child_one, stands_same}
+use Rattle.fsfs_revision.proofs.Walks.{met_behind, in_dir, child_stands}
+use Rattle.fsfs_revision.specs.Trees.{ShowTrees}
+use Rattle.fsfs_revision.proofs.Standing.{for_each}
+use Rattle.fsfs_revision.proofs.Roots.{length_push}
+use Rattle.fsfs_draft.specs.OwnSides.{NodesAt, in_txn}
+use Rattle.fsfs_draft.specs.NodeDrafts.{IsOwn, IsDraft}
 use Rattle.fsfs_final.proofs.LastNames.{Root, Named, ends}
 use Rattle.fsfs_final.specs.Final.{IsFinal, Finished, AsItWas, Done, IsWritten}
 use Rattle.fsfs_final.specs.Directories.{ReadsAsDraft, HasAllBelow, DirectoriesAreEnough}
 use Rattle.std.proofs.lemmas.Bool.{both_ways, cases_Bool}
-use Rattle.fsfs_drafts.proofs.HangLaw.{some_same}
+use Rattle.fsfs_draft.proofs.HangLaw.{some_same}
 
 -- ---- walks that end early go on so
 
@@ -161,7 +161,7 @@ module _ (look : RevisionBytes) (top : ℕ) (tree : ℕ → TreeFunction) (own :
           read (inl w) =
               let l = draft.lasting p d e w.0 in
               let met = (shows.each l.0 l.2).each (l.1 ++ name ∷ []) in
-              let root_is : met.1.0 ≡ l.3.0 = ok_same met.1.0 l.3.0 (Rattle.fsfs_shows.proofs.OneNode.root_of_one look l.0 (Ok met.1.0) (Ok l.3.0) met.1.1 l.3.1) in
+              let root_is : met.1.0 ≡ l.3.0 = ok_same met.1.0 l.3.0 (Rattle.fsfs_revision.proofs.OneNode.root_of_one look l.0 (Ok met.1.0) (Ok l.3.0) met.1.1 l.3.1) in
               let c = child_in look l.3.0 d 0 l.1 name met.0 l.3.2 (sym (ap (λ (z : NodeRev). z.kind) w.1) ∙ kind) (subst (λ (z : NodeRev). MetFrom look z 0 (l.1 ++ name ∷ []) (Ok met.0)) root_is met.1.2) in
               (c.0, subst (λ (z : NodeRev). ChildOf look z name (Ok c.0)) (sym w.1) c.1)
           read (inr w) = some (own (p ++ name ∷ [])) refl

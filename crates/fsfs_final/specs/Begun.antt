@@ -1,14 +1,14 @@
 -- The draft of a transaction that has just begun: the base, with a root of its own.
 use Rattle.std.specs.Prelude.{◌≡◌, ◌≤◌, ℕ, false, [], ◌∷◌, ◌+◌, ◌-◌, ◌^◌, min, Some}
 use Rattle.fsfs_tree.specs.Nodes.{TreeFunction}
-use Rattle.fsfs_book.specs.Told.{RevisionBytes}
+use Rattle.fsfs_revision.specs.Told.{RevisionBytes}
 use Rattle.fsfs_noderev.specs.declared.node_rev.NodeRev.{NodeRev}
-use Rattle.fsfs_shows.specs.Reading.{StandsAt}
-use Rattle.fsfs_shows.specs.Chains.{copy_root_of}
-use Rattle.fsfs_ancestry.specs.Trees.{ShowTrees}
-use Rattle.fsfs_drafts.specs.OwnSides.{NodesAt, IsSuccessor, IsOwnSide, AreNodesOf}
-use Rattle.fsfs_drafts.specs.NodeDrafts.{draft_root, IsDraft}
-use Rattle.fsfs_drafts.specs.Draws.{DrawsTree}
+use Rattle.fsfs_revision.specs.ShowsReading.{StandsAt}
+use Rattle.fsfs_revision.specs.Chains.{copy_root_of}
+use Rattle.fsfs_revision.specs.Trees.{ShowTrees}
+use Rattle.fsfs_draft.specs.OwnSides.{NodesAt, IsSuccessor, IsOwnSide, AreNodesOf}
+use Rattle.fsfs_draft.specs.NodeDrafts.{draft_root, IsDraft}
+use Rattle.fsfs_draft.specs.Draws.{DrawsTree}
 
 -- v is the root of a new transaction on a revision whose root is x
 pub record IsFirstRoot (top : ℕ) (x v : NodeRev) : Type 0 where

@@ -6,22 +6,22 @@ use Rattle.std.specs.Prelude.{◌≡◌, ℕ, true, false, List, [], ◌∷◌, 
 use Rattle.fsfs_base.specs.Paths.{PathName, Path}
 use Rattle.fsfs_base.specs.declared.kind.Kind.{Kind}
 use Rattle.fsfs_base.specs.declared.kind.Kind.TheVariants.{Dir}
-use Rattle.fsfs_book.specs.Told.{RevisionBytes}
+use Rattle.fsfs_revision.specs.Told.{RevisionBytes}
 use Rattle.fsfs_noderev.specs.declared.node_id.NodeId.{NodeId}
 use Rattle.fsfs_noderev.specs.declared.node_id.Place.TheVariants as places
 use Rattle.fsfs_noderev.specs.declared.rep.Rep.{Rep}
 use Rattle.fsfs_noderev.specs.declared.rep.Contents.TheVariants as contents
 use Rattle.fsfs_noderev.specs.declared.node_rev.NodeRev.{NodeRev}
-use Rattle.fsfs_hash.specs.Dump.{IsDump}
-use Rattle.fsfs_rep.specs.Frames.{rev_of, RepIn}
+use Rattle.fsfs_layout.specs.Dump.{IsDump}
+use Rattle.fsfs_revision.specs.Frames.{rev_of, RepIn}
 use Rattle.fsfs_revision.specs.Nodes.{IsNodeAt, is_root, is_before}
-use Rattle.fsfs_damage.specs.Damages.{place_of}
+use Rattle.fsfs_revision.specs.DamageDamages.{place_of}
 use Rattle.fsfs_revision.specs.Trailers.{EndsWith}
 use Rattle.fsfs_revision.specs.declared.trailer.Trailer.{Trailer}
-use Rattle.fsfs_shows.specs.Reading.{offset_of, Pairs, DirEntry, AreEntries, named, ChildOf}
-use Rattle.fsfs_shows.specs.Chains.{IsPred}
-use Rattle.fsfs_drafts.specs.OwnSides.{NodesAt, in_txn}
-use Rattle.fsfs_drafts.specs.NodeDrafts.{IsOwn, IsDraft}
+use Rattle.fsfs_revision.specs.ShowsReading.{offset_of, Pairs, DirEntry, AreEntries, named, ChildOf}
+use Rattle.fsfs_revision.specs.Chains.{IsPred}
+use Rattle.fsfs_draft.specs.OwnSides.{NodesAt, in_txn}
+use Rattle.fsfs_draft.specs.NodeDrafts.{IsOwn, IsDraft}
 use Rattle.fsfs_final.specs.Final.{IsFinal}
 use Rattle.fsfs_final.specs.Directories.{ReadsAsDraft}
 

@@ -2,17 +2,17 @@
 use Rattle.std.specs.Prelude.{◌<◌, ℕ, suc, nat_le, List, if◌then◌else◌}
 use Rattle.fsfs_base.specs.Paths.{Path}
 use Rattle.fsfs_tree.specs.Nodes.{TreeFunction}
-use Rattle.fsfs_flat.specs.declared.mark.Mark.{Mark}
-use Rattle.fsfs_flat.specs.Landing.{NoClash, land}
-use Rattle.fsfs_flat.specs.Transactions.{IsTransaction}
-use Rattle.fsfs_book.specs.Told.{RevisionBytes}
-use Rattle.fsfs_ancestry.specs.Trees.{ShowTrees}
+use Rattle.fsfs_model.specs.declared.mark.Mark.{Mark}
+use Rattle.fsfs_model.specs.Landing.{NoClash, land}
+use Rattle.fsfs_model.specs.Transactions.{IsTransaction}
+use Rattle.fsfs_revision.specs.Told.{RevisionBytes}
+use Rattle.fsfs_revision.specs.Trees.{ShowTrees}
 use Rattle.fsfs_merge.specs.declared.sight.Sight.{Sight}
-use Rattle.fsfs_drafts.specs.OwnSides.{NodesAt, IsOwnSide, AreNodesOf}
+use Rattle.fsfs_draft.specs.OwnSides.{NodesAt, IsOwnSide, AreNodesOf}
 use Rattle.fsfs_merge.specs.MergeLaws.{IsMerge, landed_nodes}
-use Rattle.fsfs_drafts.specs.NodeDrafts.{IsDraft}
+use Rattle.fsfs_draft.specs.NodeDrafts.{IsDraft}
 use Rattle.fsfs_final.specs.Final.{IsWritten}
-use Rattle.fsfs_drafts.specs.Draws.{DrawsTree}
+use Rattle.fsfs_draft.specs.Draws.{DrawsTree}
 use Rattle.fsfs_final.specs.Shown.{ReadsContents}
 
 -- the trees up to `top`, and one more

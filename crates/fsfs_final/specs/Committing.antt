@@ -2,22 +2,22 @@
 use Rattle.std.specs.Prelude.{◌≡◌, ◌<◌, ◌≤◌, ℕ, suc, List, []}
 use Rattle.fsfs_base.specs.Paths.{Path}
 use Rattle.fsfs_tree.specs.Nodes.{TreeFunction}
-use Rattle.fsfs_flat.specs.declared.mark.Mark.{Mark}
-use Rattle.fsfs_flat.specs.Landing.{NoClash, land}
-use Rattle.fsfs_flat.specs.Transactions.{IsTransaction}
-use Rattle.fsfs_book.specs.Told.{RevisionBytes}
+use Rattle.fsfs_model.specs.declared.mark.Mark.{Mark}
+use Rattle.fsfs_model.specs.Landing.{NoClash, land}
+use Rattle.fsfs_model.specs.Transactions.{IsTransaction}
+use Rattle.fsfs_revision.specs.Told.{RevisionBytes}
 use Rattle.fsfs_noderev.specs.declared.node_rev.NodeRev.{NodeRev}
-use Rattle.fsfs_shows.specs.Reading.{StandsAt}
-use Rattle.fsfs_ancestry.specs.Bounded.{AreSameUpTo}
-use Rattle.fsfs_ancestry.specs.Trees.{ShowTrees}
+use Rattle.fsfs_revision.specs.ShowsReading.{StandsAt}
+use Rattle.fsfs_revision.specs.Bounded.{AreSameUpTo}
+use Rattle.fsfs_revision.specs.Trees.{ShowTrees}
 use Rattle.fsfs_merge.specs.declared.sight.Sight.{Sight}
-use Rattle.fsfs_drafts.specs.OwnSides.{NodesAt, IsOwnSide, AreNodesOf}
+use Rattle.fsfs_draft.specs.OwnSides.{NodesAt, IsOwnSide, AreNodesOf}
 use Rattle.fsfs_merge.specs.MergeLaws.{IsMerge, landed_nodes}
-use Rattle.fsfs_drafts.specs.NodeDrafts.{IsDraft}
+use Rattle.fsfs_draft.specs.NodeDrafts.{IsDraft}
 use Rattle.fsfs_final.specs.Directories.{HasAllBelow}
 use Rattle.fsfs_final.specs.Begun.{IsFirstRoot, begun}
 use Rattle.fsfs_final.specs.Bytes.{HoldsDraft}
-use Rattle.fsfs_drafts.specs.Draws.{DrawsTree}
+use Rattle.fsfs_draft.specs.Draws.{DrawsTree}
 use Rattle.fsfs_final.specs.Contents.{LastingContents, OwnContents}
 use Rattle.fsfs_final.specs.FittingChanges.{ChangesFit}
 use Rattle.fsfs_final.specs.Commits.{with_next}

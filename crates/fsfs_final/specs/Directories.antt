@@ -3,12 +3,12 @@ use Rattle.std.specs.Prelude.{◌≡◌, ℕ, suc, false, [], ◌∷◌, ◌++�
 use Rattle.fsfs_base.specs.Paths.{PathName, Path}
 use Rattle.fsfs_tree.specs.Nodes.{TreeFunction}
 use Rattle.fsfs_base.specs.declared.kind.Kind.TheVariants.{Dir}
-use Rattle.fsfs_book.specs.Told.{RevisionBytes}
+use Rattle.fsfs_revision.specs.Told.{RevisionBytes}
 use Rattle.fsfs_noderev.specs.declared.node_rev.NodeRev.{NodeRev}
-use Rattle.fsfs_shows.specs.Reading.{RootOf, ChildOf}
-use Rattle.fsfs_ancestry.specs.Trees.{ShowTrees}
-use Rattle.fsfs_drafts.specs.OwnSides.{NodesAt, in_txn}
-use Rattle.fsfs_drafts.specs.NodeDrafts.{IsOwn, IsDraft}
+use Rattle.fsfs_revision.specs.ShowsReading.{RootOf, ChildOf}
+use Rattle.fsfs_revision.specs.Trees.{ShowTrees}
+use Rattle.fsfs_draft.specs.OwnSides.{NodesAt, in_txn}
+use Rattle.fsfs_draft.specs.NodeDrafts.{IsOwn, IsDraft}
 use Rattle.fsfs_final.specs.Final.{IsFinal, IsWritten}
 
 -- the root is the draft's; a directory of the transaction has the draft's entries, each as it stands in the revision; `done` gives what stands there for

@@ -1,16 +1,16 @@
 -- A draft's node-revisions as they stand in the revision that is made of it.
 use Rattle.std.specs.Prelude.{◌≡◌, ◌≢◌, ℕ, suc, true, false, Some, None, Ok}
 use Rattle.fsfs_base.specs.Paths.{Path}
-use Rattle.fsfs_book.specs.Told.{RevisionBytes}
+use Rattle.fsfs_revision.specs.Told.{RevisionBytes}
 use Rattle.fsfs_noderev.specs.declared.node_id.Part.{Part}
 use Rattle.fsfs_noderev.specs.declared.node_id.Part.TheVariants as parts
 use Rattle.fsfs_noderev.specs.declared.rep.Contents.TheVariants as contents
 use Rattle.fsfs_noderev.specs.declared.node_rev.NodeRev.{NodeRev}
-use Rattle.fsfs_shows.specs.Reading.{Met, MetAt, StandsAt}
-use Rattle.fsfs_shows.specs.Chains.{own_rev, copy_root_of, contents_rev}
-use Rattle.fsfs_shows.specs.IdRules.{IdRule}
-use Rattle.fsfs_drafts.specs.OwnSides.{NodesAt, in_txn}
-use Rattle.fsfs_drafts.specs.NodeDrafts.{draft_root, IsDraft}
+use Rattle.fsfs_revision.specs.ShowsReading.{Met, MetAt, StandsAt}
+use Rattle.fsfs_revision.specs.Chains.{own_rev, copy_root_of, contents_rev}
+use Rattle.fsfs_revision.specs.IdRules.{IdRule}
+use Rattle.fsfs_draft.specs.OwnSides.{NodesAt, in_txn}
+use Rattle.fsfs_draft.specs.NodeDrafts.{draft_root, IsDraft}
 
 -- `_x` becomes `x-<revision>`
 abbrev pub final_part : ℕ → Part → Part

@@ -1,17 +1,17 @@
 -- A draft's node-revision with final ids and representations, as the writer makes it.
 use Rattle.std.specs.Prelude.{◌≡◌, ◌≢◌, ℕ, suc, true, false, Option, Some, None, unwrap_or}
 use Rattle.fsfs_base.specs.Paths.{Path}
-use Rattle.fsfs_book.specs.Told.{RevisionBytes}
+use Rattle.fsfs_revision.specs.Told.{RevisionBytes}
 use Rattle.fsfs_noderev.specs.declared.node_id.Place.TheVariants as places
 use Rattle.fsfs_noderev.specs.declared.rep.Contents.{Contents}
 use Rattle.fsfs_noderev.specs.declared.rep.Contents.TheVariants as contents
 use Rattle.fsfs_noderev.specs.declared.node_rev.CopyRoot.{CopyRoot}
 use Rattle.fsfs_noderev.specs.declared.node_rev.NodeRev.{NodeRev}
 use Rattle.fsfs_revision.specs.Nodes.{has_revision_rep, is_of_revision, rep_before, is_ordered}
-use Rattle.fsfs_damage.specs.Damages.{place_of}
-use Rattle.fsfs_shows.specs.Chains.{contents_rev}
-use Rattle.fsfs_drafts.specs.OwnSides.{NodesAt}
-use Rattle.fsfs_drafts.specs.NodeDrafts.{IsOwn, IsDraft}
+use Rattle.fsfs_revision.specs.DamageDamages.{place_of}
+use Rattle.fsfs_revision.specs.Chains.{contents_rev}
+use Rattle.fsfs_draft.specs.OwnSides.{NodesAt}
+use Rattle.fsfs_draft.specs.NodeDrafts.{IsOwn, IsDraft}
 use Rattle.fsfs_final.specs.Final.{final_part, IsFinal}
 
 abbrev pub final_root : ℕ → Option CopyRoot → Option CopyRoot

@@ -3,18 +3,18 @@ use Rattle.std.specs.Prelude.{◌≡◌, ◌≤◌, ℕ, true, List, [], ◌++�
 use Rattle.md5.specs.Md5.{md5}
 use Rattle.fsfs_base.specs.Paths.{Path, same_path}
 use Rattle.fsfs_base.specs.declared.kind.Kind.TheVariants.{Dir}
-use Rattle.fsfs_book.specs.Told.{RevisionBytes}
+use Rattle.fsfs_revision.specs.Told.{RevisionBytes}
 use Rattle.fsfs_noderev.specs.NodeRevs.{IsNodeRev}
 use Rattle.fsfs_noderev.specs.declared.node_id.Place.TheVariants as places
 use Rattle.fsfs_noderev.specs.declared.rep.Rep.{Rep}
 use Rattle.fsfs_noderev.specs.declared.node_rev.NodeRev.{NodeRev}
 use Rattle.fsfs_revision.specs.Nodes.{IsNodeAt, is_of_revision, is_ordered, is_root}
-use Rattle.fsfs_damage.specs.Damages.{place_of}
+use Rattle.fsfs_revision.specs.DamageDamages.{place_of}
 use Rattle.fsfs_revision.specs.Trailers.{EndsWith}
 use Rattle.fsfs_revision.specs.declared.trailer.Trailer.{Trailer}
-use Rattle.fsfs_rep.specs.Frames.{RepIn}
-use Rattle.fsfs_drafts.specs.OwnSides.{NodesAt}
-use Rattle.fsfs_drafts.specs.NodeDrafts.{IsOwn}
+use Rattle.fsfs_revision.specs.Frames.{RepIn}
+use Rattle.fsfs_draft.specs.OwnSides.{NodesAt}
+use Rattle.fsfs_draft.specs.NodeDrafts.{IsOwn}
 use Rattle.fsfs_final.specs.Final.{IsFinal}
 use Rattle.fsfs_final.specs.Bytes.{Listed, HoldsDraft}
 

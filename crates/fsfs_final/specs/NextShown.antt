@@ -3,15 +3,15 @@ use Rattle.std.specs.Prelude.{◌≡◌, ℕ, List, [], ◌∷◌, ◌++◌, len
 use Rattle.std.specs.FinMap.{get}
 use Rattle.fsfs_tree.specs.Revisions.{Revision, tree_of}
 use Rattle.fsfs_tree.specs.Dated.{last_of}
-use Rattle.fsfs_flat.specs.Landing.{land}
-use Rattle.fsfs_flat.specs.Transactions.{Entry, IsEntry, IsNext}
-use Rattle.fsfs_book.specs.Told.{RevisionBytes}
-use Rattle.fsfs_hash.specs.Dump.{IsDump}
+use Rattle.fsfs_model.specs.Landing.{land}
+use Rattle.fsfs_model.specs.Transactions.{Entry, IsEntry, IsNext}
+use Rattle.fsfs_revision.specs.Told.{RevisionBytes}
+use Rattle.fsfs_layout.specs.Dump.{IsDump}
 use Rattle.fsfs_stands.specs.Changes.{AreChangesOf}
 use Rattle.fsfs_stands.specs.History.{ShowsHistory}
-use Rattle.fsfs_drafts.specs.OwnSides.{NodesAt, IsOwnSide, AreNodesOf}
-use Rattle.fsfs_drafts.specs.NodeDrafts.{IsDraft}
-use Rattle.fsfs_drafts.specs.Draws.{DrawsTree}
+use Rattle.fsfs_draft.specs.OwnSides.{NodesAt, IsOwnSide, AreNodesOf}
+use Rattle.fsfs_draft.specs.NodeDrafts.{IsDraft}
+use Rattle.fsfs_draft.specs.Draws.{DrawsTree}
 use Rattle.fsfs_final.specs.Final.{IsWritten}
 use Rattle.fsfs_final.specs.Shown.{ReadsContents}
 

@@ -1,12 +1,12 @@
 -- A finished node-revision of a draft names only what stands before it.
 use Rattle.std.specs.Prelude.{◌≡◌, ℕ, suc, true, Some}
 use Rattle.fsfs_base.specs.Paths.{Path}
-use Rattle.fsfs_book.specs.Told.{RevisionBytes}
+use Rattle.fsfs_revision.specs.Told.{RevisionBytes}
 use Rattle.fsfs_noderev.specs.declared.node_rev.NodeRev.{NodeRev}
 use Rattle.fsfs_revision.specs.Nodes.{has_revision_root, rep_before, is_ordered}
-use Rattle.fsfs_damage.specs.Damages.{place_of}
-use Rattle.fsfs_drafts.specs.OwnSides.{NodesAt}
-use Rattle.fsfs_drafts.specs.NodeDrafts.{IsOwn, IsDraft}
+use Rattle.fsfs_revision.specs.DamageDamages.{place_of}
+use Rattle.fsfs_draft.specs.OwnSides.{NodesAt}
+use Rattle.fsfs_draft.specs.NodeDrafts.{IsOwn, IsDraft}
 use Rattle.fsfs_final.specs.Final.{IsFinal}
 
 -- of its representations the writer knows; of its predecessor, source and copy root the draft tells

@@ -2,17 +2,17 @@
 use Rattle.std.specs.Prelude.{◌≡◌, ℕ, suc, List, Some, Ok}
 use Rattle.fsfs_base.specs.Paths.{Path}
 use Rattle.fsfs_tree.specs.Nodes.{Node, TreeFunction}
-use Rattle.fsfs_flat.specs.declared.mark.Mark.{Mark}
-use Rattle.fsfs_flat.specs.Landing.{land}
-use Rattle.fsfs_flat.specs.Transactions.{IsTransaction}
-use Rattle.fsfs_book.specs.Told.{RevisionBytes}
+use Rattle.fsfs_model.specs.declared.mark.Mark.{Mark}
+use Rattle.fsfs_model.specs.Landing.{land}
+use Rattle.fsfs_model.specs.Transactions.{IsTransaction}
+use Rattle.fsfs_revision.specs.Told.{RevisionBytes}
 use Rattle.fsfs_noderev.specs.declared.node_rev.NodeRev.{NodeRev}
-use Rattle.fsfs_shows.specs.Reading.{PropsOf, StandsAt}
-use Rattle.fsfs_shows.specs.Shown.{IsTextOf, Shows}
-use Rattle.fsfs_ancestry.specs.Trees.{ShowTrees}
-use Rattle.fsfs_drafts.specs.OwnSides.{NodesAt, IsOwnSide, AreNodesOf}
-use Rattle.fsfs_drafts.specs.NodeDrafts.{IsDraft}
-use Rattle.fsfs_drafts.specs.Draws.{DrawsTree}
+use Rattle.fsfs_revision.specs.ShowsReading.{PropsOf, StandsAt}
+use Rattle.fsfs_revision.specs.Shown.{IsTextOf, Shows}
+use Rattle.fsfs_revision.specs.Trees.{ShowTrees}
+use Rattle.fsfs_draft.specs.OwnSides.{NodesAt, IsOwnSide, AreNodesOf}
+use Rattle.fsfs_draft.specs.NodeDrafts.{IsDraft}
+use Rattle.fsfs_draft.specs.Draws.{DrawsTree}
 use Rattle.fsfs_final.specs.Final.{IsWritten}
 
 -- texts and properties read as the landing's

@@ -1,11 +1,41 @@
 //! The bytes of a new revision, of a draft's node-revisions.
+//! The pieces of a new revision's bytes behind its prototype file: lists, finished node-revisions, and the end.
+//!
+//! They are put at the end of a buffer, whose first byte stands so many bytes behind the beginning of the revision.
+//! The own node-revisions of a transaction, in the order in which they are put into a new revision.
+//! A draft's own node-revisions put one after another into a new revision, behind its prototype file.
 #![tactic(auto)]
 
+mod children;
+mod ending;
+mod entries;
+mod error;
+mod finishing;
 mod laws;
+mod laying_laws;
+mod lists;
+mod naming;
+mod nodes;
+mod offsets;
+mod order;
+mod putting;
+mod putting_laws;
 
+pub use ending::put_end;
+pub use entries::entry_pairs;
+pub use error::OrderError;
 pub use laws::{
     begun_is_a_draft, changes_fit_the_bytes, commits_add_revisions, contents_are_read,
     directories_are_enough, drafts_stay, finals_are_in_order, finishing_is_final,
     held_drafts_are_committed, held_drafts_are_read, pieces_are_read, the_next_revision_is_shown,
     what_is_laid_is_held, written_drafts_keep_ids, written_drafts_show_the_landing,
 };
+pub use laying_laws::{
+    draft_texts_stand_before, put_ends_are_read, put_lists_are_framed, put_nodes_are_laid,
+};
+pub use lists::put_list;
+pub use naming::{final_entries, name_final};
+pub use nodes::put_node;
+pub use order::own_nodes;
+pub use putting::put_all;
+pub use putting_laws::puts_lay;

@@ -8,15 +8,15 @@ use Rattle.std.specs.FinMap.{get, get-insert, get-remove, get-empty}
 use Rattle.fsfs_base.specs.Files.{Files}
 use Rattle.fsfs_base.proofs.FileLemmas.{same_files}
 use Rattle.fsfs_disk.specs.Benches.{with_file}
-use Rattle.fsfs_calls.specs.Paths.{same_text, has_path}
-use Rattle.fsfs_calls.specs.Listing.{is_entry}
-use Rattle.fsfs_calls.specs.Named.{named_paths}
-use Rattle.fsfs_calls.specs.CallRecord.{CallRecord, Call, Named, Create, Remove, SyncFile, FailSync, Append, Contents, Standing, no_contents, more_bytes, made_firm, made_lost, given, add_call, names_now, contents_now, new_number, Makes, Does}
-use Rattle.fsfs_calls.proofs.PathLemmas.{text_cases}
-use Rattle.fsfs_calls.proofs.NameLemmas.{given_at, given_apart}
-use Rattle.fsfs_calls.proofs.NamedLemmas.{file_is_named}
-use Rattle.fsfs_calls.proofs.LeftLemmas.{now_is_left, number_within}
-use Rattle.fsfs_calls.proofs.OneName.{one_name}
+use Rattle.fsfs_folders.specs.Paths.{same_text, has_path}
+use Rattle.fsfs_folders.specs.Listing.{is_entry}
+use Rattle.fsfs_folders.specs.Named.{named_paths}
+use Rattle.fsfs_folders.specs.CallRecord.{CallRecord, Call, Named, Create, Remove, SyncFile, FailSync, Append, Contents, Standing, no_contents, more_bytes, made_firm, made_lost, given, add_call, names_now, contents_now, new_number, Makes, Does}
+use Rattle.fsfs_folders.proofs.PathLemmas.{text_cases}
+use Rattle.fsfs_folders.proofs.NameLemmas.{given_at, given_apart}
+use Rattle.fsfs_folders.proofs.NamedLemmas.{file_is_named}
+use Rattle.fsfs_folders.proofs.LeftLemmas.{now_is_left, number_within}
+use Rattle.fsfs_folders.proofs.OneName.{one_name}
 use Rattle.fsfs_folders.specs.BenchFiles.{file_held, bytes_of, gathered, files_held, firm_part, firm_held, Sets}
 use Rattle.fsfs_folders.specs.Writing.{joined, with_pieces, Writes}
 use Rattle.fsfs_folders.proofs.WritingLemmas.{pieces_names, pieces_bytes, pieces_others}

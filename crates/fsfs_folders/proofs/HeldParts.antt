@@ -5,14 +5,14 @@ use Rattle.std.specs.Prelude.{◌||◌, ◌&&◌, not, is_some, length, Option, 
 use Rattle.std.specs.Cmp.Lexicographic.{nat_list_cmp_total}
 use Rattle.std.specs.FinMap.{get, get-insert}
 use Rattle.fsfs_disk.specs.Trace.{Operation, Done, Adopt, files_after}
-use Rattle.fsfs_calls.specs.Paths.{same_text, has_path, is_below}
-use Rattle.fsfs_calls.specs.CallRecord.{Call, Named, DropFolder, Take, Beginning, Standing, Contents, is_reachable, given, names_after, contents_after, file_count}
-use Rattle.fsfs_calls.specs.Named.{named_paths}
-use Rattle.fsfs_calls.specs.Remains.{AreNamesLeft}
-use Rattle.fsfs_calls.proofs.PathLemmas.{text_cases}
-use Rattle.fsfs_calls.proofs.NameLemmas.{comes_from, reachable_without}
-use Rattle.fsfs_calls.proofs.NamedLemmas.{file_is_named}
-use Rattle.fsfs_calls.proofs.LeftLemmas.{now_is_left, number_within, folder_is_now, files_are_now}
+use Rattle.fsfs_folders.specs.Paths.{same_text, has_path, is_below}
+use Rattle.fsfs_folders.specs.CallRecord.{Call, Named, DropFolder, Take, Beginning, Standing, Contents, is_reachable, given, names_after, contents_after, file_count}
+use Rattle.fsfs_folders.specs.Named.{named_paths}
+use Rattle.fsfs_folders.specs.Remains.{AreNamesLeft}
+use Rattle.fsfs_folders.proofs.PathLemmas.{text_cases}
+use Rattle.fsfs_folders.proofs.NameLemmas.{comes_from, reachable_without}
+use Rattle.fsfs_folders.proofs.NamedLemmas.{file_is_named}
+use Rattle.fsfs_folders.proofs.LeftLemmas.{now_is_left, number_within, folder_is_now, files_are_now}
 use Rattle.fsfs_folders.specs.Told.{is_apart, is_in_bench, shown, bytes_after, files_of}
 use Rattle.fsfs_folders.specs.Keeping.{are_names_firm, are_folders_firm, is_place, is_whole, is_dropping, are_none_below}
 use Rattle.fsfs_folders.proofs.ApartLemmas.{bench_apart, in_bench_below, reachable_outside}

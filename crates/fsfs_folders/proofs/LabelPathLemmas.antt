@@ -4,17 +4,17 @@ use Rattle.std.proofs.lemmas.Option.{same_Some, none-some}
 use Rattle.std.proofs.lemmas.List.{length-append, take_at}
 use Rattle.std.specs.Prelude.{◌≤◌, ◌<◌, ◌-◌, ◌^◌, length, take, drop, codes, Option, Some, None}
 use Rattle.std.specs.Fmt.{decimal}
-use Rattle.fsfs_grammar.specs.Base36.{base36}
-use Rattle.fsfs_grammar.specs.Numeral.{numeral_at}
-use Rattle.fsfs_grammar.proofs.Numerals.{numeral_again}
-use Rattle.fsfs_grammar.proofs.Unique.{decimal_plain}
-use Rattle.fsfs_grammar.proofs.Base36Texts.{base36_numeral}
-use Rattle.fsfs_fields.specs.RevNums.{last_rev}
-use Rattle.fsfs_fields.specs.TxnNames.{txn_text, txn_name_at}
-use Rattle.fsfs_fields.proofs.TxnNameTexts.{txn_name_spells}
+use Rattle.fsfs_base.specs.Base36.{base36}
+use Rattle.fsfs_base.specs.Numeral.{numeral_at}
+use Rattle.fsfs_base.proofs.Numerals.{numeral_again}
+use Rattle.fsfs_base.proofs.Unique.{decimal_plain}
+use Rattle.fsfs_base.proofs.Base36Texts.{base36_numeral}
+use Rattle.fsfs_base.specs.RevNums.{last_rev}
+use Rattle.fsfs_base.specs.TxnNames.{txn_text, txn_name_at}
+use Rattle.fsfs_base.proofs.TxnNameTexts.{txn_name_spells}
 use Rattle.fsfs_disk.specs.Labels.{Label, Txn, Pack, HotCopy}
-use Rattle.fsfs_calls.specs.Paths.{same_text}
-use Rattle.fsfs_calls.proofs.PathLemmas.{text_cases, same_itself}
+use Rattle.fsfs_folders.specs.Paths.{same_text}
+use Rattle.fsfs_folders.proofs.PathLemmas.{text_cases, same_itself}
 use Rattle.fsfs_folders.specs.LabelPaths.{bench_folder, between, txns_of, packs_of, first_of, label_at, IsFitting}
 use Rattle.fsfs_folders.specs.Told.{is_in_bench}
 

@@ -1,3 +1,8 @@
+pub mod PathLemmas
+pub mod NameLemmas
+pub mod NamedLemmas
+pub mod LeftLemmas
+pub mod OneName
 pub mod TextLemmas
 pub mod ApartLemmas
 pub mod LabelPathLemmas

@@ -3,10 +3,10 @@ use Rattle.std.proofs.Common.{◌≡◌, ◌⊎◌, ℕ, List, [], ◌∷◌, �
 use Rattle.std.proofs.lemmas.Bool.{and_from}
 use Rattle.std.proofs.lemmas.Option.{none-some}
 use Rattle.std.specs.Prelude.{Option, Some, None}
-use Rattle.fsfs_calls.specs.CallRecord.{CallRecord, Append, SyncFile, FailSync, SyncFolder, add_call, Does}
-use Rattle.fsfs_calls.specs.Remains.{of_names, of_folders}
-use Rattle.fsfs_calls.proofs.PathLemmas.{has_tail}
-use Rattle.fsfs_calls.proofs.LeftLemmas.{firm_more}
+use Rattle.fsfs_folders.specs.CallRecord.{CallRecord, Append, SyncFile, FailSync, SyncFolder, add_call, Does}
+use Rattle.fsfs_folders.specs.Remains.{of_names, of_folders}
+use Rattle.fsfs_folders.proofs.PathLemmas.{has_tail}
+use Rattle.fsfs_folders.proofs.LeftLemmas.{firm_more}
 use Rattle.fsfs_folders.specs.Told.{is_in_bench}
 use Rattle.fsfs_folders.specs.Keeping.{keeps, is_newest, are_names_firm}
 use Rattle.fsfs_folders.specs.Quiet.{GoesOnQuietly, IsQuiet, IsSynced}

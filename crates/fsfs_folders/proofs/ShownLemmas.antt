@@ -6,10 +6,10 @@ use Rattle.std.specs.Cmp.Lexicographic.{nat_list_cmp_total}
 use Rattle.std.specs.FinMap.{get, insert, remove, empty, get-insert, get-remove, get-empty}
 use Rattle.fsfs_base.specs.Files.{Files, NamedFile}
 use Rattle.fsfs_base.proofs.FileLemmas.{same_files}
-use Rattle.fsfs_calls.specs.Paths.{same_text}
-use Rattle.fsfs_calls.specs.CallRecord.{Standing, given, first_number, first_bytes}
-use Rattle.fsfs_calls.proofs.PathLemmas.{text_cases}
-use Rattle.fsfs_calls.proofs.NameLemmas.{given_apart, first_within}
+use Rattle.fsfs_folders.specs.Paths.{same_text}
+use Rattle.fsfs_folders.specs.CallRecord.{Standing, given, first_number, first_bytes}
+use Rattle.fsfs_folders.proofs.PathLemmas.{text_cases}
+use Rattle.fsfs_folders.proofs.NameLemmas.{given_apart, first_within}
 use Rattle.fsfs_folders.specs.Told.{is_apart, shown, files_of}
 
 pub shown_beside : (bytes : ℕ → List ℕ) (names : Standing) (q : List ℕ) → is_apart q ≡ true → shown bytes names q ≡ None

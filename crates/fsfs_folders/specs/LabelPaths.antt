@@ -1,11 +1,11 @@
 -- The folder of a bench, and the label that a folder is of.
 use Rattle.std.specs.Prelude.{ℕ, ◌≤◌, ◌-◌, List, [], ◌∷◌, ◌++◌, length, take, drop, if◌then◌else◌, Option, Some, None, codes}
 use Rattle.std.specs.Fmt.{decimal}
-use Rattle.fsfs_grammar.specs.Numeral.{numeral_at}
-use Rattle.fsfs_fields.specs.RevNums.{last_rev}
-use Rattle.fsfs_fields.specs.TxnNames.{txn_text, txn_name_at}
+use Rattle.fsfs_base.specs.Numeral.{numeral_at}
+use Rattle.fsfs_base.specs.RevNums.{last_rev}
+use Rattle.fsfs_base.specs.TxnNames.{txn_text, txn_name_at}
 use Rattle.fsfs_disk.specs.Labels.{Label, Txn, Pack, HotCopy}
-use Rattle.fsfs_calls.specs.Paths.{same_text}
+use Rattle.fsfs_folders.specs.Paths.{same_text}
 
 -- where the bench of a label stands
 abbrev pub bench_folder : Label → List ℕ

@@ -1,3 +1,8 @@
+pub mod Paths
+pub mod CallRecord
+pub mod Listing
+pub mod Named
+pub mod Remains
 pub mod LabelPaths
 pub mod TxnEntries
 pub mod Told

@@ -9,8 +9,8 @@ ghost use Rattle.fsfs_folders.specs.Standing.{told};
 use crate::faults::counted;
 use crate::folders::Folders;
 use crate::part::BenchPart;
+use crate::{CallError, Calls};
 use fsfs_base::{Failed, Name};
-use fsfs_calls::{CallError, Calls};
 use fsfs_disk::Bench;
 
 /// The name that a transaction's prototype revision file has in its bench.

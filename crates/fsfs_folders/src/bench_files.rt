@@ -1,14 +1,14 @@
 // Calls on the files right in a folder.
 ghost use Rattle.std.specs.Prelude.{◌≡◌, ◌⊎◌, ◌≤◌, ◌^◌, Some, None, true, IfOk, IfSome, OnOk, OnErr, is_some, option_map};
-ghost use Rattle.fsfs_calls.specs.CallRecord.{more_bytes, no_contents, made_firm, made_lost};
-ghost use Rattle.fsfs_calls.specs.Listing.{is_entry as entry};
+ghost use Rattle.fsfs_folders.specs.CallRecord.{more_bytes, no_contents, made_firm, made_lost};
+ghost use Rattle.fsfs_folders.specs.Listing.{is_entry as entry};
 ghost use Rattle.fsfs_folders.specs.BenchFiles.{file_held, file_or_new, Sets, SetsAny, Opens, Clears, HoldsNothing};
 
 use crate::folders::LONGEST;
 use crate::texts::has_slash;
 use crate::writing::append_all;
+use crate::{CallError, Calls, Path};
 use fsfs_base::Name;
-use fsfs_calls::{CallError, Calls, Path};
 use std::alloc::Global;
 
 /// Whether a name is one of a file right in the folder.

@@ -2,8 +2,8 @@
 ghost use Rattle.std.specs.Prelude.{◌≡◌, ◌≤◌, ◌↔◌, Ok, IsOk, IfOk, OnOk, OnErr};
 ghost use Rattle.fsfs_base.specs.Failures.{Rose};
 
+use crate::CallError;
 use fsfs_base::Failed;
-use fsfs_calls::CallError;
 
 /// The answer of a call, with its failure counted.
 pub fn counted<T>(faults: &mut u64, answer: Result<T, CallError>) -> Result<T, Failed>

@@ -4,10 +4,9 @@ ghost use Rattle.fsfs_disk.specs.Labels.{label_of};
 ghost use Rattle.fsfs_layout.specs.FileNames.{txn_file_name};
 ghost use Rattle.fsfs_folders.specs.LabelPaths.{bench_folder, IsFitting};
 
-use fsfs_base::Name;
-use fsfs_calls::{CallError, Path};
+use crate::{CallError, Path};
+use fsfs_base::{Name, TxnName};
 use fsfs_disk::Label;
-use fsfs_fields::TxnName;
 use fsfs_layout::TxnFile;
 use itoa::Buffer;
 

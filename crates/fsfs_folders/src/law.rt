@@ -4,7 +4,7 @@ ghost use Rattle.fsfs_folders.specs.Told.{LeavesImages};
 ghost use Rattle.fsfs_folders.specs.Keeping.{keeps};
 ghost use Rattle.fsfs_folders.specs.LabelsLeft.{are_drops_firm, LeavesLabels};
 
-use fsfs_calls::Calls;
+use crate::Calls;
 
 /// Of calls that keep to the rules: whatever a crash may leave now, of names and of bytes, shows one of the images that are told. It
 /// does nothing.

@@ -2,8 +2,7 @@
 ghost use Rattle.std.specs.Prelude.{◌≡◌, ◌++◌, ◌∷◌, [], cond, IfOk, OnOk};
 ghost use Rattle.fsfs_folders.specs.TxnEntries.{is_txn_entry as entry, txns_among as among};
 
-use fsfs_base::Name;
-use fsfs_fields::plain_txn_name;
+use fsfs_base::{Name, plain_txn_name};
 use fsfs_layout::txn_entry;
 use std::alloc::{AllocError, Global};
 

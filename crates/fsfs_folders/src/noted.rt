@@ -1,9 +1,9 @@
 // Folders whose names may not be firm.
 ghost use Rattle.std.specs.Prelude.{◌≡◌, [], true, OnOk};
-ghost use Rattle.fsfs_calls.specs.Paths.{has_path};
-ghost use Rattle.fsfs_calls.specs.Remains.{AreWithin};
+ghost use Rattle.fsfs_folders.specs.Paths.{has_path};
+ghost use Rattle.fsfs_folders.specs.Remains.{AreWithin};
 
-use fsfs_calls::Path;
+use crate::Path;
 use std::alloc::{AllocError, Global};
 use std::marker::Model;
 

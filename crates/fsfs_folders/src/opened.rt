@@ -1,6 +1,6 @@
 // A file that is open.
+use crate::Calls;
 use fsfs_base::Name;
-use fsfs_calls::Calls;
 
 /// A file of the repository that is open, by the name that it was opened by.
 #[derive(Drop)]

@@ -3,15 +3,15 @@ ghost use Rattle.std.specs.Prelude.{◌≡◌, ◌≢◌, ◌≤◌, ◌^◌, �
 ghost use Rattle.std.specs.FinMap.{get};
 ghost use Rattle.fsfs_disk.specs.Benches.{appended, written, removed, bytes_on, IsFirmFile, Spoils};
 ghost use Rattle.fsfs_disk.specs.Trace.{Adopt, Performs, FailsToAdopt, IsRead, IsSize, IsThere};
-ghost use Rattle.fsfs_calls.specs.CallRecord.{CallRecord, Contents};
+ghost use Rattle.fsfs_folders.specs.CallRecord.{CallRecord, Contents};
 ghost use Rattle.fsfs_folders.specs.BenchFiles.{file_held, bench_told, firm_held, AreShort, AreKept};
 ghost use Rattle.fsfs_folders.specs.Standing.{told};
 
 use crate::bench_files::{append_to, is_entry, remove_from, sync_in, write_to};
 use crate::folders::Folders;
 use crate::reading::{file_size, read_file};
+use crate::{CallError, Calls, Path};
 use fsfs_base::Name;
-use fsfs_calls::{CallError, Calls, Path};
 
 /// Files right in a folder, over calls on it. A name with a slash is refused.
 #[derive(Drop)]

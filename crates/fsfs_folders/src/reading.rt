@@ -1,10 +1,10 @@
 // Reads that go on until the buffer is full.
 ghost use Rattle.std.specs.Prelude.{◌≡◌, ◌≤◌, Some, None, length, IfOk, IfSome, MatchOption};
-ghost use Rattle.fsfs_calls.specs.CallRecord.{names_now, contents_now};
+ghost use Rattle.fsfs_folders.specs.CallRecord.{names_now, contents_now};
 ghost use Rattle.fsfs_folders.specs.Writing.{IsFilled, bytes_there};
 ghost use Rattle.fsfs_disk.specs.Trace.{IsRead, IsSize};
 
-use fsfs_calls::{CallError, Calls, Path};
+use crate::{CallError, Calls, Path};
 
 /// Fills the buffer from an offset on, as far as the file goes. How many bytes that is.
 pub fn fill<C: Calls>(

@@ -4,7 +4,7 @@ ghost use Rattle.fsfs_folders.specs.Quiet.{IsQuiet, IsSynced, MakesQuietly};
 ghost use Rattle.fsfs_folders.specs.Writing.{Writes, WritesSome};
 ghost use Rattle.fsfs_folders.specs.Standing.{IsWritten};
 
-use fsfs_calls::{CallError, Calls, Path};
+use crate::{CallError, Calls, Path};
 
 /// Syncs these folders, in order, up to the first that fails.
 pub fn sync_folders<C: Calls>(calls: &mut C, folders: &[Path]) -> Result<(), CallError>

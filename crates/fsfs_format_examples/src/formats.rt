@@ -10,8 +10,8 @@ use crate::texts::{
 };
 use crate::trailers::{put_root, put_tail, put_whole};
 use crate::walks::{put_node_at, put_youngest};
-use fsfs_escapes::Transcript;
-use fsfs_rep::Digester;
+use fsfs_memory::Transcript;
+use fsfs_revision::Digester;
 use std::alloc::Global;
 use std::collections::BTreeMap;
 

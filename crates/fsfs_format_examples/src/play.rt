@@ -2,7 +2,7 @@
 use crate::formats::{Texts, put_reading};
 use crate::line::Line;
 use anyhow::{Result, bail};
-use fsfs_escapes::{Transcript, bytes_of};
+use fsfs_memory::{Transcript, bytes_of};
 use std::alloc::{AllocError, Global};
 use std::collections::BTreeMap;
 

@@ -1,5 +1,5 @@
 // Small files: their values, written again, and where they are refused.
-use fsfs_escapes::Transcript;
+use fsfs_memory::Transcript;
 use fsfs_layout::{
     Format, Layout, ManifestError, read_current, read_format, read_manifest, read_min_unpacked_rev,
     read_next_ids, read_txn_current, read_uuid, write_current, write_manifest, write_next_ids,

@@ -5,12 +5,12 @@ ghost use Rattle.fsfs_base.specs.declared.kind.Kind.TheVariants.{Dir, File};
 use crate::nodes::kind_word;
 use crate::representations::{book_of, put_error};
 use fsfs_base::{FsPath, Kind};
-use fsfs_book::{Book, MemBook};
+use fsfs_revision::{Book, MemBook};
 use fsfs_dag::{DirEntry, Met, PlacedNode, TextError, entries, node_at, props, text_to};
-use fsfs_damage::ReadError;
-use fsfs_escapes::Transcript;
-use fsfs_fields::RevNum;
-use fsfs_memstreams::MemSink;
+use fsfs_revision::ReadError;
+use fsfs_memory::Transcript;
+use fsfs_base::RevNum;
+use fsfs_memory::MemSink;
 use std::alloc::Global;
 
 fn put_names(out: &mut Transcript, entries: &[DirEntry]) {

@@ -1,5 +1,5 @@
 // Why the system did not do a call, and calls that a signal interrupts.
-use fsfs_calls::CallError;
+use fsfs_folders::CallError;
 use std::io;
 use std::io::ErrorKind;
 

@@ -4,7 +4,7 @@ ghost use Rattle.std.specs.Prelude.{None};
 use crate::errors::finished;
 use crate::host::{HostCalls, LONGEST_NAME};
 use fsfs_base::Name;
-use fsfs_calls::CallError;
+use fsfs_folders::CallError;
 use fsfs_mount::{FileId, FileSystem};
 use std::alloc::{AllocGlobal, Global};
 use std::env::Env;

@@ -3,7 +3,7 @@ ghost use Rattle.std.specs.Prelude.{◌≡◌, ◌≤◌, ◌<◌, length, min, 
 
 use crate::errors::{error_of, finished};
 use fsfs_base::Name;
-use fsfs_calls::{CallError, Calls, OpenFile, Path};
+use fsfs_folders::{CallError, Calls, OpenFile, Path};
 use std::alloc::{AllocGlobal, Global};
 use std::fs::{File, Files, TryLockError};
 use std::io::{ErrorKind, Write};

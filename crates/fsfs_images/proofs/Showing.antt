@@ -11,8 +11,8 @@ use Rattle.fsfs_layout.specs.declared.repository_file.RepositoryFile.TheVariants
 use Rattle.fsfs_layout.specs.Layouts.{shard_of, place_in_shard}
 use Rattle.fsfs_layout.specs.Names.{in_pack}
 use Rattle.fsfs_layout.proofs.Apart.{names_apart}
-use Rattle.fsfs_damage.specs.declared.wrong.Refusal.{Refusal}
-use Rattle.fsfs_rev_file.specs.RevBytes.{manifest_of, section_of, cut_from, packed_bytes}
+use Rattle.fsfs_revision.specs.declared.wrong.Refusal.{Refusal}
+use Rattle.fsfs_revision.specs.RevBytes.{manifest_of, section_of, cut_from, packed_bytes}
 use Rattle.fsfs_disk.specs.Trace.{Operation, files_after, ImageAfter, TornBy}
 use Rattle.fsfs_disk.specs.Trace as real
 use Rattle.fsfs_machine.specs.declared.contents.FileName.{FileName}

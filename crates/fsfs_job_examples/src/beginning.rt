@@ -6,11 +6,11 @@ ghost use Rattle.fsfs_begin.specs.Benches.{TellsRoot};
 
 use fsfs_begin::{Begun, begin};
 use fsfs_disk::{Bench, Disk};
-use fsfs_escapes::Transcript;
-use fsfs_fields::RevNum;
-use fsfs_held::HeldNodes;
+use fsfs_memory::Transcript;
+use fsfs_base::RevNum;
+use fsfs_txn_nodes::HeldNodes;
 use fsfs_layout::Opened;
-use fsfs_repo::open;
+use fsfs_create::open;
 use fsfs_txn::Txn;
 use std::alloc::Global;
 

@@ -2,16 +2,16 @@
 ghost use Rattle.std.specs.Prelude.{◌≡◌, None};
 
 use crate::beginning::{HeldTxn, begin_on};
-use fsfs_escapes::Transcript;
-use fsfs_faults::{Fault, RequestFault, Tool, print_fault};
+use fsfs_memory::Transcript;
+use fsfs_cli::{Fault, RequestFault, Tool, print_fault};
 use fsfs_fetch::{disk_of, over_disk};
-use fsfs_fields::RevNum;
-use fsfs_job_edits::{Stopped, do_edits};
-use fsfs_job_reads::read_job;
+use fsfs_base::RevNum;
+use fsfs_jobs::{Stopped, do_edits};
+use fsfs_job_run::read_job;
 use fsfs_jobs::{JobAnswer, print_job_line};
-use fsfs_memdisk::{MemBench, MemDisk};
-use fsfs_memstreams::{MemSink, MemSource};
-use fsfs_repo::open;
+use fsfs_memory::{MemBench, MemDisk};
+use fsfs_memory::{MemSink, MemSource};
+use fsfs_create::open;
 use fsfs_script::{Base, CommitJob, Job, Jobs, ReadJob, Steps, read_script};
 use std::alloc::Global;
 

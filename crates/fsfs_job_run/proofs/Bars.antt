@@ -2,23 +2,23 @@
 use Rattle.std.proofs.Common.{◌≡◌, ◌⊎◌, ◌≤◌, ◌<◌, ℕ, List, length, sym, subst, ◌∙◌, inl, inr, arith}
 use Rattle.fsfs_tree.specs.Dated.{last_of}
 use Rattle.fsfs_tree.specs.Histories.{IsHistory}
-use Rattle.fsfs_damage.specs.declared.wrong.Wrong.{Wrong}
-use Rattle.fsfs_damage.specs.declared.wrong.Wrong.TheVariants as wrongs
-use Rattle.fsfs_damage.specs.declared.wrong.Refusal.TheVariants as refusals
+use Rattle.fsfs_revision.specs.declared.wrong.Wrong.{Wrong}
+use Rattle.fsfs_revision.specs.declared.wrong.Wrong.TheVariants as wrongs
+use Rattle.fsfs_revision.specs.declared.wrong.Refusal.TheVariants as refusals
 use Rattle.fsfs_machine.specs.declared.machine.Recorded.{Recorded}
 use Rattle.fsfs_machine.specs.declared.machine.Txn.{Txn}
 use Rattle.fsfs_machine.specs.Machine.{revisions}
 use Rattle.fsfs_machine.proofs.Growing.{revisions_length}
 use Rattle.fsfs_turn.specs.Views.{View, IsTxnOver}
 use Rattle.fsfs_commit.specs.Works.{Landings}
-use Rattle.fsfs_draft.specs.Refusals.{IsClashAt}
-use Rattle.fsfs_pass_txns.specs.Commits.{Bars}
-use Rattle.fsfs_pass_txns.specs.declared.answers.CommitBar.{CommitBar}
-use Rattle.fsfs_pass_txns.specs.declared.answers.CommitBar.TheVariants as bars
-use Rattle.fsfs_job_lines.specs.declared.job.CommitJob.{CommitJob}
-use Rattle.fsfs_job_lines.specs.declared.job.Job.TheVariants as jobs
+use Rattle.fsfs_commit.specs.Refusals.{IsClashAt}
+use Rattle.fsfs_repo.specs.Commits.{Bars}
+use Rattle.fsfs_repo.specs.declared.answers.CommitBar.{CommitBar}
+use Rattle.fsfs_repo.specs.declared.answers.CommitBar.TheVariants as bars
+use Rattle.fsfs_script.specs.declared.job.CommitJob.{CommitJob}
+use Rattle.fsfs_script.specs.declared.job.Job.TheVariants as jobs
 use Rattle.fsfs_jobs.specs.declared.answer.JobAnswer.TheVariants.{Conflict, Stopped}
-use Rattle.fsfs_serial.specs.Jobs.{Fails, ByStuck, ByMemory}
+use Rattle.fsfs_job_run.specs.Jobs.{Fails, ByStuck, ByMemory}
 use Rattle.fsfs_job_run.specs.Faults.{fault_of_merge, answer_of_bar}
 use Rattle.fsfs_job_run.specs.Running.{HasOutsideCause, IsNoRequest}
 use Rattle.fsfs_job_run.specs.Ending.{CommitsTxn, ByRevs}

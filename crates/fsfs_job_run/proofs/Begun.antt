@@ -1,29 +1,29 @@
 -- A transaction that has begun, and why none was begun.
 use Rattle.std.proofs.Common.{◌≡◌, ◌≤◌, ◌<◌, ◌∷◌, ℕ, List, [], length, ap, inr, arith}
 use Rattle.std.specs.Prelude.{Err}
-use Rattle.fsfs_fields.specs.declared.txn_name.TxnName.{TxnName}
-use Rattle.fsfs_drafts.specs.Drafts.{Folder}
-use Rattle.fsfs_damage.specs.declared.wrong.Wrong.{Wrong}
-use Rattle.fsfs_damage.specs.declared.wrong.Wrong.TheVariants as wrongs
-use Rattle.fsfs_damage.specs.declared.wrong.Refusal.TheVariants as refusals
+use Rattle.fsfs_base.specs.declared.txn_name.TxnName.{TxnName}
+use Rattle.fsfs_draft.specs.Drafts.{Folder}
+use Rattle.fsfs_revision.specs.declared.wrong.Wrong.{Wrong}
+use Rattle.fsfs_revision.specs.declared.wrong.Wrong.TheVariants as wrongs
+use Rattle.fsfs_revision.specs.declared.wrong.Refusal.TheVariants as refusals
 use Rattle.fsfs_machine.specs.declared.machine.Recorded.{Recorded}
 use Rattle.fsfs_machine.specs.Machine.{revisions}
 use Rattle.fsfs_tree.specs.Dated.{last_of}
 use Rattle.fsfs_machine.proofs.Growing.{revisions_length}
-use Rattle.fsfs_shows.specs.Reading.{RootOf}
+use Rattle.fsfs_revision.specs.ShowsReading.{RootOf}
 use Rattle.fsfs_turn.specs.Bytes.{bytes_of}
 use Rattle.fsfs_turn.specs.Views.{View}
-use Rattle.fsfs_faults.specs.Faults.{fault_from_wrong}
-use Rattle.fsfs_faults.specs.declared.fault.Fault.{Fault}
-use Rattle.fsfs_turn_begin.specs.Steps.{Moved}
-use Rattle.fsfs_turn_begin.specs.Faults.{Cause, IfDisk}
-use Rattle.fsfs_turn_begin.specs.declared.begin_fault.BeginFault.{BeginFault}
-use Rattle.fsfs_turn_begin.specs.declared.begin_fault.BeginFault.TheVariants as begin
-use Rattle.fsfs_pass_txns.specs.Begun.{BeginsTxn}
-use Rattle.fsfs_job_lines.specs.declared.job.CommitJob.{CommitJob}
-use Rattle.fsfs_job_lines.specs.declared.job.Job.TheVariants as jobs
+use Rattle.fsfs_cli.specs.FaultsFaults.{fault_from_wrong}
+use Rattle.fsfs_cli.specs.declared.faults_fault.Fault.{Fault}
+use Rattle.fsfs_begin.specs.Steps.{Moved}
+use Rattle.fsfs_begin.specs.Faults.{Cause, IfDisk}
+use Rattle.fsfs_begin.specs.declared.turn_begin_begin_fault.BeginFault.{BeginFault}
+use Rattle.fsfs_begin.specs.declared.turn_begin_begin_fault.BeginFault.TheVariants as begin
+use Rattle.fsfs_repo.specs.Begun.{BeginsTxn}
+use Rattle.fsfs_script.specs.declared.job.CommitJob.{CommitJob}
+use Rattle.fsfs_script.specs.declared.job.Job.TheVariants as jobs
 use Rattle.fsfs_jobs.specs.declared.answer.JobAnswer.TheVariants.{Stopped}
-use Rattle.fsfs_serial.specs.Jobs.{Fails, ByDisk, ByBench, ByStuck, ByMemory, ByNames}
+use Rattle.fsfs_job_run.specs.Jobs.{Fails, ByDisk, ByBench, ByStuck, ByMemory, ByNames}
 use Rattle.fsfs_job_run.specs.Faults.{fault_of_begin}
 use Rattle.fsfs_job_run.specs.Running.{Stays, HasOutsideCause, IfCounted, CommitsSo, StopsOver}
 use Rattle.fsfs_job_run.proofs.Staying.{IsCounted, seen_same, bare_leaves}

@@ -1,24 +1,24 @@
 -- Answers that tell of a failed call of the disk, and why.
 use Rattle.std.proofs.Common.{◌≡◌, ◌<◌, ℕ, List, [], ◌∷◌, ◌++◌, false, refl, sym, subst}
 use Rattle.std.specs.Prelude.{Result, Ok, Err, IfErr}
-use Rattle.fsfs_damage.specs.declared.wrong.Wrong.{Wrong}
-use Rattle.fsfs_damage.specs.declared.wrong.Wrong.TheVariants as wrongs
-use Rattle.fsfs_damage.specs.declared.wrong.Refusal.TheVariants as refusals
-use Rattle.fsfs_faults.specs.Faults.{fault_from_wrong}
-use Rattle.fsfs_faults.specs.declared.fault.Fault.{Fault}
-use Rattle.fsfs_faults.specs.declared.fault.Fault.TheVariants.{Words, Request, Repository, Outside, Memory, Limit}
-use Rattle.fsfs_faults.specs.declared.outside_fault.OutsideFault.TheVariants as outside
-use Rattle.fsfs_faults.specs.declared.request_fault.RequestFault.TheVariants.{NoRev}
-use Rattle.fsfs_turn_begin.specs.Faults.{IfDisk as IfBeginFails}
-use Rattle.fsfs_turn_begin.specs.declared.begin_fault.BeginFault.{BeginFault}
-use Rattle.fsfs_turn_begin.specs.declared.begin_fault.BeginFault.TheVariants as begin
-use Rattle.fsfs_pass_txns.specs.declared.answers.CommitBar.{CommitBar}
-use Rattle.fsfs_pass_txns.specs.declared.answers.CommitBar.TheVariants as bars
+use Rattle.fsfs_revision.specs.declared.wrong.Wrong.{Wrong}
+use Rattle.fsfs_revision.specs.declared.wrong.Wrong.TheVariants as wrongs
+use Rattle.fsfs_revision.specs.declared.wrong.Refusal.TheVariants as refusals
+use Rattle.fsfs_cli.specs.FaultsFaults.{fault_from_wrong}
+use Rattle.fsfs_cli.specs.declared.faults_fault.Fault.{Fault}
+use Rattle.fsfs_cli.specs.declared.faults_fault.Fault.TheVariants.{Words, Request, Repository, Outside, Memory, Limit}
+use Rattle.fsfs_cli.specs.declared.outside_fault.OutsideFault.TheVariants as outside
+use Rattle.fsfs_cli.specs.declared.request_fault.RequestFault.TheVariants.{NoRev}
+use Rattle.fsfs_begin.specs.Faults.{IfDisk as IfBeginFails}
+use Rattle.fsfs_begin.specs.declared.turn_begin_begin_fault.BeginFault.{BeginFault}
+use Rattle.fsfs_begin.specs.declared.turn_begin_begin_fault.BeginFault.TheVariants as begin
+use Rattle.fsfs_repo.specs.declared.answers.CommitBar.{CommitBar}
+use Rattle.fsfs_repo.specs.declared.answers.CommitBar.TheVariants as bars
 use Rattle.fsfs_jobs.specs.declared.answer.JobAnswer.{JobAnswer}
 use Rattle.fsfs_jobs.specs.declared.answer.JobAnswer.TheVariants as answers
-use Rattle.fsfs_job_edits.specs.Editing.{IfDisk as IfEditFails}
-use Rattle.fsfs_job_reads.specs.TextReads.{IfAnswerFails, IfDiskFails}
-use Rattle.fsfs_serial.specs.Jobs.{tells_doubt, TellNoDoubt}
+use Rattle.fsfs_jobs.specs.Editing.{IfDisk as IfEditFails}
+use Rattle.fsfs_job_run.specs.TextReads.{IfAnswerFails, IfDiskFails}
+use Rattle.fsfs_job_run.specs.Jobs.{tells_doubt, TellNoDoubt}
 use Rattle.fsfs_job_run.specs.Faults.{fault_of_begin, fault_of_merge, answer_of_bar}
 use Rattle.fsfs_job_run.specs.Running.{IfAnyFails}
 

@@ -2,12 +2,12 @@
 use Rattle.std.proofs.Common.{◌≡◌, ◌≤◌, ◌<◌, ◌+◌, ℕ, List, [], ◌∷◌, ◌++◌, length, refl, sym, ap, subst, ◌∙◌, arith}
 use Rattle.std.specs.FinMap.{get}
 use Rattle.fsfs_base.specs.Paths.{Path}
-use Rattle.fsfs_fields.specs.Dates.{IsDateAt}
-use Rattle.fsfs_fields.specs.RevNums.{last_rev}
+use Rattle.fsfs_base.specs.Dates.{IsDateAt}
+use Rattle.fsfs_base.specs.RevNums.{last_rev}
 use Rattle.fsfs_tree.specs.Histories.{IsHistory}
 use Rattle.fsfs_tree.specs.Revisions.{Revision}
 use Rattle.fsfs_tree.specs.Dated.{last_of}
-use Rattle.fsfs_flat.specs.Transactions.{IsNext}
+use Rattle.fsfs_model.specs.Transactions.{IsNext}
 use Rattle.fsfs_machine.specs.declared.machine.Recorded.{Recorded}
 use Rattle.fsfs_machine.specs.declared.machine.Txn.{Txn}
 use Rattle.fsfs_machine.specs.Machine.{revisions, entry_of}
@@ -15,15 +15,15 @@ use Rattle.fsfs_machine.proofs.Growing.{revisions_length}
 use Rattle.fsfs_turn.specs.Views.{View, IsTxnOver}
 use Rattle.fsfs_commit.specs.Works.{Landings}
 use Rattle.fsfs_commit.specs.Replies.{Committed}
-use Rattle.fsfs_job_lines.specs.declared.job.CommitJob.{CommitJob}
-use Rattle.fsfs_job_lines.specs.declared.job.Job.TheVariants as jobs
+use Rattle.fsfs_script.specs.declared.job.CommitJob.{CommitJob}
+use Rattle.fsfs_script.specs.declared.job.Job.TheVariants as jobs
 use Rattle.fsfs_jobs.specs.Properties.{job_properties}
 use Rattle.fsfs_jobs.specs.Serial.{Begins, Done, Full, Adds, Clashes, base_of}
 use Rattle.fsfs_jobs.specs.declared.answer.JobAnswer.{JobAnswer}
 use Rattle.fsfs_jobs.specs.declared.answer.JobAnswer.TheVariants as answers
-use Rattle.fsfs_serial.specs.Jobs.{DoesJob}
-use Rattle.fsfs_serial.specs.Clashes.{ClashesFirst}
-use Rattle.fsfs_serial.proofs.Clashing.{clash_back}
+use Rattle.fsfs_job_run.specs.Jobs.{DoesJob}
+use Rattle.fsfs_job_run.specs.Clashes.{ClashesFirst}
+use Rattle.fsfs_job_run.proofs.Clashing.{clash_back}
 use Rattle.fsfs_job_run.specs.Ending.{CommitsTxn, ByCommit, ByRevs, IsEdited}
 
 -- it was added

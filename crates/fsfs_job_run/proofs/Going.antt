@@ -5,13 +5,13 @@ use Rattle.std.specs.Prelude.{None, slice_index_or}
 use Rattle.fsfs_turn.specs.Alone.{are_harmless}
 use Rattle.fsfs_turn.specs.Views.{View}
 use Rattle.fsfs_turn.specs.Telling.{OwnedState, owned_view}
-use Rattle.fsfs_turn_begin.specs.Steps.{IsPastNumbers}
-use Rattle.fsfs_owned_repo.specs.Alone.{KnowsIn}
-use Rattle.fsfs_job_lines.specs.declared.job.Job.{Job}
+use Rattle.fsfs_begin.specs.Steps.{IsPastNumbers}
+use Rattle.fsfs_repo.specs.Alone.{KnowsIn}
+use Rattle.fsfs_script.specs.declared.job.Job.{Job}
 use Rattle.fsfs_jobs.specs.declared.answer.JobAnswer.{JobAnswer}
-use Rattle.fsfs_serial.specs.Jobs.{RunJobs, End}
+use Rattle.fsfs_job_run.specs.Jobs.{RunJobs, End}
 use Rattle.fsfs_job_run.specs.Running.{DoesSo, DoAll, RunsPast}
-use Rattle.fsfs_serial.proofs.JobLemmas.{go_on, grow}
+use Rattle.fsfs_job_run.proofs.SerialJobLemmas.{go_on, grow}
 use Rattle.fsfs_job_run.proofs.Stuck.{none_stuck, stuck_more, not_stuck}
 
 pub done_none : (knows : View → Type 0) (moment : ℕ) (answers : List JobAnswer) (v : View) → answers ≡ [] → knows v → v.section ≡ None → DoAll knows moment [] answers v

@@ -1,3 +1,12 @@
+pub mod TextLemmas
+pub mod JobLemmas
+pub mod SerialJobLemmas
+pub mod LineLemmas
+pub mod Finite
+pub mod Clashing
+pub mod ListedLemmas
+pub mod BenchCounts
+pub mod BesideLemmas
 pub mod Staying
 pub mod Ended
 pub mod Edited
@@ -19,3 +28,4 @@ pub mod Answered
 pub mod Seen
 pub mod Listing
 pub mod BenchCauses
+pub mod RunLemmas

@@ -2,17 +2,17 @@
 use Rattle.std.proofs.Common.{◌<◌, ℕ, List, length, sym, subst, arith}
 use Rattle.std.specs.Prelude.{Option}
 use Rattle.std.specs.FinMap.{get}
-use Rattle.fsfs_fields.specs.declared.txn_name.TxnName.{TxnName}
+use Rattle.fsfs_base.specs.declared.txn_name.TxnName.{TxnName}
 use Rattle.fsfs_layout.specs.declared.layout.Layout.{Layout}
 use Rattle.fsfs_disk.specs.Trace.{Trace}
-use Rattle.fsfs_places.specs.declared.place.DiskPlace.{DiskPlace}
+use Rattle.fsfs_base.specs.declared.place.DiskPlace.{DiskPlace}
 use Rattle.fsfs_tree.specs.Dated.{last_of}
 use Rattle.fsfs_tree.specs.Histories.{AreRevisions, IsHistory}
 use Rattle.fsfs_tree.specs.Revisions.{tree_of}
-use Rattle.fsfs_flat.specs.Transactions.{IsTransaction}
-use Rattle.fsfs_ancestry.specs.Trees.{ShowTrees}
-use Rattle.fsfs_ancestry.proofs.Revisions.{shown_revisions}
-use Rattle.fsfs_drafts.specs.Drafts.{Folder}
+use Rattle.fsfs_model.specs.Transactions.{IsTransaction}
+use Rattle.fsfs_revision.specs.Trees.{ShowTrees}
+use Rattle.fsfs_revision.proofs.Revisions.{shown_revisions}
+use Rattle.fsfs_draft.specs.Drafts.{Folder}
 use Rattle.fsfs_machine.specs.declared.machine.Recorded.{Recorded}
 use Rattle.fsfs_machine.specs.declared.machine.Txn.{Txn}
 use Rattle.fsfs_machine.specs.Machine.{revisions}
@@ -20,10 +20,10 @@ use Rattle.fsfs_machine.proofs.Growing.{revisions_length}
 use Rattle.fsfs_turn.specs.Alone.{KnowsAlone}
 use Rattle.fsfs_turn.specs.Bytes.{bytes_of}
 use Rattle.fsfs_turn.specs.Views.{View, IsTxnOver}
-use Rattle.fsfs_draft.specs.Meaning.{IsTxnOf}
-use Rattle.fsfs_draft.specs.SeenLemmas.{shown_trees}
-use Rattle.fsfs_owned_repo.proofs.Shown.{known_shown}
-use Rattle.fsfs_pass_txns.proofs.Shown.{seen_shows}
+use Rattle.fsfs_commit.specs.Meaning.{IsTxnOf}
+use Rattle.fsfs_commit.specs.SeenLemmas.{shown_trees}
+use Rattle.fsfs_repo.proofs.OwnedRepoShown.{known_shown}
+use Rattle.fsfs_repo.proofs.Shown.{seen_shows}
 
 module _ (layout : Layout) (young : ℕ) (stuck : Option DiskPlace) (told : Option Trace) (v : View) (known : KnowsAlone layout young stuck told v) where
   pub some_seen : 0 < length v.seen

@@ -1,7 +1,7 @@
 -- What the pass knows behind calls that add nothing.
 use Rattle.std.proofs.Common.{◌≡◌, ◌≤◌, ◌+◌, ℕ, List, [], ◌∷◌, ◌++◌, length, false, refl, sym, ap, subst, ◌∙◌, append_assoc, append-nil, length-append, arith}
 use Rattle.std.specs.Prelude.{None}
-use Rattle.fsfs_places.specs.declared.place.DiskPlace.{DiskPlace}
+use Rattle.fsfs_base.specs.declared.place.DiskPlace.{DiskPlace}
 use Rattle.fsfs_machine.specs.declared.machine.Recorded.{Recorded}
 use Rattle.fsfs_machine.specs.declared.machine.Step.{Step}
 use Rattle.fsfs_machine.specs.declared.machine.Txn.{Txn}
@@ -10,13 +10,13 @@ use Rattle.fsfs_machine.proofs.Growing.{revisions_length}
 use Rattle.fsfs_tree.specs.Dated.{last_of}
 use Rattle.fsfs_turn.specs.Views.{View, Begins, Looked}
 use Rattle.fsfs_turn.proofs.Alone.{same_by_length}
-use Rattle.fsfs_turn_purge.specs.Purged.{HasPurged, HasNotPurged}
+use Rattle.fsfs_begin.specs.Purged.{HasPurged, HasNotPurged}
 use Rattle.fsfs_turn.specs.Alone.{BringsNoDoubt}
 use Rattle.fsfs_commit.specs.Replies.{Committed, Moved as CommitMoved}
 use Rattle.fsfs_turn.proofs.Doubts.{same_faults}
 use Rattle.fsfs_jobs.specs.declared.answer.JobAnswer.{JobAnswer}
 use Rattle.fsfs_jobs.specs.declared.answer.JobAnswer.TheVariants as answers
-use Rattle.fsfs_serial.specs.Jobs.{AddsBy, own_of, tells_doubt, Leaves}
+use Rattle.fsfs_job_run.specs.Jobs.{AddsBy, own_of, tells_doubt, Leaves}
 use Rattle.fsfs_job_run.specs.Running.{Stays, HasLooked}
 
 -- Of the revisions that a pass has seen none came since the opening but its own: what a pass knows that is alone.

@@ -1,12 +1,12 @@
 -- The root of a revision whose bytes show a tree is read.
 use Rattle.std.proofs.Common.{◌≡◌, ℕ, []}
 use Rattle.std.specs.Prelude.{Ok, Err}
-use Rattle.fsfs_damage.specs.declared.wrong.Wrong.{Wrong}
+use Rattle.fsfs_revision.specs.declared.wrong.Wrong.{Wrong}
 use Rattle.fsfs_tree.specs.Nodes.{TreeFunction}
-use Rattle.fsfs_book.specs.Told.{RevisionBytes}
-use Rattle.fsfs_shows.specs.Reading.{RootOf}
-use Rattle.fsfs_shows.specs.Shown.{Shows}
-use Rattle.fsfs_shows.proofs.OneNode.{root_of_one}
+use Rattle.fsfs_revision.specs.Told.{RevisionBytes}
+use Rattle.fsfs_revision.specs.ShowsReading.{RootOf}
+use Rattle.fsfs_revision.specs.Shown.{Shows}
+use Rattle.fsfs_revision.proofs.OneNode.{root_of_one}
 
 pub root_whole : (look : RevisionBytes) (rev : ℕ) (tree : TreeFunction) (wrong : Wrong) → Shows look rev tree → RootOf look rev (Err wrong) → ⊥
 root_whole look rev tree wrong shows is =

@@ -1,18 +1,18 @@
 -- The faults of a job whose transaction was not begun, or not committed.
-use Rattle.fsfs_damage.specs.declared.wrong.Wrong.{Wrong}
-use Rattle.fsfs_damage.specs.declared.wrong.Wrong.TheVariants as wrongs
-use Rattle.fsfs_damage.specs.declared.wrong.Refusal.TheVariants as refusals
-use Rattle.fsfs_faults.specs.Faults.{fault_from_wrong}
-use Rattle.fsfs_faults.specs.declared.fault.Fault.{Fault}
-use Rattle.fsfs_faults.specs.declared.fault.Fault.TheVariants.{Request, Repository, Outside, Memory, Limit}
-use Rattle.fsfs_faults.specs.declared.request_fault.RequestFault.TheVariants as requests
-use Rattle.fsfs_faults.specs.declared.repository_fault.RepositoryFault.TheVariants as repositories
-use Rattle.fsfs_faults.specs.declared.outside_fault.OutsideFault.TheVariants as outside
-use Rattle.fsfs_faults.specs.declared.limit_fault.LimitFault.TheVariants as limits
-use Rattle.fsfs_turn_begin.specs.declared.begin_fault.BeginFault.{BeginFault}
-use Rattle.fsfs_turn_begin.specs.declared.begin_fault.BeginFault.TheVariants as begin
-use Rattle.fsfs_pass_txns.specs.declared.answers.CommitBar.{CommitBar}
-use Rattle.fsfs_pass_txns.specs.declared.answers.CommitBar.TheVariants as bars
+use Rattle.fsfs_revision.specs.declared.wrong.Wrong.{Wrong}
+use Rattle.fsfs_revision.specs.declared.wrong.Wrong.TheVariants as wrongs
+use Rattle.fsfs_revision.specs.declared.wrong.Refusal.TheVariants as refusals
+use Rattle.fsfs_cli.specs.FaultsFaults.{fault_from_wrong}
+use Rattle.fsfs_cli.specs.declared.faults_fault.Fault.{Fault}
+use Rattle.fsfs_cli.specs.declared.faults_fault.Fault.TheVariants.{Request, Repository, Outside, Memory, Limit}
+use Rattle.fsfs_cli.specs.declared.request_fault.RequestFault.TheVariants as requests
+use Rattle.fsfs_cli.specs.declared.repository_fault.RepositoryFault.TheVariants as repositories
+use Rattle.fsfs_cli.specs.declared.outside_fault.OutsideFault.TheVariants as outside
+use Rattle.fsfs_cli.specs.declared.limit_fault.LimitFault.TheVariants as limits
+use Rattle.fsfs_begin.specs.declared.turn_begin_begin_fault.BeginFault.{BeginFault}
+use Rattle.fsfs_begin.specs.declared.turn_begin_begin_fault.BeginFault.TheVariants as begin
+use Rattle.fsfs_repo.specs.declared.answers.CommitBar.{CommitBar}
+use Rattle.fsfs_repo.specs.declared.answers.CommitBar.TheVariants as bars
 use Rattle.fsfs_jobs.specs.declared.answer.JobAnswer.{JobAnswer}
 use Rattle.fsfs_jobs.specs.declared.answer.JobAnswer.TheVariants.{Conflict, Stopped}
 use Rattle.std.specs.Prelude.{ℕ}

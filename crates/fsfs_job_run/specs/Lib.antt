@@ -1,3 +1,15 @@
+pub mod TextReads
+pub mod Jobs
+pub mod Laws
+pub mod Trees
+pub mod Clashes
+pub mod Listed
+pub mod Beside
+pub mod Lines
+pub mod Passes
+pub mod BesideLaws
 pub mod Faults
 pub mod Running
 pub mod Ending
+pub mod Histories
+pub mod Runs

@@ -1,18 +1,18 @@
 //! The revision that a job is about.
 ghost use Rattle.std.specs.Prelude.{◌≡◌, ◌≤◌, ◌<◌, ℕ, None, IfOk, IfErr};
 ghost use Rattle.fsfs_tree.specs.Dated.{last_of};
-ghost use Rattle.fsfs_faults.specs.declared.fault.Fault.TheVariants.{Request};
-ghost use Rattle.fsfs_faults.specs.declared.request_fault.RequestFault.TheVariants.{NoRev};
+ghost use Rattle.fsfs_cli.specs.declared.faults_fault.Fault.TheVariants.{Request};
+ghost use Rattle.fsfs_cli.specs.declared.request_fault.RequestFault.TheVariants.{NoRev};
 ghost use Rattle.fsfs_machine.specs.Machine.{revisions};
 ghost use Rattle.fsfs_turn.specs.Views.{View};
 ghost use Rattle.fsfs_jobs.specs.Serial.{base_of};
 ghost use Rattle.fsfs_job_run.specs.Running.{HasLooked, LacksBase};
 
+use fsfs_base::RevNum;
+use fsfs_cli::{Fault, RequestFault};
 use fsfs_disk::Disk;
-use fsfs_faults::{Fault, RequestFault};
-use fsfs_fields::RevNum;
-use fsfs_job_lines::Base;
-use fsfs_owned_repo::Repo;
+use fsfs_repo::Repo;
+use fsfs_script::Base;
 use fsfs_turn::{Owned, Turns};
 
 // The revision of this number, up to the youngest.

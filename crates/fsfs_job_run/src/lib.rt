@@ -1,15 +1,41 @@
+//! Jobs that read: the text of a file is read for its size and its digest.
+//! The jobs of a script one after another: what each does to what the pass of a repository knows, the laws of that, and what is told of them.
+//! The jobs of a script beside each other: what the line of each says of the one history, whoever adds revisions between, and the laws of that.
 //! The run of a script's jobs over a repository with one owner, one after another.
+//! `svnjobs` on a disk: the repository is opened, the script is read to its end, its jobs are done, and what became of them is printed.
 #![tactic(auto)]
 
 mod bases;
 mod begin_faults;
+mod beside_laws;
 mod commit_job;
 mod ending;
 mod job;
-mod read_text;
+mod job_gate;
+mod job_reads_reading;
+mod job_run_read_text;
+mod jobs;
+mod laws;
+mod output;
 mod run;
+mod running;
+mod statuses;
 
 pub use begin_faults::of_begin;
+pub use beside_laws::{
+    a_job_alone_is_one_beside_others, lines_of_workers_hold, lines_of_workers_stay, lines_stay,
+    work_goes_on,
+};
 pub use ending::{barred, stopped};
 pub use job::do_job;
+pub use job_gate::JobGate;
+pub use job_reads_reading::read_text;
+pub use jobs::read_job;
+pub use laws::{
+    edited_trees_are_maps, landed_clashes_are_clashes, listed_were_listed, runs_are_serial,
+    runs_go_on, runs_grow,
+};
+pub use output::print_run;
 pub use run::run_jobs;
+pub use running::run_script;
+pub use statuses::greatest_status;

@@ -3,18 +3,18 @@ ghost use Rattle.std.specs.Prelude.{◌≡◌, ◌⊎◌, ◌≤◌, None, lengt
 ghost use Rattle.fsfs_base.specs.Failures.{Rose};
 ghost use Rattle.fsfs_turn.specs.Mountings.{RoseBy};
 ghost use Rattle.fsfs_turn.specs.Views.{View};
-ghost use Rattle.fsfs_owned_repo.specs.Crashes.{CrashesLeave};
-ghost use Rattle.fsfs_serial.specs.Jobs.{bench_faults_in};
-ghost use Rattle.fsfs_serial.specs.Listed.{LeavesListed};
+ghost use Rattle.fsfs_repo.specs.Crashes.{CrashesLeave};
+ghost use Rattle.fsfs_job_run.specs.Jobs.{bench_faults_in};
+ghost use Rattle.fsfs_job_run.specs.Listed.{LeavesListed};
 ghost use Rattle.fsfs_job_run.specs.Running.{DoAll, IfAnyFails, RunsPast};
 
+use crate::JobGate;
 use crate::job::do_job;
+use fsfs_base::{Gate, GatePlace};
 use fsfs_disk::Disk;
-use fsfs_job_lines::Job;
 use fsfs_jobs::JobAnswer;
-use fsfs_owned_repo::Repo;
-use fsfs_serial::JobGate;
-use fsfs_streams::{Gate, GatePlace};
+use fsfs_repo::Repo;
+use fsfs_script::Job;
 use fsfs_turn::{Owned, Turns};
 use std::alloc::{AllocError, Global};
 

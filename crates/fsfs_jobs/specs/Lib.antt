@@ -3,3 +3,5 @@ pub mod Lines
 pub mod Pieces
 pub mod Properties
 pub mod Serial
+pub mod Answers
+pub mod Editing

@@ -4,8 +4,8 @@ use Rattle.std.specs.BTreeMap.{insert_entry}
 use Rattle.std.specs.Cmp.Lexicographic.{slice_cmp}
 use Rattle.std.specs.Ordering.{nat_cmp}
 use Rattle.fsfs_tree.specs.Dated.{date_name}
-use Rattle.fsfs_answers.specs.PropTexts.{author_name, log_name}
-use Rattle.fsfs_job_lines.specs.declared.job.CommitJob.{CommitJob}
+use Rattle.fsfs_tree.specs.PropTexts.{author_name, log_name}
+use Rattle.fsfs_script.specs.declared.job.CommitJob.{CommitJob}
 
 -- a property of this name, where there is a value
 abbrev pub prop_of : List ℕ → Option (List ℕ) → List (List ℕ × List ℕ)

@@ -2,9 +2,8 @@
 ghost use Rattle.std.specs.Prelude.{◌≡◌};
 ghost use Rattle.fsfs_jobs.specs.Lines.{status_after};
 
-use fsfs_base::FsPath;
-use fsfs_faults::{Fault, status};
-use fsfs_fields::{HexDigest, RevNum};
+use fsfs_base::{FsPath, HexDigest, RevNum};
+use fsfs_cli::{Fault, status};
 
 /// What became of a job: what its line tells.
 #[derive(Drop)]

@@ -5,8 +5,8 @@ ghost use Rattle.fsfs_jobs.specs.Pieces.{committed_front, read_front, conflict_f
 
 use crate::answer::{JobAnswer, TextRead};
 use arrayvec::ArrayString;
-use fsfs_faults::{Fault, digest_text, number_text};
-use fsfs_fields::RevNum;
+use fsfs_base::RevNum;
+use fsfs_cli::{Fault, digest_text, number_text};
 use itoa::Buffer;
 
 // What stands behind a job's number, before a path or the words of a fault.

@@ -1,16 +1,14 @@
 //! Printing the line of a job. It takes no memory.
 ghost use Rattle.std.specs.Prelude.{◌≡◌};
-ghost use Rattle.fsfs_streams.specs.Output.{Prints};
+ghost use Rattle.fsfs_base.specs.Output.{Prints};
 ghost use Rattle.fsfs_jobs.specs.Lines.{stop_words, job_line, youngest_line};
 ghost use Rattle.fsfs_jobs.specs.Pieces.{answer_back};
 
 use crate::answer::JobAnswer;
 use crate::line::line_front;
 use arrayvec::ArrayString;
-use fsfs_base::Failed;
-use fsfs_faults::{Fault, print_path, print_words};
-use fsfs_fields::RevNum;
-use fsfs_streams::{Sink, print};
+use fsfs_base::{Failed, RevNum, Sink, print};
+use fsfs_cli::{Fault, print_path, print_words};
 use itoa::Buffer;
 
 // Writes the words of a fault; none of want of memory, which the line has told.

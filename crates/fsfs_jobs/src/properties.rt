@@ -3,7 +3,7 @@ ghost use Rattle.std.specs.Prelude.{◌≡◌, IfOk, OnOk, option_map};
 ghost use Rattle.fsfs_jobs.specs.Properties.{with_text, undated_properties};
 
 use fsfs_base::Pairs;
-use fsfs_job_lines::{Author, CommitJob, Text};
+use fsfs_script::{Author, CommitJob, Text};
 use std::alloc::{AllocError, Global};
 
 fn author_bytes(author: &Option<Author>) -> Option<&[u8]>

@@ -1,11 +1,11 @@
 -- The small files are read exactly.
 use Rattle.std.proofs.Common.{◌≡◌, ℕ, suc, ◌<◌, ◌≤◌, ◌-◌, eqb, List, [], ◌∷◌, ◌++◌, length, Result, Ok, Err, refl, sym, ap, ◌∙◌, arith, inl, inr}
 use Rattle.std.specs.Prelude.{codes}
-use Rattle.fsfs_grammar.proofs.Readers.{Reads, ReadsAll, next_reads, next_all, mapped_reads, either_reads, except_reads, whole_reads, text_reads, maybe_all, all_found, all_again, all_exact, one_front, chosen, ok_is, err_same}
-use Rattle.fsfs_grammar.proofs.Numerals.{number_reads, no_number, number_some}
+use Rattle.fsfs_base.proofs.Readers.{Reads, ReadsAll, next_reads, next_all, mapped_reads, either_reads, except_reads, whole_reads, text_reads, maybe_all, all_found, all_again, all_exact, one_front, chosen, ok_is, err_same}
+use Rattle.fsfs_base.proofs.Numerals.{number_reads, no_number, number_some}
 use Rattle.std.proofs.lemmas.Bool.{eqb-false, ne_eqb}
-use Rattle.fsfs_grammar.specs.Grammar.{Begins, IsFaultAt}
-use Rattle.fsfs_grammar.specs.Numeral.{IsNumber, number_at}
+use Rattle.fsfs_base.specs.Grammar.{Begins, IsFaultAt}
+use Rattle.fsfs_base.specs.Numeral.{IsNumber, number_at}
 use Rattle.fsfs_layout.proofs.LineBytes.{line_reads}
 use Rattle.fsfs_layout.specs.declared.format_file.Format.{Format}
 use Rattle.fsfs_layout.specs.declared.format_file.Format.TheVariants.{Linear, Sharded, Other}

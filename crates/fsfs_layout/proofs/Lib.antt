@@ -7,3 +7,10 @@ pub mod Offsets
 pub mod Manifests
 pub mod Apart
 pub mod OpeningLemmas
+pub mod PutPairs
+pub mod BuiltMaps
+pub mod Dumps
+pub mod OneText
+pub mod ChildrenFiles
+pub mod ManyLoops
+pub mod Rising

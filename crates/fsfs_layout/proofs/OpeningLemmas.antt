@@ -2,7 +2,7 @@
 use Rattle.std.proofs.Common.{◌≡◌, ◌<◌, ◌≤◌, ℕ, List, sym, subst, ◌∙◌}
 use Rattle.std.specs.Coded.{le_prop}
 use Rattle.std.specs.Prelude.{Option, Some, Result, Ok}
-use Rattle.fsfs_grammar.proofs.Readers.{all_again, ok_is}
+use Rattle.fsfs_base.proofs.Readers.{all_again, ok_is}
 use Rattle.fsfs_layout.specs.Formats.{IsFormat}
 use Rattle.fsfs_layout.specs.Small.{IsUuid}
 use Rattle.fsfs_layout.specs.Opening.{SmallTexts, IsOpened}

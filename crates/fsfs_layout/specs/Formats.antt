@@ -1,7 +1,7 @@
 -- What `db/format` says.
 use Rattle.std.specs.Prelude.{◌≡◌, ◌≢◌, ◌≤◌, ℕ, List, [], ◌∷◌, ◌++◌, ◌⊎◌, codes, decimal}
-use Rattle.fsfs_grammar.specs.Grammar.{Then, IsText, Mapped, Either, Maybe, Except, Begins}
-use Rattle.fsfs_grammar.specs.Numeral.{IsNumber}
+use Rattle.fsfs_base.specs.Grammar.{Then, IsText, Mapped, Either, Maybe, Except, Begins}
+use Rattle.fsfs_base.specs.Numeral.{IsNumber}
 use Rattle.fsfs_layout.specs.declared.format_file.Format.{Format}
 use Rattle.fsfs_layout.specs.declared.format_file.Format.TheVariants.{Linear, Sharded, Other}
 

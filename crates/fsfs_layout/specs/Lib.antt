@@ -8,3 +8,7 @@ pub mod Manifest
 pub mod FileNames
 pub mod CreatedFiles
 pub mod Opening
+pub mod Dump
+pub mod Children
+pub mod HashReading
+pub mod Fault

@@ -1,9 +1,9 @@
 -- Reading the small files from left to right.
 use Rattle.std.specs.Prelude.{ℕ, zero, suc, List, [], ◌∷◌, length, take, Result, Ok, Err, ◌==◌, if◌then◌else◌, codes}
-use Rattle.fsfs_grammar.specs.Grammar.{begins}
-use Rattle.fsfs_grammar.specs.Reading.{◌>>=◌, text_at, whole}
-use Rattle.fsfs_grammar.specs.Numeral.{number_at}
-use Rattle.fsfs_fields.specs.RevNums.{rev_ended_at}
+use Rattle.fsfs_base.specs.Grammar.{begins}
+use Rattle.fsfs_base.specs.Reading.{◌>>=◌, text_at, whole}
+use Rattle.fsfs_base.specs.Numeral.{number_at}
+use Rattle.fsfs_base.specs.RevNums.{rev_ended_at}
 use Rattle.fsfs_layout.specs.declared.format_file.Format.{Format}
 use Rattle.fsfs_layout.specs.declared.format_file.Format.TheVariants.{Linear, Sharded, Other}
 

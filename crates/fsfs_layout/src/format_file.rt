@@ -1,15 +1,15 @@
 //! `db/format`.
 ghost use Rattle.std.specs.Prelude.{◌≡◌, IfOk, IfErr, Ok};
-ghost use Rattle.fsfs_grammar.specs.Reading.{Gives};
+ghost use Rattle.fsfs_base.specs.Reading.{Gives};
 ghost use Rattle.fsfs_layout.specs.declared.format_file.Format.{Format};
 ghost use Rattle.fsfs_layout.specs.Formats.{IsOurFormat, IsFormat, HasText, written_format};
 ghost use Rattle.fsfs_layout.specs.Small.{IsFaultOf};
 ghost use Rattle.fsfs_layout.specs.Reading.{count_at, layout_at, our_format_at, format_at};
 
 use crate::reading::begins_with;
+use fsfs_base::decimals::{decimal, put_decimal};
+use fsfs_base::pieces::text;
 use fsfs_base::{SmallFault, SmallFile};
-use fsfs_grammar::decimals::{decimal, put_decimal};
-use fsfs_grammar::pieces::text;
 use std::alloc::{AllocError, Global};
 
 /// What `db/format` says: the layout of a repository of format 4, or that it has another format.

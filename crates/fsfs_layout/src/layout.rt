@@ -1,7 +1,7 @@
 //! How the files of a repository are laid out.
 ghost use Rattle.std.specs.Prelude.{◌≡◌, ◌≤◌, ◌<◌, ◌/◌, ◌%◌};
 
-use fsfs_fields::RevNum;
+use fsfs_base::RevNum;
 
 /// How the files of a repository are laid out: format 4, with its revisions in shards of one size, from 1 to 2,147,483,647.
 #[derive(Clone, Copy, Debug, PartialEq, Eq)]

@@ -1,17 +1,16 @@
 //! `manifest`, where each revision of a packed shard begins in its pack.
 ghost use Rattle.std.specs.Prelude.{◌≡◌, ◌≤◌, ◌<◌, ◌+◌, ◌*◌, ◌-◌, ℕ, List, length, slice_index, IfOk, IfErr, MatchResult, IsTrue};
 ghost use Rattle.std.specs.List.{flat_map};
-ghost use Rattle.fsfs_grammar.specs.Numeral.{digit};
-ghost use Rattle.fsfs_grammar.specs.Reading.{Gives};
-ghost use Rattle.fsfs_grammar.specs.ReadErrors.{GivesOrMemory};
+ghost use Rattle.fsfs_base.specs.Numeral.{digit};
+ghost use Rattle.fsfs_base.specs.Reading.{Gives};
+ghost use Rattle.fsfs_base.specs.ReadErrors.{GivesOrMemory};
 ghost use Rattle.fsfs_layout.specs.Manifest.{offset_line, DontFall, IsManifest, IsOutOfMemory, IsManifestError};
 ghost use Rattle.fsfs_layout.specs.ManifestReading.{reaches_at, starts_at, follows_at, offset_rest_at, offset_at, lines_at, manifest_at};
 
 use crate::layout::Layout;
-use fsfs_base::{SmallFault, SmallFile};
-use fsfs_grammar::decimals::{decimal, put_decimal};
-use fsfs_grammar::pieces::text;
-use fsfs_grammar::{ReadError, digit_of};
+use fsfs_base::decimals::{decimal, put_decimal};
+use fsfs_base::pieces::text;
+use fsfs_base::{ReadError, SmallFault, SmallFile, digit_of};
 use std::alloc::{AllocError, Global};
 
 /// A manifest was not read.

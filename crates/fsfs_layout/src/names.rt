@@ -1,14 +1,13 @@
 // The texts of names of files and folders that have a number, a revision or a transaction in them.
 ghost use Rattle.std.specs.Prelude.{◌≡◌, ◌≤◌, ◌<◌, ◌+◌, ◌++◌, codes, length};
 ghost use Rattle.std.specs.Fmt.{decimal};
-ghost use Rattle.fsfs_grammar.specs.Base36.{glyph, last_digits};
-ghost use Rattle.fsfs_fields.specs.TxnNames.{txn_text};
+ghost use Rattle.fsfs_base.specs.Base36.{glyph, last_digits};
+ghost use Rattle.fsfs_base.specs.TxnNames.{txn_text};
 ghost use Rattle.fsfs_layout.specs.Names.{in_shard, in_pack, with_txn};
 
 use crate::layout::Layout;
 use crate::part_name::PartName;
-use fsfs_base::Name;
-use fsfs_fields::{RevNum, TxnName};
+use fsfs_base::{Name, RevNum, TxnName};
 use itoa::Buffer;
 
 // The folder of a shard's revision files.
@@ -92,7 +91,7 @@ fn digit(d: u8) -> char
 }
 
 // Puts the last digits of a number in base 36 at the end.
-#[tactic(auto, unfolding(fsfs_grammar::specs::Base36::last_digits))]
+#[tactic(auto, unfolding(fsfs_base::specs::Base36::last_digits))]
 fn push_base36(name: &mut Name, digits: usize, number: u128)
     requires { length name.old + digits ≤ 128 }
     ensures text { name.new ≡ name.old ++ last_digits digits number }

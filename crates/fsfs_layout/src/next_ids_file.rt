@@ -1,12 +1,11 @@
 //! `next-ids` in a transaction's folder.
 ghost use Rattle.std.specs.Prelude.{◌≡◌, ℕ, IfOk, IfErr, IsOkAnd};
-ghost use Rattle.fsfs_grammar.specs.Reading.{Gives};
+ghost use Rattle.fsfs_base.specs.Reading.{Gives};
 ghost use Rattle.fsfs_layout.specs.Small.{IsNextIds, IsFaultOf};
 ghost use Rattle.fsfs_layout.specs.Reading.{next_ids_at};
 
-use fsfs_base::{SmallFault, SmallFile};
-use fsfs_grammar::B36;
-use fsfs_grammar::base36::{base36_number, put_base36};
+use fsfs_base::base36::{base36_number, put_base36};
+use fsfs_base::{B36, SmallFault, SmallFile};
 use std::alloc::{AllocError, Global};
 
 /// The numbers that a transaction's next node and next copy get.

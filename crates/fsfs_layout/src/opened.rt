@@ -2,8 +2,7 @@
 
 use crate::layout::Layout;
 use crate::uuid_file::Uuid;
-use fsfs_base::B36;
-use fsfs_fields::RevNum;
+use fsfs_base::{B36, RevNum};
 
 /// What the small files of a repository say.
 #[derive(Drop)]

@@ -1,6 +1,6 @@
 //! What the readers of small files share.
 ghost use Rattle.std.specs.Prelude.{◌≡◌};
-ghost use Rattle.fsfs_grammar.specs.Grammar.{begins};
+ghost use Rattle.fsfs_base.specs.Grammar.{begins};
 
 /// Whether the bytes begin with this one.
 pub(crate) fn begins_with(letter: u8, bytes: &[u8]) -> bool

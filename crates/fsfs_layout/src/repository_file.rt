@@ -6,8 +6,7 @@ use crate::layout::Layout;
 use crate::names;
 use crate::only_file::OnlyFile;
 use crate::txn_file::TxnFile;
-use fsfs_base::{Name, SmallFile};
-use fsfs_fields::{RevNum, TxnName};
+use fsfs_base::{Name, RevNum, SmallFile, TxnName};
 
 /// A file or folder of a repository.
 #[derive(Debug, Drop)]

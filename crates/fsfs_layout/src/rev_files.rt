@@ -1,14 +1,13 @@
 //! Files with one revision: `db/current` and `db/min-unpacked-rev`.
 ghost use Rattle.std.specs.Prelude.{◌≡◌, ℕ, ◌∷◌, [], ◌++◌, IfOk, IfErr, Ok};
 ghost use Rattle.std.specs.Fmt.{decimal};
-ghost use Rattle.fsfs_grammar.specs.Reading.{Gives};
+ghost use Rattle.fsfs_base.specs.Reading.{Gives};
 ghost use Rattle.fsfs_layout.specs.Small.{IsRevLine, IsMinUnpackedRev, IsFaultOf, IsMinUnpackedFault};
 ghost use Rattle.fsfs_layout.specs.Layouts.{place_in_shard};
 ghost use Rattle.fsfs_layout.specs.Reading.{rev_line_at};
 
 use crate::layout::Layout;
-use fsfs_base::{SmallFault, SmallFile};
-use fsfs_fields::RevNum;
+use fsfs_base::{RevNum, SmallFault, SmallFile};
 use std::alloc::{AllocError, Global};
 
 fn rev_line(bytes: &[u8]) -> Result<RevNum, usize>

@@ -1,12 +1,11 @@
 //! `db/txn-current`, the number that the next transaction's name gets.
 ghost use Rattle.std.specs.Prelude.{◌≡◌, ℕ, IfOk, IfErr, IsOkAnd};
-ghost use Rattle.fsfs_grammar.specs.Reading.{Gives};
+ghost use Rattle.fsfs_base.specs.Reading.{Gives};
 ghost use Rattle.fsfs_layout.specs.Small.{IsBase36Line, IsFaultOf};
 ghost use Rattle.fsfs_layout.specs.Reading.{base36_line_at};
 
-use fsfs_base::{SmallFault, SmallFile};
-use fsfs_grammar::B36;
-use fsfs_grammar::base36::{base36_number, put_base36};
+use fsfs_base::base36::{base36_number, put_base36};
+use fsfs_base::{B36, SmallFault, SmallFile};
 use std::alloc::{AllocError, Global};
 
 fn base36_line(bytes: &[u8]) -> Result<B36, usize>

@@ -4,8 +4,7 @@ ghost use Rattle.fsfs_layout.specs.FileNames.{txn_file_name};
 
 use crate::names::{in_txn, proto_revision, proto_revision_lock, txn_folder};
 use crate::part_name::PartName;
-use fsfs_base::Name;
-use fsfs_fields::TxnName;
+use fsfs_base::{Name, TxnName};
 
 /// A file or folder of a transaction.
 #[derive(Debug, Drop)]

@@ -1,12 +1,12 @@
 //! `db/uuid`.
 ghost use Rattle.std.specs.Prelude.{◌≡◌, ℕ, List, [], ◌∷◌, ◌++◌, length, ◌≤◌, IfOk, IfErr, OnOk, Ok};
-ghost use Rattle.fsfs_grammar.specs.Reading.{Gives};
-ghost use Rattle.fsfs_grammar.specs.Cuts.{Lacks};
+ghost use Rattle.fsfs_base.specs.Reading.{Gives};
+ghost use Rattle.fsfs_base.specs.Cuts.{Lacks};
 ghost use Rattle.fsfs_layout.specs.Small.{IsUuid, IsFaultOf};
 ghost use Rattle.fsfs_layout.specs.Reading.{line_rest_at, line_bytes_at, uuid_at};
 
+use fsfs_base::pieces::text;
 use fsfs_base::{SmallFault, SmallFile};
-use fsfs_grammar::pieces::text;
 use std::alloc::{AllocError, Global};
 use std::marker::Model;
 
@@ -18,7 +18,7 @@ pub struct Uuid {
 
 impl Model for Uuid {
     ghost use Rattle.std.specs.Prelude.{◌≡◌, ℕ, List, length};
-    ghost use Rattle.fsfs_grammar.specs.Cuts.{Lacks};
+    ghost use Rattle.fsfs_base.specs.Cuts.{Lacks};
 
     ghost Value = { List ℕ };
 

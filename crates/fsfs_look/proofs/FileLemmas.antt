@@ -4,28 +4,28 @@ use Rattle.std.proofs.Common.{◌≡◌, ◌≤◌, ℕ, List, [], ◌++◌, tak
 use Rattle.std.proofs.lemmas.List.{take-append-drop}
 use Rattle.fsfs_base.specs.Paths.{Path}
 use Rattle.fsfs_base.specs.declared.kind.Kind.TheVariants.{File, Dir}
-use Rattle.fsfs_damage.specs.declared.wrong.Refusal.{Refusal}
-use Rattle.fsfs_book.specs.Told.{RevisionBytes, Told}
-use Rattle.fsfs_streams.specs.Streams.{Adds}
-use Rattle.fsfs_streams.proofs.StreamLemmas.{adds_then}
+use Rattle.fsfs_revision.specs.declared.wrong.Refusal.{Refusal}
+use Rattle.fsfs_revision.specs.Told.{RevisionBytes, Told}
+use Rattle.fsfs_base.specs.Streams.{Adds}
+use Rattle.fsfs_base.proofs.StreamLemmas.{adds_then}
 use Rattle.fsfs_noderev.specs.declared.rep.Rep.{Rep}
 use Rattle.fsfs_noderev.specs.declared.rep.Contents.TheVariants as contents
 use Rattle.fsfs_noderev.specs.declared.node_rev.NodeRev.{NodeRev}
-use Rattle.fsfs_rep.specs.Faults.{IsRefusedFor}
-use Rattle.fsfs_rep.specs.Frames.{rev_of, text_of, IsWhole, IsFaultOf}
-use Rattle.fsfs_damage.specs.declared.wrong.ReadError.{ReadError}
-use Rattle.fsfs_damage.specs.declared.wrong.ReadError.TheVariants as reads
-use Rattle.fsfs_damage.specs.Readings.{Answers}
-use Rattle.fsfs_shows.specs.Reading.{RepAt, TextOf, MetAt, Stands}
-use Rattle.fsfs_shows.proofs.OneRep.{rep_at_one}
+use Rattle.fsfs_revision.specs.Faults.{IsRefusedFor}
+use Rattle.fsfs_revision.specs.Frames.{rev_of, text_of, IsWhole, IsFaultOf}
+use Rattle.fsfs_revision.specs.declared.wrong.ReadError.{ReadError}
+use Rattle.fsfs_revision.specs.declared.wrong.ReadError.TheVariants as reads
+use Rattle.fsfs_revision.specs.Readings.{Answers}
+use Rattle.fsfs_revision.specs.ShowsReading.{RepAt, TextOf, MetAt, Stands}
+use Rattle.fsfs_revision.proofs.OneRep.{rep_at_one}
 use Rattle.fsfs_dag.proofs.Reps.{rep_wrong, contents_some, contents_none}
 use Rattle.fsfs_look.specs.declared.look_error.LookError.{LookError}
 use Rattle.fsfs_look.specs.declared.look_error.LookError.TheVariants as errors
-use Rattle.fsfs_printed.specs.declared.look_fault.LookFault.TheVariants as faults
+use Rattle.fsfs_stands.specs.declared.look_fault.LookFault.TheVariants as faults
 use Rattle.fsfs_look.specs.Errors.{of_read, IsWrong}
-use Rattle.fsfs_streams.specs.Output.{AddsFront}
-use Rattle.fsfs_printed.specs.Texts.{End, Whole, Refused, Stopped}
-use Rattle.fsfs_printed.specs.FileTexts.{KindText, FileText, IsWholeText}
+use Rattle.fsfs_base.specs.Output.{AddsFront}
+use Rattle.fsfs_stands.specs.Texts.{End, Whole, Refused, Stopped}
+use Rattle.fsfs_stands.specs.FileTexts.{KindText, FileText, IsWholeText}
 use Rattle.fsfs_look.specs.Written.{Writes, WritesFront, HasDiskCause, HasSinkCause}
 use Rattle.fsfs_look.proofs.NodeTexts.{writes_as}
 use Rattle.fsfs_look.proofs.ProgressLemmas.{adds_nothing}

@@ -6,3 +6,7 @@ pub mod BelowHome
 pub mod NodeTexts
 pub mod FileLemmas
 pub mod PieceLemmas
+pub mod RevpropsFileLemmas
+pub mod OneText
+pub mod ByProps
+pub mod LookLemmas

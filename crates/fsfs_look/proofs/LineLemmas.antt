@@ -2,9 +2,9 @@
 use Rattle.std.proofs.Common.{◌≡◌, ◌++◌, ℕ, Bool, List, ap, refl, ◌∙◌, append_assoc, replicate}
 use Rattle.std.specs.Prelude.{codes}
 use Rattle.fsfs_base.specs.Paths.{PathName}
-use Rattle.fsfs_answers.specs.Answers.{kind_mark}
+use Rattle.fsfs_tree.specs.Answers.{kind_mark}
 use Rattle.fsfs_noderev.specs.declared.node_rev.NodeRev.{NodeRev}
-use Rattle.fsfs_printed.specs.TreeTexts.{IsShownId, IsLine}
+use Rattle.fsfs_stands.specs.TreeTexts.{IsShownId, IsLine}
 
 module _ (before spaces name mark shown_id end : List ℕ) where
   grouped : before ++ spaces ++ name ++ mark ++ shown_id ++ end ≡ before ++ (spaces ++ name ++ mark ++ shown_id ++ end)

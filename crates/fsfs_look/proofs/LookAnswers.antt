@@ -1,18 +1,18 @@
 -- What a reading answered, as a look answers it.
 use Rattle.std.proofs.Common.{◌≡◌, ℕ, ◌≤◌, ◌-◌, List, [], ◌∷◌, length, get_or, map, Result, Ok, Err, refl, subst, arith}
 use Rattle.fsfs_base.specs.Paths.{PathName, Path}
-use Rattle.fsfs_book.specs.Told.{RevisionBytes}
-use Rattle.fsfs_answers.specs.Answers.{last_name}
-use Rattle.fsfs_damage.specs.declared.wrong.ReadError.{ReadError}
-use Rattle.fsfs_damage.specs.declared.wrong.ReadError.TheVariants as reads
-use Rattle.fsfs_damage.specs.Readings.{Answers}
-use Rattle.fsfs_shows.specs.Reading.{MetAt}
+use Rattle.fsfs_revision.specs.Told.{RevisionBytes}
+use Rattle.fsfs_tree.specs.Answers.{last_name}
+use Rattle.fsfs_revision.specs.declared.wrong.ReadError.{ReadError}
+use Rattle.fsfs_revision.specs.declared.wrong.ReadError.TheVariants as reads
+use Rattle.fsfs_revision.specs.Readings.{Answers}
+use Rattle.fsfs_revision.specs.ShowsReading.{MetAt}
 use Rattle.fsfs_dag.specs.declared.node.PlacedNode.{PlacedNode}
 use Rattle.fsfs_dag.specs.declared.walk.Met.{Met as Rust}
 use Rattle.fsfs_dag.specs.declared.walk.Met.TheVariants as mets
 use Rattle.fsfs_dag.specs.Views.{met_value}
 use Rattle.fsfs_look.specs.declared.look_error.LookError.TheVariants as errors
-use Rattle.fsfs_printed.specs.declared.look_fault.LookFault.TheVariants as faults
+use Rattle.fsfs_stands.specs.declared.look_fault.LookFault.TheVariants as faults
 use native.Mathlib.Numerals.{unary_clauses}
 use Rattle.fsfs_look.specs.Errors.{of_read}
 use Rattle.fsfs_look.specs.Paths.{IsFound}

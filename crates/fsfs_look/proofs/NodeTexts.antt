@@ -1,20 +1,20 @@
 -- The text of a node at a path, to its end.
 use Rattle.std.proofs.Common.{◌≡◌, ℕ, Bool, List, [], ◌++◌, Option, Result, Ok, Err, refl, sym, ap, subst, ◌∙◌, append_assoc, append-nil, inl, inr}
 use Rattle.fsfs_base.specs.Paths.{PathName, Path}
-use Rattle.fsfs_book.specs.Told.{RevisionBytes}
-use Rattle.fsfs_streams.specs.Streams.{Adds}
-use Rattle.fsfs_streams.proofs.StreamLemmas.{adds_then}
-use Rattle.fsfs_answers.specs.Answers.{last_name}
+use Rattle.fsfs_revision.specs.Told.{RevisionBytes}
+use Rattle.fsfs_base.specs.Streams.{Adds}
+use Rattle.fsfs_base.proofs.StreamLemmas.{adds_then}
+use Rattle.fsfs_tree.specs.Answers.{last_name}
 use Rattle.fsfs_noderev.specs.declared.node_rev.NodeRev.{NodeRev}
-use Rattle.fsfs_shows.specs.Reading.{MetAt, Met, Stands, Lacking, Blocked}
+use Rattle.fsfs_revision.specs.ShowsReading.{MetAt, Met, Stands, Lacking, Blocked}
 use Rattle.fsfs_look.specs.declared.look_error.LookError.{LookError}
 use Rattle.fsfs_look.specs.declared.look_error.LookError.TheVariants as errors
-use Rattle.fsfs_printed.specs.declared.look_fault.LookFault.TheVariants as faults
+use Rattle.fsfs_stands.specs.declared.look_fault.LookFault.TheVariants as faults
 use Rattle.fsfs_dag.specs.TreeWalks.{Left}
-use Rattle.fsfs_streams.specs.Output.{AddsFront}
+use Rattle.fsfs_base.specs.Output.{AddsFront}
 use Rattle.fsfs_look.specs.Paths.{IsFound}
-use Rattle.fsfs_printed.specs.Texts.{End, Whole, Refused, Stopped, AtPath}
-use Rattle.fsfs_printed.specs.TreeTexts.{NodeText, TreeText}
+use Rattle.fsfs_stands.specs.Texts.{End, Whole, Refused, Stopped, AtPath}
+use Rattle.fsfs_stands.specs.TreeTexts.{NodeText, TreeText}
 use Rattle.fsfs_look.specs.Walks.{Then, LeftText, NodeFrom, Puts, Joins, JoinsSome, Walks, EndsSo}
 use Rattle.fsfs_look.specs.Written.{Writes, WritesFront}
 use Rattle.fsfs_look.proofs.ProgressLemmas.{adds_nothing}

@@ -3,9 +3,9 @@ use Rattle.std.proofs.Common.{◌≡◌, ℕ, ◌+◌, ◌-◌, ◌^◌, ◌≤�
 use Rattle.std.specs.Prelude.{codes, min}
 use Rattle.std.proofs.lemmas.List.{length-take, length-drop}
 use Rattle.fsfs_noderev.specs.declared.rep.Rep.{Rep}
-use Rattle.fsfs_rep.specs.Frames.{text_of, IsWhole}
-use Rattle.fsfs_rep.proofs.HeaderLemmas.{stands_fits}
-use Rattle.fsfs_rep.proofs.ReadingLemmas.{piece_read}
+use Rattle.fsfs_revision.specs.Frames.{text_of, IsWhole}
+use Rattle.fsfs_revision.proofs.HeaderLemmas.{stands_fits}
+use Rattle.fsfs_revision.proofs.ReadingLemmas.{piece_read}
 
 -- the bytes reach beyond the text
 text_within : (rep : Rep) (bytes : List ℕ) → IsWhole rep bytes → rep.offset + 6 + rep.length < length bytes

@@ -1,22 +1,22 @@
 -- How far a text was written.
 use Rattle.std.proofs.Common.{◌≡◌, ℕ, Bool, ◌≤◌, List, [], ◌∷◌, ◌++◌, Option, Some, None, Ok, Err, sym, ap, subst, ◌∙◌, append_assoc, append-nil, arith}
-use Rattle.fsfs_book.specs.Told.{RevisionBytes, Telling, Knows, Keeps}
-use Rattle.fsfs_streams.specs.Streams.{Adds}
-use Rattle.fsfs_streams.proofs.StreamLemmas.{adds_then}
+use Rattle.fsfs_revision.specs.Told.{RevisionBytes, Telling, Knows, Keeps}
+use Rattle.fsfs_base.specs.Streams.{Adds}
+use Rattle.fsfs_base.proofs.StreamLemmas.{adds_then}
 use Rattle.fsfs_noderev.specs.declared.node_rev.NodeRev.{NodeRev}
-use Rattle.fsfs_damage.specs.declared.wrong.ReadError.{ReadError}
-use Rattle.fsfs_damage.specs.declared.wrong.ReadError.TheVariants as reads
-use Rattle.fsfs_damage.specs.Readings.{Answers}
-use Rattle.fsfs_shows.specs.Reading.{DirEntry, OfEntry}
+use Rattle.fsfs_revision.specs.declared.wrong.ReadError.{ReadError}
+use Rattle.fsfs_revision.specs.declared.wrong.ReadError.TheVariants as reads
+use Rattle.fsfs_revision.specs.Readings.{Answers}
+use Rattle.fsfs_revision.specs.ShowsReading.{DirEntry, OfEntry}
 use Rattle.fsfs_dag.specs.TreeWalks.{Left}
 use Rattle.fsfs_dag.specs.declared.node.PlacedNode.{PlacedNode}
 use Rattle.fsfs_look.specs.declared.look_error.LookError.{LookError}
 use Rattle.fsfs_look.specs.declared.look_error.LookError.TheVariants as errors
-use Rattle.fsfs_printed.specs.declared.look_fault.LookFault.TheVariants as faults
+use Rattle.fsfs_stands.specs.declared.look_fault.LookFault.TheVariants as faults
 use Rattle.fsfs_look.specs.Errors.{of_read}
-use Rattle.fsfs_streams.specs.Output.{AddsFront}
-use Rattle.fsfs_printed.specs.Texts.{End, Whole, Refused, Stopped}
-use Rattle.fsfs_printed.specs.TreeTexts.{EntryText}
+use Rattle.fsfs_base.specs.Output.{AddsFront}
+use Rattle.fsfs_stands.specs.Texts.{End, Whole, Refused, Stopped}
+use Rattle.fsfs_stands.specs.TreeTexts.{EntryText}
 use Rattle.fsfs_look.specs.Walks.{Then, LeftText, Puts, Joins, JoinsSome, Walks}
 use Rattle.fsfs_look.proofs.TextsLeft.{wrong_first, refused_first, stops_first, node_first}
 

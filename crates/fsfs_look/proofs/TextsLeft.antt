@@ -3,18 +3,18 @@ use Rattle.std.proofs.Common.{◌≡◌, ℕ, Bool, suc, List, [], ◌∷◌, �
 use Rattle.std.specs.Prelude.{◌≢◌}
 use Rattle.fsfs_base.specs.Paths.{PathName}
 use Rattle.fsfs_base.specs.declared.kind.Kind.TheVariants.{File, Dir}
-use Rattle.fsfs_book.specs.Told.{RevisionBytes}
+use Rattle.fsfs_revision.specs.Told.{RevisionBytes}
 use Rattle.fsfs_noderev.specs.declared.node_rev.NodeRev.{NodeRev}
-use Rattle.fsfs_damage.specs.declared.wrong.Wrong.{Wrong}
-use Rattle.fsfs_shows.specs.Reading.{DirEntry, EntriesOf, OfEntry}
+use Rattle.fsfs_revision.specs.declared.wrong.Wrong.{Wrong}
+use Rattle.fsfs_revision.specs.ShowsReading.{DirEntry, EntriesOf, OfEntry}
 use Rattle.fsfs_dag.specs.TreeWalks.{Left, at_level, Enters}
-use Rattle.fsfs_printed.specs.declared.look_fault.LookFault.TheVariants as faults
-use Rattle.fsfs_damage.specs.declared.wrong.ReadError.{ReadError}
-use Rattle.fsfs_damage.specs.declared.wrong.ReadError.TheVariants as reads
+use Rattle.fsfs_stands.specs.declared.look_fault.LookFault.TheVariants as faults
+use Rattle.fsfs_revision.specs.declared.wrong.ReadError.{ReadError}
+use Rattle.fsfs_revision.specs.declared.wrong.ReadError.TheVariants as reads
 use Rattle.fsfs_look.specs.declared.look_error.LookError.{LookError}
 use Rattle.fsfs_look.specs.Errors.{of_read}
-use Rattle.fsfs_printed.specs.Texts.{End, Whole, Refused, Stopped}
-use Rattle.fsfs_printed.specs.TreeTexts.{IsLine, NodeText, OfFile, OfDir, OfWrongDir, EntryText, OfNode, OfWrong, Stops, EntriesText, OfNone, OfLast, OfNext}
+use Rattle.fsfs_stands.specs.Texts.{End, Whole, Refused, Stopped}
+use Rattle.fsfs_stands.specs.TreeTexts.{IsLine, NodeText, OfFile, OfDir, OfWrongDir, EntryText, OfNode, OfWrong, Stops, EntriesText, OfNone, OfLast, OfNext}
 use Rattle.fsfs_look.specs.Walks.{Then, LeftText, Puts}
 
 module _ (look : RevisionBytes) (ids : Bool) where

@@ -1,7 +1,7 @@
 -- What the errors of the readers below mean.
-use Rattle.fsfs_damage.specs.declared.wrong.ReadError.{ReadError}
-use Rattle.fsfs_damage.specs.declared.wrong.ReadError.TheVariants as reads
-use Rattle.fsfs_printed.specs.declared.look_fault.LookFault.TheVariants.{Wrong}
+use Rattle.fsfs_revision.specs.declared.wrong.ReadError.{ReadError}
+use Rattle.fsfs_revision.specs.declared.wrong.ReadError.TheVariants as reads
+use Rattle.fsfs_stands.specs.declared.look_fault.LookFault.TheVariants.{Wrong}
 use Rattle.fsfs_look.specs.declared.look_error.LookError.{LookError}
 use Rattle.fsfs_look.specs.declared.look_error.LookError.TheVariants.{OutOfMemory, DiskFault, Fault}
 

@@ -1,13 +1,13 @@
 -- What a look finds at a path.
 use Rattle.std.specs.Prelude.{ℕ, Result, Ok, Err}
 use Rattle.fsfs_base.specs.Paths.{Path}
-use Rattle.fsfs_book.specs.Told.{RevisionBytes}
+use Rattle.fsfs_revision.specs.Told.{RevisionBytes}
 use Rattle.fsfs_dag.specs.declared.node.PlacedNode.{PlacedNode}
-use Rattle.fsfs_shows.specs.Reading.{Stands, Lacking, Blocked, MetAt}
+use Rattle.fsfs_revision.specs.ShowsReading.{Stands, Lacking, Blocked, MetAt}
 use Rattle.fsfs_look.specs.declared.look_error.LookError.{LookError}
 use Rattle.fsfs_look.specs.declared.look_error.LookError.TheVariants as errors
-use Rattle.fsfs_printed.specs.declared.look_fault.LookFault.{LookFault}
-use Rattle.fsfs_printed.specs.declared.look_fault.LookFault.TheVariants as faults
+use Rattle.fsfs_stands.specs.declared.look_fault.LookFault.{LookFault}
+use Rattle.fsfs_stands.specs.declared.look_fault.LookFault.TheVariants as faults
 
 -- why there is no node at the path
 abbrev pub IsNotFound : RevisionBytes → ℕ → Path → LookFault → Type 0

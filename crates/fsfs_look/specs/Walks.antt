@@ -1,15 +1,15 @@
 -- What is left to write of a tree.
 use Rattle.std.specs.Prelude.{◌≡◌, ◌≢◌, ◌⊎◌, ℕ, Bool, List, [], ◌∷◌, ◌++◌, Option, Result, Ok, Err}
 use Rattle.fsfs_base.specs.Paths.{PathName}
-use Rattle.fsfs_book.specs.Told.{RevisionBytes}
-use Rattle.fsfs_streams.specs.Streams.{Adds}
+use Rattle.fsfs_revision.specs.Told.{RevisionBytes}
+use Rattle.fsfs_base.specs.Streams.{Adds}
 use Rattle.fsfs_noderev.specs.declared.node_rev.NodeRev.{NodeRev}
 use Rattle.fsfs_dag.specs.TreeWalks.{Left}
 use Rattle.fsfs_look.specs.declared.look_error.LookError.{LookError}
 use Rattle.fsfs_look.specs.declared.look_error.LookError.TheVariants as errors
-use Rattle.fsfs_streams.specs.Output.{AddsFront}
-use Rattle.fsfs_printed.specs.Texts.{End, Whole, Refused, Stopped, Nothing}
-use Rattle.fsfs_printed.specs.TreeTexts.{NodeText, EntryText}
+use Rattle.fsfs_base.specs.Output.{AddsFront}
+use Rattle.fsfs_stands.specs.Texts.{End, Whole, Refused, Stopped, Nothing}
+use Rattle.fsfs_stands.specs.TreeTexts.{NodeText, EntryText}
 
 -- one text behind another, if that is whole
 abbrev pub Then : (List ℕ → End → Type 0) → (List ℕ → End → Type 0) → List ℕ → End → Type 0

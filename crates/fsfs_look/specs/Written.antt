@@ -1,11 +1,11 @@
 -- What a look gave to a sink, and the causes of its failures.
 use Rattle.std.specs.Prelude.{ℕ, List, Option, Result, Ok, Err}
 use Rattle.fsfs_base.specs.Counts.{HasCause}
-use Rattle.fsfs_streams.specs.Streams.{Adds}
+use Rattle.fsfs_base.specs.Streams.{Adds}
 use Rattle.fsfs_look.specs.declared.look_error.LookError.{LookError}
 use Rattle.fsfs_look.specs.declared.look_error.LookError.TheVariants as errors
-use Rattle.fsfs_streams.specs.Output.{AddsFront}
-use Rattle.fsfs_printed.specs.Texts.{End, Whole, Refused}
+use Rattle.fsfs_base.specs.Output.{AddsFront}
+use Rattle.fsfs_stands.specs.Texts.{End, Whole, Refused}
 
 -- a first part of a text was written
 abbrev pub WritesFront : (List ℕ → End → Type 0) → Option (List ℕ) → Option (List ℕ) → Type 0

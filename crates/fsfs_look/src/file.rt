@@ -1,28 +1,24 @@
 //! The text of a file.
 ghost use Rattle.std.specs.Prelude.{◌≡◌, ◌≤◌, ◌<◌, ◌+◌, ◌-◌, ◌^◌, min, ℕ, List, Some, Ok, Err, IsSome, IsOk, IfOk, IfErr, MatchResult, length, take, drop};
 ghost use Rattle.md5.specs.Md5.{Holds, md5};
-ghost use Rattle.fsfs_damage.specs.declared.damage.RepWhat.TheVariants as repwhat;
-ghost use Rattle.fsfs_damage.specs.declared.wrong.ReadError.TheVariants.{Wrong};
-ghost use Rattle.fsfs_damage.specs.declared.wrong.Refusal.{Refusal};
-ghost use Rattle.fsfs_book.specs.Told.{RevisionBytes, Knows, Keeps};
-ghost use Rattle.fsfs_damage.specs.Causes.{HasCause};
-ghost use Rattle.fsfs_rep.specs.Faults.{IsRefusedFor};
-ghost use Rattle.fsfs_rep.specs.Frames.{rev_of, text_of, HasMd5, IsWhole, IsFaultOf, bad_rep};
-ghost use Rattle.fsfs_printed.specs.FileTexts.{FileText, IsWholeText};
+ghost use Rattle.fsfs_revision.specs.declared.damage.RepWhat.TheVariants as repwhat;
+ghost use Rattle.fsfs_revision.specs.declared.wrong.ReadError.TheVariants.{Wrong};
+ghost use Rattle.fsfs_revision.specs.declared.wrong.Refusal.{Refusal};
+ghost use Rattle.fsfs_revision.specs.Told.{RevisionBytes, Knows, Keeps};
+ghost use Rattle.fsfs_revision.specs.Causes.{HasCause};
+ghost use Rattle.fsfs_revision.specs.Faults.{IsRefusedFor};
+ghost use Rattle.fsfs_revision.specs.Frames.{rev_of, text_of, HasMd5, IsWhole, IsFaultOf, bad_rep};
+ghost use Rattle.fsfs_stands.specs.FileTexts.{FileText, IsWholeText};
 ghost use Rattle.fsfs_look.specs.Errors.{of_read, IsWrong};
 ghost use Rattle.fsfs_look.specs.Written.{Writes, HasDiskCause, HasSinkCause};
 
 use crate::look_error::LookError;
 use crate::path::found_at;
 use crate::piece::write_piece;
-use fsfs_base::{FsPath, Kind, fitting};
-use fsfs_book::Book;
-use fsfs_damage::{ReadError, RepWhat};
-use fsfs_fields::{HexDigest, RevNum};
+use fsfs_base::{FsPath, HexDigest, Kind, RevNum, Sink, fitting};
 use fsfs_noderev::Rep;
-use fsfs_printed::LookFault;
-use fsfs_rep::{PLAIN_LEN, RepReader, bad_rep, window};
-use fsfs_streams::Sink;
+use fsfs_revision::{Book, PLAIN_LEN, ReadError, RepReader, RepWhat, bad_rep, window};
+use fsfs_stands::LookFault;
 use md5::{Digest, Md5};
 use std::alloc::Global;
 

@@ -1,8 +1,8 @@
 //! The line of a node in the text of a tree.
 ghost use Rattle.std.specs.Prelude.{◌≡◌, ◌++◌, ℕ, List, replicate, OnOk, codes};
 ghost use Rattle.fsfs_noderev.specs.Fields.{IsIdText};
-ghost use Rattle.fsfs_answers.specs.Answers.{kind_mark};
-ghost use Rattle.fsfs_printed.specs.TreeTexts.{IsLine};
+ghost use Rattle.fsfs_tree.specs.Answers.{kind_mark};
+ghost use Rattle.fsfs_stands.specs.TreeTexts.{IsLine};
 
 use fsfs_base::Kind;
 use fsfs_noderev::{NodeId, NodeRev, put_id};

@@ -1,8 +1,8 @@
 //! Why a look at a revision prints nothing, or no more.
 ghost use Rattle.std.specs.Prelude.{◌≡◌};
 
-use fsfs_damage::ReadError;
-use fsfs_printed::LookFault;
+use fsfs_revision::ReadError;
+use fsfs_stands::LookFault;
 use std::alloc::AllocError;
 use thiserror::Error;
 

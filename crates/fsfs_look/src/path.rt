@@ -1,16 +1,15 @@
 //! The node at a path of a revision, or the fault that names a part of the path.
-ghost use Rattle.fsfs_book.specs.Told.{RevisionBytes, Knows, Keeps};
-ghost use Rattle.fsfs_answers.specs.Answers.{last_name as last};
+ghost use Rattle.fsfs_revision.specs.Told.{RevisionBytes, Knows, Keeps};
+ghost use Rattle.fsfs_tree.specs.Answers.{last_name as last};
 ghost use Rattle.std.specs.Prelude.{◌≡◌, ℕ};
 ghost use Rattle.fsfs_look.specs.Paths.{IsFound};
 ghost use Rattle.fsfs_look.specs.Written.{HasDiskCause, HasSinkCause};
 
 use crate::look_error::LookError;
-use fsfs_base::FsPath;
-use fsfs_book::Book;
+use fsfs_base::{FsPath, RevNum};
 use fsfs_dag::{Met, PlacedNode, node_at};
-use fsfs_fields::RevNum;
-use fsfs_printed::LookFault;
+use fsfs_revision::Book;
+use fsfs_stands::LookFault;
 use std::alloc::Global;
 
 /// The node that stands at a path of a revision. It writes nothing.

@@ -1,13 +1,13 @@
 //! Writing a part of a look, and the lines that are kept until they fill a piece.
 ghost use Rattle.std.specs.Prelude.{◌≡◌, ◌++◌, ℕ, List, [], OnOk, OnErr, IfErr};
-ghost use Rattle.fsfs_streams.specs.Streams.{Adds};
-ghost use Rattle.fsfs_streams.specs.Output.{AddsFront};
+ghost use Rattle.fsfs_base.specs.Streams.{Adds};
+ghost use Rattle.fsfs_base.specs.Output.{AddsFront};
 ghost use Rattle.fsfs_look.specs.declared.look_error.LookError.TheVariants.{WriteFault};
 ghost use Rattle.fsfs_look.specs.Walks.{EndsSo};
 ghost use Rattle.fsfs_look.specs.Written.{HasDiskCause, HasSinkCause};
 
 use crate::look_error::LookError;
-use fsfs_streams::{Sink, print};
+use fsfs_base::{Sink, print};
 
 // How many bytes of lines are kept before they are written.
 const PIECE: usize = 8192;

@@ -4,9 +4,9 @@ ghost use Rattle.fsfs_machine.specs.Machine.{entry_of};
 
 use crate::contents::{Bytes, Contents};
 use fsfs_base::{FsPath, Pairs};
-use fsfs_fields::RevNum;
-use fsfs_flat::{Edit, Mark};
-use fsfs_places::DiskPlace;
+use fsfs_base::RevNum;
+use fsfs_model::{Edit, Mark};
+use fsfs_base::DiskPlace;
 use fsfs_tree::{Revision, Tree};
 use std::marker::Model;
 
@@ -43,7 +43,7 @@ pub struct Marks {
 
 impl Model for Marks {
     ghost use Rattle.std.specs.Prelude.{List};
-    ghost use Rattle.fsfs_flat.specs.declared.mark.Mark.{Mark};
+    ghost use Rattle.fsfs_model.specs.declared.mark.Mark.{Mark};
 
     ghost Value = { List Mark };
 
@@ -104,7 +104,7 @@ pub struct Entry {
 }
 
 impl Model for Entry {
-    ghost use Rattle.fsfs_flat.specs.Transactions.{Entry};
+    ghost use Rattle.fsfs_model.specs.Transactions.{Entry};
     ghost use Rattle.fsfs_machine.specs.Codes.{coded_entry};
 
     ghost Value = { Entry };
@@ -193,7 +193,7 @@ pub struct Places {
 
 impl Model for Places {
     ghost use Rattle.std.specs.Prelude.{List};
-    ghost use Rattle.fsfs_places.specs.declared.place.DiskPlace.{DiskPlace};
+    ghost use Rattle.fsfs_base.specs.declared.place.DiskPlace.{DiskPlace};
 
     ghost Value = { List DiskPlace };
 

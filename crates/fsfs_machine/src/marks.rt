@@ -3,8 +3,8 @@ ghost use Rattle.std.specs.Prelude.{◌≡◌, ◌+◌, ◌++◌, ◌∷◌, [],
 ghost use Rattle.fsfs_machine.specs.Machine.{at_place, edited, merged};
 
 use crate::machine::{Marks, Txn};
-use fsfs_fields::RevNum;
-use fsfs_flat::Mark;
+use fsfs_base::RevNum;
+use fsfs_model::Mark;
 use fsfs_tree::Tree;
 use std::alloc::{AllocError, Global};
 

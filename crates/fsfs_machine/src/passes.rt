@@ -4,7 +4,7 @@ ghost use Rattle.fsfs_machine.specs.Machine.{at_place, learns, reveals, joined, 
 
 use crate::files::is_fine;
 use crate::machine::{Numbers, Pass, Places, Went};
-use fsfs_places::DiskPlace;
+use fsfs_base::DiskPlace;
 use std::alloc::{AllocError, Global};
 use std::collections::VecDeque;
 

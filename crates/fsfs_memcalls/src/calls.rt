@@ -1,8 +1,8 @@
 // The calls of the system, made in memory.
 ghost use Rattle.std.specs.Prelude.{◌≡◌, ◌⊎◌, ◌≤◌, ◌<◌, ◌-◌, ◌^◌, [], ◌∷◌, ◌++◌, true, min, length, take, drop, OnOk, OnErr, IfOk, IsErrOf};
-ghost use Rattle.fsfs_calls.specs.CallRecord.{file_count, add_call, new_number, names_now, contents_now, is_reachable, IsEmptyAt};
-ghost use Rattle.fsfs_calls.specs.Listing.{IsListOf};
-ghost use Rattle.fsfs_calls.specs.Remains.{IsLeft};
+ghost use Rattle.fsfs_folders.specs.CallRecord.{file_count, add_call, new_number, names_now, contents_now, is_reachable, IsEmptyAt};
+ghost use Rattle.fsfs_folders.specs.Listing.{IsListOf};
+ghost use Rattle.fsfs_folders.specs.Remains.{IsLeft};
 ghost use Rattle.fsfs_memcalls.specs.Told.{beginning_of, calls_of, call_of, contents_of};
 ghost use Rattle.fsfs_memcalls.specs.Standing.{stands_as};
 
@@ -14,7 +14,7 @@ use crate::paths::paths;
 use crate::standing::{contents, count, file_at, has_folder, is_reached, text_of};
 use crate::telling::tell;
 use fsfs_base::{Faults, Name};
-use fsfs_calls::{CallError, Calls, OpenFile, Path};
+use fsfs_folders::{CallError, Calls, OpenFile, Path};
 use std::alloc::{AllocError, Global};
 use std::mem::replace;
 

@@ -1,14 +1,14 @@
 // Whether nothing stands below a path.
 ghost use Rattle.std.specs.Prelude.{◌≡◌, ◌<◌, ◌^◌, true, false, None, List, ℕ};
-ghost use Rattle.fsfs_calls.specs.Paths.{is_below, has_path};
-ghost use Rattle.fsfs_calls.specs.CallRecord.{file_count, names_after, IsEmptyAt};
+ghost use Rattle.fsfs_folders.specs.Paths.{is_below, has_path};
+ghost use Rattle.fsfs_folders.specs.CallRecord.{file_count, names_after, IsEmptyAt};
 ghost use Rattle.fsfs_memcalls.specs.Told.{beginning_of, calls_of};
 ghost use Rattle.fsfs_memcalls.specs.Emptiness.{IsClearAt};
 ghost use Rattle.fsfs_memcalls.specs.Places.{paths_of};
 
 use crate::made::{MemBeginning, MemCall};
 use crate::standing::{file_at, has_folder, text_of};
-use fsfs_calls::Path;
+use fsfs_folders::Path;
 
 // Whether the second text is that of a path below the first.
 fn is_text_below(above: &[u8], text: &[u8]) -> bool

@@ -1,8 +1,8 @@
 // The names next below a folder.
 ghost use Rattle.std.specs.Prelude.{◌≡◌, ◌≢◌, ◌⊎◌, ◌<◌, ◌^◌, [], ◌∷◌, ◌++◌, false, IfOk, OnOk, MatchBool, MatchOption};
-ghost use Rattle.fsfs_calls.specs.Paths.{has_path, has_slash, same_text};
-ghost use Rattle.fsfs_calls.specs.CallRecord.{file_count, names_after};
-ghost use Rattle.fsfs_calls.specs.Listing.{IsListOf};
+ghost use Rattle.fsfs_folders.specs.Paths.{has_path, has_slash, same_text};
+ghost use Rattle.fsfs_folders.specs.CallRecord.{file_count, names_after};
+ghost use Rattle.fsfs_folders.specs.Listing.{IsListOf};
 ghost use Rattle.fsfs_memcalls.specs.Told.{beginning_of, calls_of};
 ghost use Rattle.fsfs_memcalls.specs.Standing.{stands_as};
 ghost use Rattle.fsfs_memcalls.specs.Entries.{IsElsewhere, IsPartBelow, IsNoEntry, IsEntryAt, Lists};
@@ -11,7 +11,7 @@ use crate::made::{MemBeginning, MemCall};
 use crate::paths::paths;
 use crate::standing::{file_at, has_folder, text_of};
 use fsfs_base::Name;
-use fsfs_calls::Path;
+use fsfs_folders::Path;
 use std::alloc::{AllocError, Global};
 
 /// What is listed.

@@ -1,10 +1,10 @@
 // The calls that were made, and the files that they met, kept in memory.
 ghost use Rattle.std.specs.Prelude.{◌≡◌, ◌++◌, IfOk, OnOk};
-ghost use Rattle.fsfs_calls.specs.CallRecord.{no_contents, more_bytes, made_firm, made_lost};
+ghost use Rattle.fsfs_folders.specs.CallRecord.{no_contents, more_bytes, made_firm, made_lost};
 ghost use Rattle.fsfs_memcalls.specs.Told.{contents_of};
 ghost use Rattle.fsfs_memcalls.specs.Left.{left_bytes};
 
-use fsfs_calls::Path;
+use fsfs_folders::Path;
 use std::alloc::{AllocError, Global};
 
 /// A file of the beginning.

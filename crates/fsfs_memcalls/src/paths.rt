@@ -4,7 +4,7 @@ ghost use Rattle.fsfs_memcalls.specs.Told.{file_of, beginning_of, call_of, calls
 ghost use Rattle.fsfs_memcalls.specs.Places.{place_of, places_in, file_paths, paths_of};
 
 use crate::made::{MemBeginning, MemCall, MemChange, MemFile};
-use fsfs_calls::Path;
+use fsfs_folders::Path;
 use std::alloc::{AllocError, Global};
 
 // Where a call makes something stand.

@@ -1,11 +1,11 @@
 // What stands after the calls that were made, the newest first.
 ghost use Rattle.std.specs.Prelude.{◌≡◌, ◌<◌, ◌^◌, ◌↔◌, [], map, IfOk, IsTrue};
-ghost use Rattle.fsfs_calls.specs.Paths.{same_text, has_path};
-ghost use Rattle.fsfs_calls.specs.CallRecord.{first_number, first_bytes, file_count, names_after, contents_after, is_reachable};
+ghost use Rattle.fsfs_folders.specs.Paths.{same_text, has_path};
+ghost use Rattle.fsfs_folders.specs.CallRecord.{first_number, first_bytes, file_count, names_after, contents_after, is_reachable};
 ghost use Rattle.fsfs_memcalls.specs.Told.{file_of, beginning_of, calls_of, contents_of};
 
 use crate::made::{MemBeginning, MemCall, MemChange, MemContents, MemFile};
-use fsfs_calls::Path;
+use fsfs_folders::Path;
 use std::alloc::{AllocError, Global};
 
 // Whether two texts are the same.

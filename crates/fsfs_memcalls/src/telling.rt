@@ -1,6 +1,6 @@
 // The calls that were made, as text.
 use crate::made::{MemCall, MemChange};
-use fsfs_calls::Path;
+use fsfs_folders::Path;
 use std::alloc::{AllocError, Global};
 
 // A line of what was done and where.

@@ -1,41 +1,41 @@
 -- What a merge sees by ids is what numbers and marks say, at each path above which both sides hold all.
-use Rattle.fsfs_ancestry.proofs.Revisions.{shown_revisions}
+use Rattle.fsfs_revision.proofs.Revisions.{shown_revisions}
 use Rattle.std.proofs.Common.{◌≡◌, ◌≤◌, ◌⊎◌, ℕ, not, Bool, true, false, ◌&&◌, ◌||◌, List, refl, sym, ap, subst, ◌∙◌, inl, inr, Option, Some, None, arith}
 use Rattle.std.specs.Prelude.{◌↔◌, ◌≢◌, Ok, is_some, if◌then◌else◌, IsSomeAnd}
 use Rattle.std.specs.Cmp.{both_ways as same_tests}
 use Rattle.std.proofs.lemmas.Bool.{and_parts, and_from, both_ways, cases_Bool, false_from_ne_true}
 use mathlib.Core.Bool.{false≢true}
-use Rattle.fsfs_flat.specs.Edits.{is_dir, is_dir_node}
+use Rattle.fsfs_model.specs.Edits.{is_dir, is_dir_node}
 use Rattle.fsfs_base.specs.Paths.{Path, covers, is_above}
 use Rattle.fsfs_tree.specs.Nodes.{Node, TreeFunction}
 use Rattle.fsfs_base.specs.declared.kind.Kind.TheVariants.{Dir}
-use Rattle.fsfs_flat.specs.declared.mark.What.{What}
-use Rattle.fsfs_flat.specs.declared.mark.What.TheVariants.{Make, Gone, Text, Prop}
-use Rattle.fsfs_flat.specs.declared.mark.Mark.{Mark}
-use Rattle.fsfs_flat.specs.Marks.{is_make, effects, outer, changes_props}
-use Rattle.fsfs_flat.specs.Landing.{held_by_head, touched_by_head, props_changed_by_head, goes_on, reached}
-use Rattle.fsfs_book.specs.Told.{RevisionBytes}
+use Rattle.fsfs_model.specs.declared.mark.What.{What}
+use Rattle.fsfs_model.specs.declared.mark.What.TheVariants.{Make, Gone, Text, Prop}
+use Rattle.fsfs_model.specs.declared.mark.Mark.{Mark}
+use Rattle.fsfs_model.specs.Marks.{is_make, effects, outer, changes_props}
+use Rattle.fsfs_model.specs.Landing.{held_by_head, touched_by_head, props_changed_by_head, goes_on, reached}
+use Rattle.fsfs_revision.specs.Told.{RevisionBytes}
 use Rattle.fsfs_noderev.specs.declared.node_id.Place.{Place}
 use Rattle.fsfs_noderev.specs.declared.node_id.Place.TheVariants as places
 use Rattle.fsfs_noderev.specs.declared.node_id.NodeId.{NodeId}
 use Rattle.fsfs_noderev.specs.declared.rep.Contents.{Contents}
 use Rattle.fsfs_noderev.specs.declared.rep.Contents.TheVariants as contents
 use Rattle.fsfs_noderev.specs.declared.node_rev.NodeRev.{NodeRev}
-use Rattle.fsfs_shows.specs.Reading.{Met, Stands, Lacking, Blocked, MetAt, StandsAt}
-use Rattle.fsfs_shows.specs.Shown.{IsShown, IsShownAs, Shows}
+use Rattle.fsfs_revision.specs.ShowsReading.{Met, Stands, Lacking, Blocked, MetAt, StandsAt}
+use Rattle.fsfs_revision.specs.Shown.{IsShown, IsShownAs, Shows}
 use Rattle.fsfs_model.proofs.Tests.{found}
 use Rattle.fsfs_model.proofs.MergeWalk.{goes_gone, reached_above, quiet, touched_below}
-use Rattle.fsfs_ids.specs.HeadLaws.{IsHeldAbove, AgreeAt}
-use Rattle.fsfs_ancestry.proofs.Behind.{shown_there}
-use Rattle.fsfs_ids.proofs.HeadLaw.{head_laws}
+use Rattle.fsfs_draft.specs.HeadLaws.{IsHeldAbove, AgreeAt}
+use Rattle.fsfs_revision.proofs.Behind.{shown_there}
+use Rattle.fsfs_draft.proofs.HeadLaw.{head_laws}
 use Rattle.fsfs_model.proofs.Directories.{dir_kind}
 use Rattle.fsfs_merge.specs.Walks.{Sight}
 use Rattle.fsfs_merge.specs.Laws.{Agrees}
-use Rattle.fsfs_drafts.specs.OwnSides.{NodesAt, in_txn, is_own_copy, IsAnother, AreNodesOf}
+use Rattle.fsfs_draft.specs.OwnSides.{NodesAt, in_txn, is_own_copy, IsAnother, AreNodesOf}
 use Rattle.fsfs_merge.specs.MergeLaws.{BothGoOn, IsMerge}
 use Rattle.fsfs_merge.proofs.Sides.{self, going_self, same_kind}
-use Rattle.fsfs_drafts.proofs.HangLaw.{some_same}
-use Rattle.fsfs_drafts.proofs.Lasting.{IsLasting, lasting}
+use Rattle.fsfs_draft.proofs.HangLaw.{some_same}
+use Rattle.fsfs_draft.proofs.Lasting.{IsLasting, lasting}
 
 -- ---- what stands at a path, as node-revision and as node
 

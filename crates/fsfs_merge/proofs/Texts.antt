@@ -2,18 +2,18 @@
 use Rattle.std.proofs.Common.{◌≡◌, ◌⊎◌, ℕ, cond, Bool, true, false, List, [], ◌∷◌, ◌++◌, refl, sym, ap, subst, ◌∙◌, inl, inr, Option, Some, None}
 use Rattle.std.specs.Prelude.{is_some}
 use mathlib.Core.Bool.{false≢true}
-use Rattle.fsfs_flat.specs.declared.edit.Edit.{Edit}
-use Rattle.fsfs_flat.specs.declared.edit.Edit.TheVariants.{MakeDir, MakeFile, Delete, Copy, PutText, SetProp}
+use Rattle.fsfs_model.specs.declared.edit.Edit.{Edit}
+use Rattle.fsfs_model.specs.declared.edit.Edit.TheVariants.{MakeDir, MakeFile, Delete, Copy, PutText, SetProp}
 use Rattle.fsfs_base.specs.declared.kind.Kind.TheVariants.{File, Dir}
-use Rattle.fsfs_flat.specs.declared.mark.What.{What}
-use Rattle.fsfs_flat.specs.declared.mark.What.TheVariants.{Make, Gone, Text, Prop}
-use Rattle.fsfs_flat.specs.declared.mark.Mark.{Mark}
+use Rattle.fsfs_model.specs.declared.mark.What.{What}
+use Rattle.fsfs_model.specs.declared.mark.What.TheVariants.{Make, Gone, Text, Prop}
+use Rattle.fsfs_model.specs.declared.mark.Mark.{Mark}
 use Rattle.fsfs_base.specs.Paths.{Path, covers, same_path}
 use Rattle.fsfs_tree.specs.Nodes.{Node, TreeFunction, empty_node}
-use Rattle.fsfs_flat.specs.Marks.{outer, made, effects, any_covers, is_rewritten}
-use Rattle.fsfs_flat.specs.Edits.{accepts, applied, mark_of, can_make, with_text, with_prop, bytes_of, copied_node, rest_after}
+use Rattle.fsfs_model.specs.Marks.{outer, made, effects, any_covers, is_rewritten}
+use Rattle.fsfs_model.specs.Edits.{accepts, applied, mark_of, can_make, with_text, with_prop, bytes_of, copied_node, rest_after}
 use Rattle.fsfs_tree.specs.Histories.{AreRevisions}
-use Rattle.fsfs_flat.specs.Transactions.{IsTransaction, Begun, Edited, Landed}
+use Rattle.fsfs_model.specs.Transactions.{IsTransaction, Begun, Edited, Landed}
 use Rattle.fsfs_model.proofs.Bases.{IsClosed, DescribesBase}
 use Rattle.fsfs_model.proofs.Tests.{found, found_in}
 use Rattle.fsfs_base.proofs.PathLemmas.{covers-refl, same_path-is}
@@ -26,7 +26,7 @@ use Rattle.fsfs_model.proofs.TwoMergesLaw.{premises}
 use Rattle.fsfs_model.proofs.NextHistory.{whole}
 use Rattle.fsfs_merge.specs.Laws.{KeepsTexts}
 use Rattle.std.proofs.lemmas.Bool.{and_from, and_parts, both_ways, cases_Bool, false_from_ne_true, not-true}
-use Rattle.fsfs_drafts.proofs.HangLaw.{some_same}
+use Rattle.fsfs_draft.proofs.HangLaw.{some_same}
 
 rewrites : (k : What) (p : Path) → (k ≡ Text) ⊎ (k ≡ Prop) → is_rewritten k p p ≡ true
 rewrites Text p w = and_from _ _ (covers-refl p) (covers-refl p)

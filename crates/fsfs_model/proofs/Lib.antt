@@ -27,3 +27,4 @@ pub mod Joined
 pub mod Folds
 pub mod FoldingLaw
 pub mod Copying
+pub mod FoldedLaw

@@ -1,1 +1,7 @@
+pub mod Marks
+pub mod Landing
+pub mod Edits
+pub mod Folding
+pub mod Transactions
 pub mod Laws
+pub mod FoldedFit

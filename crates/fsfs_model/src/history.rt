@@ -5,8 +5,7 @@ ghost use Rattle.std.specs.FinMap as map;
 ghost use Rattle.fsfs_tree.specs.Revisions.{tree_of};
 ghost use Rattle.fsfs_tree.specs.PathHistories.{path_history, leads_to};
 
-use fsfs_base::FsPath;
-use fsfs_fields::RevNum;
+use fsfs_base::{FsPath, RevNum};
 use fsfs_tree::{History, Node};
 use std::alloc::{AllocError, Global};
 

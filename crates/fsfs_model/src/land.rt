@@ -4,11 +4,10 @@ ghost use Rattle.std.specs.BTreeSet as set;
 ghost use Rattle.std.specs.Option.{option_copied};
 ghost use Rattle.std.specs.FinMap as map;
 ghost use Rattle.fsfs_base.specs.Paths.{Path, path_cmp};
-ghost use Rattle.fsfs_flat.specs.Landing.{numbered, landed_at, land};
+ghost use Rattle.fsfs_model.specs.Landing.{numbered, landed_at, land};
 
-use fsfs_base::FsPath;
-use fsfs_fields::RevNum;
-use fsfs_flat::{Effects, Mark, effects_at, outer_marks};
+use crate::{Effects, Mark, effects_at, outer_marks};
+use fsfs_base::{FsPath, RevNum};
 use fsfs_tree::{Node, Tree};
 use std::alloc::{AllocError, Global};
 use std::collections::BTreeSet;

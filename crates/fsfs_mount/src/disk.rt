@@ -11,7 +11,7 @@ ghost use Rattle.fsfs_folders.specs.OpenFiles.{is_still};
 use crate::found::Found;
 use crate::last_read::{read_last, size_last};
 use fsfs_base::{Failed, Name};
-use fsfs_calls::{CallError, Calls};
+use fsfs_folders::{CallError, Calls};
 use fsfs_disk::{Disk, Label, ListFault};
 use fsfs_folders::{FolderBench, Folders, Opened, counted};
 use std::alloc::Global;

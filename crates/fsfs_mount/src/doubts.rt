@@ -3,7 +3,7 @@ ghost use Rattle.std.specs.Prelude.{◌≡◌};
 ghost use Rattle.fsfs_folders.specs.Standing.{told};
 
 use fsfs_base::Name;
-use fsfs_calls::{CallError, Calls, Path};
+use fsfs_folders::{CallError, Calls, Path};
 use fsfs_folders::Folders;
 use fsfs_layout::{
     Format, Layout, OnlyFile, RepositoryFile, read_current, read_format, read_min_unpacked_rev,

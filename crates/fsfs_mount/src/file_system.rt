@@ -1,10 +1,10 @@
 // Where repositories stand.
 ghost use Rattle.std.specs.Prelude.{◌≡◌, ℕ, List, [], Option, true, IfOk, IfSome};
-ghost use Rattle.fsfs_calls.specs.CallRecord.{CallRecord};
+ghost use Rattle.fsfs_folders.specs.CallRecord.{CallRecord};
 ghost use Rattle.fsfs_folders.specs.Keeping.{are_rooted};
 
 use fsfs_base::Name;
-use fsfs_calls::{CallError, Calls};
+use fsfs_folders::{CallError, Calls};
 use std::alloc::Global;
 
 /// What no two files or folders of a system have alike.

@@ -2,7 +2,7 @@
 // that was cut off.
 use crate::file_system::FileSystem;
 use fsfs_base::Name;
-use fsfs_calls::CallError;
+use fsfs_folders::CallError;
 use std::alloc::Global;
 
 // A repository is there where this file is.

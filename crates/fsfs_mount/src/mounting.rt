@@ -11,7 +11,7 @@ use crate::found::Found;
 use crate::ground::{absent_folders, is_there, refuse_below_repository};
 use crate::places::{add, put_back, take};
 use fsfs_base::Name;
-use fsfs_calls::{CallError, Calls, Path};
+use fsfs_folders::{CallError, Calls, Path};
 use fsfs_folders::Folders;
 use fsfs_layout::OnlyFile;
 use std::alloc::Global;

@@ -3,7 +3,7 @@ ghost use Rattle.std.specs.Prelude.{◌≡◌, ℕ, List, Some, None, IfSome, If
 ghost use Rattle.std.specs.BTreeMap.{get_by_text};
 ghost use Rattle.fsfs_mount.specs.Places.{held_in, Sets};
 
-use fsfs_calls::CallError;
+use fsfs_folders::CallError;
 use std::collections::BTreeMap;
 
 /// Makes a place for a path, with this in it.

@@ -1,15 +1,15 @@
 -- The values of a node-revision's fields: each text has one value at most, and two parts are read one by one.
 use Rattle.std.proofs.Common.{◌≡◌, ℕ, List, refl, sym, ap, ◌∙◌, arith}
-use Rattle.fsfs_grammar.specs.Cuts.{Lacks, IsCutOf, cut}
-use Rattle.fsfs_grammar.proofs.CutLemmas.{cut_again, two_parts}
-use Rattle.fsfs_grammar.proofs.Spelling.{IsOne, spells_one}
+use Rattle.fsfs_base.specs.Cuts.{Lacks, IsCutOf, cut}
+use Rattle.fsfs_base.proofs.CutLemmas.{cut_again, two_parts}
+use Rattle.fsfs_base.proofs.Spelling.{IsOne, spells_one}
 use Rattle.fsfs_base.specs.declared.kind.Kind.TheVariants as kinds
 use Rattle.fsfs_base.proofs.PathTextLemmas.{path_by_text}
-use Rattle.fsfs_fields.specs.RevNums.{IsRev}
+use Rattle.fsfs_base.specs.RevNums.{IsRev}
 use Rattle.fsfs_noderev.specs.Ids.{IsNumber64, id_value}
 use Rattle.fsfs_noderev.specs.Reps.{IsRevOrNone, contents_value}
 use Rattle.fsfs_noderev.specs.Fields.{IsIdText, IsKindText, AreContentsText, IsPathText, IsSourceText, IsRootText, IsYes}
-use Rattle.fsfs_fields.proofs.RevNumTexts.{rev_spells, rev_text_lacks}
+use Rattle.fsfs_base.proofs.RevNumTexts.{rev_spells, rev_text_lacks}
 use Rattle.fsfs_noderev.proofs.IdTexts.{id_spells}
 use Rattle.fsfs_noderev.proofs.RepTexts.{contents_spells, number_spells, rev_or_none_spells, rev_or_none_lacks}
 use Rattle.fsfs_noderev.proofs.Same.{id_same, contents_same}

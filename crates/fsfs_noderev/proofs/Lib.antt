@@ -9,3 +9,11 @@ pub mod OneLine
 pub mod Writes
 pub mod Lengths
 pub mod Fitting
+pub mod WordTexts
+pub mod HeadTexts
+pub mod ItemTexts
+pub mod ItemLists
+pub mod PathSets
+pub mod ChangesWrites
+pub mod Rising
+pub mod Weaker

@@ -3,16 +3,16 @@ use Rattle.std.proofs.Common.{◌≡◌, ◌≤◌, ◌+◌, ℕ, suc, Bool, tru
 use Rattle.std.specs.Prelude.{nat_lt}
 use Rattle.std.specs.List.{AllByRecursion, position, position_or_len}
 use Rattle.std.proofs.lemmas.Bool.{ne_eqb, ltb-false}
-use Rattle.fsfs_grammar.specs.Cuts.{Lacks, IsCutOf}
-use Rattle.fsfs_grammar.proofs.CutLemmas.{lacks_from, two_lack}
-use Rattle.fsfs_grammar.proofs.Spelling.{plain_lacks}
-use Rattle.fsfs_fields.specs.Digests.{IsDigestText}
-use Rattle.fsfs_fields.specs.TxnNames.{IsTxnName}
-use Rattle.fsfs_fields.proofs.RevNumTexts.{rev_text_lacks}
+use Rattle.fsfs_base.specs.Cuts.{Lacks, IsCutOf}
+use Rattle.fsfs_base.proofs.CutLemmas.{lacks_from, two_lack}
+use Rattle.fsfs_base.proofs.Spelling.{plain_lacks}
+use Rattle.fsfs_base.specs.Digests.{IsDigestText}
+use Rattle.fsfs_base.specs.TxnNames.{IsTxnName}
+use Rattle.fsfs_base.proofs.RevNumTexts.{rev_text_lacks}
 use Rattle.fsfs_base.specs.Paths.{Path, path_text, names_text}
 use Rattle.fsfs_base.specs.PathTexts.{IsPath, IsName, is_control}
 use Rattle.fsfs_base.specs.declared.kind.Kind.TheVariants as kinds
-use Rattle.fsfs_fields.specs.RevNums.{IsRev}
+use Rattle.fsfs_base.specs.RevNums.{IsRev}
 use Rattle.fsfs_noderev.specs.Ids.{IsB36, IsNumber64, id_value}
 use Rattle.fsfs_noderev.specs.Reps.{IsRevOrNone, IsMarked, IsUnique, AreDigests, IsRep, AreContents, contents_value}
 use Rattle.fsfs_noderev.specs.Reps as reps

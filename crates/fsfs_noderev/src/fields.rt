@@ -13,10 +13,8 @@ ghost use Rattle.fsfs_noderev.specs.Faults.{IfRefused};
 use crate::node_id::{NodeId, read_id};
 use crate::node_rev::{CopyRoot, CopySource, Field, Which};
 use crate::rep::{Contents, read_contents, rev_or_none};
-use fsfs_base::{FsPath, Kind, PathError};
-use fsfs_fields::RevNum;
-use fsfs_grammar::cuts::cut_at;
-use fsfs_grammar::read_dec;
+use fsfs_base::cuts::cut_at;
+use fsfs_base::{FsPath, Kind, PathError, RevNum, read_dec};
 use std::alloc::{AllocError, Global};
 
 /// What the lines read so far have said of a node-revision.

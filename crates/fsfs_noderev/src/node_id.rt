@@ -1,13 +1,12 @@
 //! Ids of node-revisions.
 ghost use Rattle.std.specs.Prelude.{◌≡◌, ℕ, List, option_map, IfSome, IsSomeAnd, IfOk, OnOk};
-ghost use Rattle.fsfs_grammar.specs.Grammar.{Appends};
+ghost use Rattle.fsfs_base.specs.Grammar.{Appends};
 ghost use Rattle.fsfs_noderev.specs.Ids.{IdValue, part_value, place_value, id_value, IsPart, IsPlace, IsId, part_at, place_at, id_at};
 
-use fsfs_fields::{RevNum, TxnName, plain_txn_name, put_txn_name};
-use fsfs_grammar::B36;
-use fsfs_grammar::base36::{plain_base36, put_b36};
-use fsfs_grammar::cuts::cut_at;
-use fsfs_grammar::decimals::{plain_decimal, put_dec};
+use fsfs_base::base36::{plain_base36, put_b36};
+use fsfs_base::cuts::cut_at;
+use fsfs_base::decimals::{plain_decimal, put_dec};
+use fsfs_base::{B36, RevNum, TxnName, plain_txn_name, put_txn_name};
 use std::alloc::{AllocError, Global};
 
 /// The node part or the copy part of an id.

@@ -1,8 +1,7 @@
 //! Node-revisions and what may be wrong with their text.
 use crate::node_id::NodeId;
 use crate::rep::Contents;
-use fsfs_base::{FsPath, Kind};
-use fsfs_fields::RevNum;
+use fsfs_base::{FsPath, Kind, RevNum};
 
 /// The revision and path that a node was copied from.
 #[derive(Debug, Drop)]

@@ -11,7 +11,7 @@ ghost use Rattle.fsfs_noderev.specs.declared.node_rev.Which.TheVariants.{Missing
 
 use crate::fields::{Fields, LineError, field_named};
 use crate::node_rev::{Field, NodeFault, NodeRev, Which};
-use fsfs_grammar::cuts::cut_at;
+use fsfs_base::cuts::cut_at;
 use std::alloc::Global;
 
 /// How many bytes of a node-revision are read at most.

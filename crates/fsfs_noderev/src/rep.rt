@@ -1,14 +1,13 @@
 //! Where a text, a property list or a directory stands.
 ghost use Rattle.std.specs.Prelude.{◌≡◌, ℕ, List, option_map, IfSome, IsSomeAnd, IfOk, OnOk, codes};
-ghost use Rattle.fsfs_grammar.specs.Grammar.{Appends};
-ghost use Rattle.fsfs_fields.specs.Digests.{IsDigestText};
+ghost use Rattle.fsfs_base.specs.Grammar.{Appends};
+ghost use Rattle.fsfs_base.specs.Digests.{IsDigestText};
 ghost use Rattle.fsfs_noderev.specs.Reps.{RepValue, ContentsValue, unique_value, rep_value, contents_value, IsRevOrNone, IsMarked, IsUnique, AreDigests, IsRep, AreContents, rev_or_none_at, digest_at, marked_at, unique_at, digests_at, rep_at, contents_at};
 
-use fsfs_fields::{HexDigest, RevNum, TxnName, plain_txn_name, put_txn_name};
-use fsfs_grammar::B36;
-use fsfs_grammar::base36::{plain_base36, put_b36};
-use fsfs_grammar::cuts::cut_at;
-use fsfs_grammar::decimals::{plain_decimal, put_dec};
+use fsfs_base::base36::{plain_base36, put_b36};
+use fsfs_base::cuts::cut_at;
+use fsfs_base::decimals::{plain_decimal, put_dec};
+use fsfs_base::{B36, HexDigest, RevNum, TxnName, plain_txn_name, put_txn_name};
 use std::alloc::{AllocError, Global};
 
 /// What a file's representation has beside its MD5.

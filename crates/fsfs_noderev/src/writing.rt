@@ -1,6 +1,6 @@
 //! Node-revisions written in lines.
 ghost use Rattle.std.specs.Prelude.{◌≡◌, ◌≤◌, ◌++◌, ◌∷◌, [], List, ℕ, Bool, length, take, OnOk, IfOk, codes};
-ghost use Rattle.fsfs_grammar.specs.Grammar.{Appends};
+ghost use Rattle.fsfs_base.specs.Grammar.{Appends};
 ghost use Rattle.fsfs_base.specs.PathTexts.{IsPath};
 ghost use Rattle.fsfs_noderev.specs.Ids.{IsNumber64};
 ghost use Rattle.fsfs_noderev.specs.Fields.{IsIdText, IsKindText, AreContentsText, IsPathText, IsSourceText, IsRootText};
@@ -10,8 +10,7 @@ ghost use Rattle.fsfs_noderev.specs.Writing.{IsLineOf, IsOptional, IsFlag, IsWri
 use crate::node_id::{NodeId, put_id};
 use crate::node_rev::{CopyRoot, CopySource, NodeRev};
 use crate::rep::{Contents, put_contents, put_rev_or_none};
-use fsfs_base::{FsPath, Kind};
-use fsfs_grammar::put_dec;
+use fsfs_base::{FsPath, Kind, put_dec};
 use std::alloc::{AllocError, Global};
 
 /// The name of a line and what stands before its value.

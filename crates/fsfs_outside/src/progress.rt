@@ -1,6 +1,6 @@
 // What a program tells of its progress.
 
-use fsfs_streams::{Gate, GatePlace};
+use fsfs_base::{Gate, GatePlace};
 use std::io::Write;
 use std::sync::Mutex;
 use std::sync::atomic::AtomicU64;

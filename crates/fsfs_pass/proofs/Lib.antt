@@ -1,2 +1,29 @@
+pub mod Kinships
+pub mod Failures
+pub mod AsMany
+pub mod WhoseOwn
+pub mod Accounts
+pub mod Following
+pub mod Lasting
+pub mod Others
+pub mod Locks
+pub mod Stores
+pub mod Rules
+pub mod Beginnings
+pub mod Splits
+pub mod Joins
+pub mod FilesLast
+pub mod Doubting
+pub mod Going
+pub mod SectionCalls
+pub mod ReadCalls
+pub mod Counter
+pub mod Adoptions
+pub mod LabelCalls
+pub mod Answering
+pub mod Meeting
+pub mod Onward
+pub mod MetLabels
+pub mod Reading
 mod Turning
 mod Partings

@@ -7,10 +7,10 @@ use Rattle.fsfs_fetch.specs.Views.{Grows, FilesLater, Later}
 use Rattle.fsfs_machine.specs.Machine.{joined}
 use Rattle.fsfs_turn.specs.Views.{View, Begins}
 use Rattle.fsfs_turn.specs.Telling.{TellsSeen}
-use Rattle.fsfs_seats.specs.declared.seat_view.SeatView.{SeatView}
-use Rattle.fsfs_seats.specs.Seats.{view_of, halved_view, split_pass, numbered_view, joined_view}
-use Rattle.fsfs_seats.specs.Met.{known_last, seat_store}
-use Rattle.fsfs_seats.specs.Tells.{TellsIt}
+use Rattle.fsfs_pass.specs.declared.seat_view.SeatView.{SeatView}
+use Rattle.fsfs_pass.specs.Seats.{view_of, halved_view, split_pass, numbered_view, joined_view}
+use Rattle.fsfs_pass.specs.Met.{known_last, seat_store}
+use Rattle.fsfs_pass.specs.Tells.{TellsIt}
 use Rattle.fsfs_pass.specs.Passes.{is_sitting, reach_by, pass_store, KnowsIt, split_off, Joins}
 use Rattle.fsfs_pass.specs.PassLemmas.{pass_tells}
 use Rattle.fsfs_pass.proofs.Turning.{none_of}

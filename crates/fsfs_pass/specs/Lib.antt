@@ -1,3 +1,13 @@
+pub mod LockWords
+pub mod Seats
+pub mod Kinship
+pub mod Causes
+pub mod Met
+pub mod Rule
+pub mod Tells
+pub mod First
+pub mod Made
+pub mod SeatCallsTells
 pub mod Short
 pub mod Passes
 pub mod PassLemmas

@@ -8,12 +8,12 @@ use Rattle.fsfs_machine.specs.Machine.{joined}
 use Rattle.fsfs_turn.specs.Views.{View, Begins}
 use Rattle.fsfs_turn.specs.Mountings.{Mounting}
 use Rattle.fsfs_turn.specs.Telling.{TellsSeen}
-use Rattle.fsfs_seats.specs.declared.seat_view.Kin.{Kin}
-use Rattle.fsfs_seats.specs.declared.seat_view.SeatView.{SeatView}
-use Rattle.fsfs_seats.specs.declared.seat_view.Stage.{Stage}
-use Rattle.fsfs_seats.specs.declared.seat_view.Stage.TheVariants.{Sitting}
-use Rattle.fsfs_seats.specs.Seats.{view_of}
-use Rattle.fsfs_seats.specs.Met.{known_last, seat_store}
+use Rattle.fsfs_pass.specs.declared.seat_view.Kin.{Kin}
+use Rattle.fsfs_pass.specs.declared.seat_view.SeatView.{SeatView}
+use Rattle.fsfs_pass.specs.declared.seat_view.Stage.{Stage}
+use Rattle.fsfs_pass.specs.declared.seat_view.Stage.TheVariants.{Sitting}
+use Rattle.fsfs_pass.specs.Seats.{view_of}
+use Rattle.fsfs_pass.specs.Met.{known_last, seat_store}
 
 -- the seat has its number, and nothing is left to be told of a joining
 abbrev pub is_sitting : Stage → Bool

@@ -1,7 +1,7 @@
 //! A note is made once more.
 ghost use Rattle.std.specs.Prelude.{◌≡◌};
 
-use fsfs_note::{Note, Says};
+use fsfs_base::{Note, Says};
 
 // What a note says.
 #[derive(Drop)]

@@ -2,16 +2,15 @@
 ghost use Rattle.std.specs.Prelude.{◌≡◌, ◌≤◌, [], true, is_some, IfSome, option_map};
 ghost use Rattle.fsfs_disk.specs.Trace.{files_now};
 ghost use Rattle.fsfs_disk.specs.Benches.{HasShortFiles};
-ghost use Rattle.fsfs_seats.specs.Met.{known_last};
+ghost use Rattle.fsfs_pass.specs.Met.{known_last};
 ghost use Rattle.fsfs_pass.specs.Passes.{is_sitting};
 ghost use Rattle.fsfs_pass.specs.Short.{short_prop};
 
 use crate::notes::said_again;
+use crate::{Board, SharedSeat};
+use fsfs_base::{Note, RevNum};
 use fsfs_disk::Disk;
-use fsfs_fields::RevNum;
 use fsfs_layout::Layout;
-use fsfs_note::Note;
-use fsfs_seats::{Board, SharedSeat};
 
 /// A pass of a store that is shared: its seat, and the table at which it sits. It is lent the bare table, so that each thread makes its own.
 #[derive(Drop)]
@@ -36,8 +35,8 @@ impl<'a, D: Disk> PassTurns<'a, D> {
     ghost use Rattle.fsfs_fetch.specs.Views.{Later};
     ghost use Rattle.fsfs_turn.specs.Views.{View};
     ghost use Rattle.fsfs_turn.specs.Telling.{TellsSeen};
-    ghost use Rattle.fsfs_seats.specs.Met.{seat_store};
-    ghost use Rattle.fsfs_seats.specs.Seats.{view_of, IsSitting, halved_view, split_pass, numbered_view, joined_view};
+    ghost use Rattle.fsfs_pass.specs.Met.{seat_store};
+    ghost use Rattle.fsfs_pass.specs.Seats.{view_of, IsSitting, halved_view, split_pass, numbered_view, joined_view};
     ghost use Rattle.fsfs_pass.specs.Passes.{pass_store, KnowsIt, split_off, Joins};
 
     /// The turns of the pass in this seat. The disk of the store, as it was first, is laid out so.
@@ -88,7 +87,7 @@ impl<'a, D: Disk> PassTurns<'a, D> {
     {
         let board = self.board;
         let first = said_again(&self.first);
-        let seat = fsfs_seats::split(board, &mut self.seat);
+        let seat = crate::split(board, &mut self.seat);
         PassTurns {
             board,
             seat,
@@ -118,7 +117,7 @@ impl<'a, D: Disk> PassTurns<'a, D> {
     {
         let PassTurns { seat, .. } = other;
         let board = self.board;
-        fsfs_seats::join(board, &mut self.seat, seat);
+        crate::join(board, &mut self.seat, seat);
     }
 
     /// The seat again, and what `new` asks of it.

@@ -2,12 +2,9 @@
 ghost use Rattle.std.specs.Prelude.{◌≤◌, ◌≡◌};
 
 use crate::pass_turns::PassTurns;
-use fsfs_base::{Failed, Name};
+use fsfs_base::{DiskPlace, Failed, Name, Note, RevNum};
 use fsfs_disk::{Disk, Label, ListFault};
-use fsfs_fields::RevNum;
 use fsfs_layout::Layout;
-use fsfs_note::Note;
-use fsfs_places::DiskPlace;
 use fsfs_turn::{Adoption, Turns};
 use std::alloc::Global;
 use std::sync::Wait;
@@ -33,7 +30,7 @@ impl<'a, R: Wait, D: Disk + Drop> Turns<R> for PassTurns<'a, D> {
     ghost use Rattle.fsfs_turn.specs.Labels.{MayRelabel, Drops};
     ghost use Rattle.fsfs_turn.specs.Learning.{MayPurge, Purged, SpentPurged};
     ghost use Rattle.fsfs_turn.specs.Mountings.{RoseBy};
-    ghost use Rattle.fsfs_seats.specs.Met.{seat_labels};
+    ghost use Rattle.fsfs_pass.specs.Met.{seat_labels};
     ghost use Rattle.fsfs_pass.specs.Passes.{Seating, sits_at, mounted_at, pass_store, KnowsIt};
     ghost use Rattle.fsfs_pass.specs.PassLemmas.{one_known, bench_tells};
 
@@ -64,7 +61,7 @@ impl<'a, R: Wait, D: Disk + Drop> Turns<R> for PassTurns<'a, D> {
 
     fn look(&mut self) -> RevNum {
         let board = self.board;
-        let found = fsfs_seats::look(board, &mut self.seat);
+        let found = crate::look(board, &mut self.seat);
         let last = later_of(self.last, found);
         self.last = last;
         last
@@ -72,22 +69,22 @@ impl<'a, R: Wait, D: Disk + Drop> Turns<R> for PassTurns<'a, D> {
 
     fn take_lock(&mut self, rt: &R) -> Result<(), DiskPlace> {
         let board = self.board;
-        fsfs_seats::take_lock(rt, board, &mut self.seat)
+        crate::take_lock(rt, board, &mut self.seat)
     }
 
     fn give_lock(&mut self) {
         let board = self.board;
-        fsfs_seats::give_lock(board, &mut self.seat);
+        crate::give_lock(board, &mut self.seat);
     }
 
     fn stick(&mut self, place: DiskPlace) {
         let board = self.board;
-        fsfs_seats::stick(board, &mut self.seat, place);
+        crate::stick(board, &mut self.seat, place);
     }
 
     fn reveal(&mut self, _rt: &R, rev: RevNum) {
         let board = self.board;
-        fsfs_seats::reveal(board, &mut self.seat, rev);
+        crate::reveal(board, &mut self.seat, rev);
     }
 
     fn adopt(
@@ -98,22 +95,22 @@ impl<'a, R: Wait, D: Disk + Drop> Turns<R> for PassTurns<'a, D> {
         about: &Note<Option<Adoption>>,
     ) -> Result<(), Failed> {
         let board = self.board;
-        fsfs_seat_calls::adopt(rt, board, &mut self.seat, name, bytes, about)
+        crate::adopt(rt, board, &mut self.seat, name, bytes, about)
     }
 
     fn put(&mut self, rt: &R, name: &Name, bytes: &[u8]) -> Result<(), Failed> {
         let board = self.board;
-        fsfs_seat_calls::put(rt, board, &mut self.seat, name, bytes)
+        crate::put(rt, board, &mut self.seat, name, bytes)
     }
 
     fn rename(&mut self, rt: &R, from: &Name, to: &Name) -> Result<(), Failed> {
         let board = self.board;
-        fsfs_seat_calls::rename(rt, board, &mut self.seat, from, to)
+        crate::rename(rt, board, &mut self.seat, from, to)
     }
 
     fn firm_names(&mut self, rt: &R) -> Result<(), Failed> {
         let board = self.board;
-        fsfs_seat_calls::firm_names(rt, board, &mut self.seat)
+        crate::firm_names(rt, board, &mut self.seat)
     }
 
     fn adopt_file(
@@ -125,7 +122,7 @@ impl<'a, R: Wait, D: Disk + Drop> Turns<R> for PassTurns<'a, D> {
         about: &Note<Option<Adoption>>,
     ) -> Result<(), Failed> {
         let board = self.board;
-        fsfs_seat_calls::adopt_file(rt, board, &mut self.seat, bench, file, to, about)
+        crate::adopt_file(rt, board, &mut self.seat, bench, file, to, about)
     }
 
     fn read(
@@ -136,27 +133,27 @@ impl<'a, R: Wait, D: Disk + Drop> Turns<R> for PassTurns<'a, D> {
         buffer: &mut [u8],
     ) -> Result<Option<usize>, Failed> {
         let board = self.board;
-        fsfs_seat_calls::read(rt, board, &mut self.seat, name, offset, buffer)
+        crate::read(rt, board, &mut self.seat, name, offset, buffer)
     }
 
     fn draw(&mut self, rt: &R, base: RevNum, buffer: &mut [u8]) -> Result<Option<usize>, Failed> {
         let board = self.board;
-        fsfs_seat_calls::draw(rt, board, &mut self.seat, base, buffer)
+        crate::draw(rt, board, &mut self.seat, base, buffer)
     }
 
     fn size(&mut self, rt: &R, name: &Name) -> Result<Option<u64>, Failed> {
         let board = self.board;
-        fsfs_seat_calls::size(rt, board, &mut self.seat, name)
+        crate::size(rt, board, &mut self.seat, name)
     }
 
     fn list(&mut self, rt: &R, alloc: Global) -> Result<Vec<Name>, ListFault> {
         let board = self.board;
-        fsfs_seat_calls::list(rt, board, &mut self.seat, alloc)
+        crate::list(rt, board, &mut self.seat, alloc)
     }
 
     fn bench(&mut self, rt: &R, label: &Label) -> Result<D::Bench, Failed> {
         let board = self.board;
-        fsfs_seat_calls::bench(rt, board, &mut self.seat, label)
+        crate::bench(rt, board, &mut self.seat, label)
     }
 
     fn drop_bench(&mut self, rt: &R, label: &Label, bench: Option<D::Bench>) -> Result<bool, Failed>
@@ -173,12 +170,12 @@ impl<'a, R: Wait, D: Disk + Drop> Turns<R> for PassTurns<'a, D> {
         ensures cause { HasCause self.old.seat.me.0.failures self.new.seat.me.0.failures result }
     {
         let board = self.board;
-        fsfs_seat_calls::drop_bench(rt, board, &mut self.seat, label, bench)
+        crate::drop_bench(rt, board, &mut self.seat, label, bench)
     }
 
     fn make_folder(&mut self, rt: &R, name: &Name) -> Result<(), Failed> {
         let board = self.board;
-        fsfs_seat_calls::make_folder(rt, board, &mut self.seat, name)
+        crate::make_folder(rt, board, &mut self.seat, name)
     }
 
     ghost sole = { λ s v u bound known other. one_known (D.trace s.first.value) s.last s.seat.me.0 v u known other };

@@ -1,4 +1,15 @@
-pub mod OpeningLemmas
-pub mod DecidingLemmas
-pub mod ShortTexts
-pub mod FirstTextLemmas
+pub mod Shown
+mod Begun
+mod Dropped
+mod Listed
+mod Commits
+mod Limits
+pub mod Unlisted
+pub mod Noted
+mod BenchFaults
+pub mod OwnedRepoShown
+mod Readers
+pub mod Crashes
+mod OwnedRepoUnlisted
+mod Leaving
+mod Opened

@@ -1,3 +1,14 @@
-pub mod OpenFaults
-pub mod Deciding
-pub mod FirstTexts
+pub mod Begun
+pub mod Purged
+pub mod Listings
+pub mod Commits
+pub mod Limits
+pub mod Fates
+pub mod Labels
+pub mod Standings
+pub mod Alone
+pub mod Readers
+pub mod Crashes
+pub mod OwnedRepoLabels
+pub mod Left
+pub mod FirstPass

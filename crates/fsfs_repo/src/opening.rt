@@ -1,162 +1,147 @@
-// Opening a repository: what its small files say.
-ghost use Rattle.std.specs.Prelude.{◌≡◌, ◌≤◌, take, IfOk, IfErr, IfSome, OnOk, MatchResult, option_map};
+//! A repository is opened to be shared.
+ghost use Rattle.std.specs.Prelude.{◌≡◌, ◌≤◌, List, [], IfOk, IfErr, IfSome, IsTrue, MatchResult};
 ghost use Rattle.fsfs_base.specs.Failures.{Rose};
-ghost use Rattle.fsfs_disk.specs.Trace.{FirmNames, files_now, Performs, FailsAt};
-ghost use Rattle.fsfs_layout.specs.Opening.{IsOpened, IsOpenedBehind, IsRefusedBehind, small_texts, text_at};
-ghost use Rattle.fsfs_repo.specs.FirstTexts.{first_texts};
-ghost use Rattle.fsfs_repo.specs.OpenFaults.{texts_of, JudgedBecause, OpensBecause, outside_of, IfUnread};
-ghost use Rattle.fsfs_repo.specs.Deciding.{Decides};
-ghost use Rattle.fsfs_layout.specs.declared.opened.Opened.{Opened};
+ghost use Rattle.fsfs_tree.specs.Revisions.{Revision};
+ghost use Rattle.fsfs_layout.specs.Opening.{IsOpened, small_texts};
+ghost use Rattle.fsfs_disk.specs.Trace.{FirmNames, files_now, FailsAt, Performs};
+ghost use Rattle.fsfs_stands.specs.Files.{StandsFor};
+ghost use Rattle.fsfs_create.specs.OpenFaults.{OpensBecause};
+ghost use Rattle.fsfs_turn.specs.Opening.{LeftoversAgree};
+ghost use Rattle.fsfs_pass.specs.declared.seat_view.SeatView.{SeatView};
+ghost use Rattle.fsfs_pass.specs.First.{IsFirst};
+ghost use Rattle.fsfs_pass.specs.Seats.{alone, IsSitting, look_view};
+ghost use Rattle.fsfs_pass.specs.Tells.{TellsIt};
+ghost use Rattle.fsfs_repo.specs.FirstPass.{SeesAll};
 
-use fsfs_base::{Name, SmallFault, SmallFile};
+use crate::shared_repo::SharedRepo;
+use fsfs_base::{Claims, Note, OpenFault, RevNum, Says};
+use fsfs_create::{OpenedStore, Unopened, open_store};
 use fsfs_disk::Disk;
-use fsfs_layout::{
-    Format, Layout, OnlyFile, Opened, read_current, read_format, read_min_unpacked_rev,
-    read_txn_current, read_uuid,
-};
-use fsfs_places::{DiskPlace, OpenFault, OpenPlace};
-use fsfs_whole_file::{FileFault, read_disk_file};
+use fsfs_layout::{Layout, Opened};
+use fsfs_pass::{SeatView, SharedSeat, look, start};
 use std::alloc::Global;
 
-// No text of a small file has so many bytes. The longest of our own, a `db/format`, has 28; the line of another format at most 21,
-// whatever stands behind it. So these first bytes tell of a file what all of it would.
-const MOST: usize = 64;
-
-// The first bytes of the small files; an absent file counts as empty, but for `db/format`.
+/// A repository that was opened to be shared; the seat of its first pass; the youngest revision, as this pass was told; and what the
+/// small files said.
 #[derive(Drop)]
-struct SmallFiles {
-    format: Option<Vec<u8>>,
-    fs_type: Vec<u8>,
-    uuid: Vec<u8>,
-    current: Vec<u8>,
-    min_unpacked_rev: Vec<u8>,
-    txn_current: Vec<u8>,
+pub struct OpenedShared<D: Disk> {
+    pub repo: SharedRepo<D>,
+    pub seat: SharedSeat<D>,
+    pub youngest: RevNum,
+    pub said: Opened,
 }
 
-// The first bytes of a small file, none where it isn't there.
-fn text_of<D: Disk>(alloc: Global, disk: &mut D, name: &Name) -> Result<Vec<u8>, OpenFault>
-    ensures bytes { IfSome (D.trace disk.old) (λ t. IfOk result (λ v. v.items ≡ take 64 (text_at (files_now t) name.now))) }
-    ensures same { D.trace disk.new ≡ D.trace disk.old }
-    ensures mounted { D.mount_path disk.new ≡ D.mount_path disk.old }
-    ensures right { D.may_write disk.new ≡ D.may_write disk.old }
-    ensures later { D.faults disk.old ≤ D.faults disk.new }
-    ensures failed { IfErr result (IfUnread (Rose (D.faults disk.old) (D.faults disk.new))) }
-{
-    match read_disk_file(alloc, disk, name, MOST) {
-        Ok(Some(bytes)) => Ok(bytes),
-        Ok(None) => Ok(Vec::new(alloc)),
-        Err(fault) => Err(outside(fault)),
-    }
+// The disk as it is.
+#[derive(Drop)]
+struct AsItIs<'a, D> {
+    disk: &'a D,
 }
 
-fn outside(fault: FileFault) -> OpenFault
-    ensures { result ≡ outside_of fault }
-{
-    match fault {
-        FileFault::Failed => OpenFault::DiskFault(DiskPlace::Open(OpenPlace::Read)),
-        FileFault::Memory => OpenFault::Memory,
-    }
+impl<D> Says<D> for AsItIs<'_, D> {
+    ghost says = { λ x. x.disk.now };
 }
 
-// Reads the small files. Others may commit and pack meanwhile, and the youngest revision only rises: so a floor that is read
-// before it is never too high for it.
-fn read_small_files<D: Disk>(alloc: Global, disk: &mut D) -> Result<SmallFiles, OpenFault>
-    ensures texts { IfSome (D.trace disk.old) (λ t. IfOk result (λ s. texts_of s ≡ first_texts (small_texts (files_now t)))) }
-    ensures same { D.trace disk.new ≡ D.trace disk.old }
-    ensures mounted { D.mount_path disk.new ≡ D.mount_path disk.old }
-    ensures right { D.may_write disk.new ≡ D.may_write disk.old }
-    ensures later { D.faults disk.old ≤ D.faults disk.new }
-    ensures failed { IfErr result (IfUnread (Rose (D.faults disk.old) (D.faults disk.new))) }
-{
-    let format = match read_disk_file(alloc, disk, &OnlyFile::Format.name(), MOST) {
-        Ok(found) => found,
-        Err(fault) => return Err(outside(fault)),
-    };
-    let fs_type = text_of(alloc, disk, &OnlyFile::FsType.name())?;
-    let uuid = text_of(alloc, disk, &OnlyFile::Uuid.name())?;
-    let min_unpacked_rev = text_of(alloc, disk, &OnlyFile::MinUnpackedRev.name())?;
-    let current = text_of(alloc, disk, &OnlyFile::Current.name())?;
-    let txn_current = text_of(alloc, disk, &OnlyFile::TxnCurrent.name())?;
-    Ok(SmallFiles {
-        format,
-        fs_type,
-        uuid,
-        current,
-        min_unpacked_rev,
-        txn_current,
-    })
+// The disk as it was before its names were made firm, and as it is now, with the layout and the youngest revision that its small files said.
+#[derive(Drop)]
+struct JustOpened<'a, D: Disk> {
+    before: &'a Note<D>,
+    disk: &'a D,
+    layout: Layout,
+    young: RevNum,
 }
 
-// What the files behind `db/format` say.
-fn judge_sharded(files: &SmallFiles, layout: Layout) -> Result<Opened, SmallFault>
-    ensures layout { IfOk result (λ o. o.layout ≡ layout) }
-    ensures opened { IfOk result (IsOpenedBehind (texts_of files.now)) }
-    ensures only { (o : Opened) → o.layout ≡ layout → IsOpenedBehind (texts_of files.now) o → MatchResult result (λ p. p.youngest ≡ o.youngest) (λ _. ⊥) }
-    ensures refused { IfErr result (IsRefusedBehind layout (texts_of files.now)) }
-{
-    let uuid = read_uuid(&files.uuid)?;
-    let youngest = read_current(&files.current)?;
-    let min_unpacked_rev = read_min_unpacked_rev(layout, &files.min_unpacked_rev)?;
-    if min_unpacked_rev.get() > youngest.get() + 1 {
-        return Err(SmallFault {
-            file: SmallFile::MinUnpackedRev,
-            at: 0,
-        });
-    }
-    let next_txn = read_txn_current(&files.txn_current)?;
-    Ok(Opened {
-        uuid,
-        layout,
-        youngest,
-        min_unpacked_rev,
-        next_txn,
-    })
+impl<'a, D: Disk> Claims<SeatView> for JustOpened<'a, D> {
+    ghost use Rattle.fsfs_pass.specs.First.{IsFirst};
+    ghost use Rattle.fsfs_repo.specs.FirstPass.{SeesAllOf};
+
+    ghost claims = { λ o v. IsFirst o.layout o.young (D.trace o.disk.now) v × SeesAllOf (D.trace o.before.now.value) v };
 }
 
-// What the small files say.
-fn judge(files: &SmallFiles) -> Result<Opened, OpenFault>
-    ensures opened { IfOk result (IsOpened (texts_of files.now)) }
-    ensures refused { IfErr result (JudgedBecause (texts_of files.now)) }
-    ensures decided { Decides (texts_of files.now) result }
+// The table over this disk, and its first pass, which has looked once. The note says what the pass knows.
+fn share<D: Disk + Drop>(
+    alloc: Global,
+    disk: D,
+    said: Opened,
+    about: &Note<SeatView>,
+) -> Result<OpenedShared<D>, Unopened<D>>
+    requires right { IsTrue (D.may_write disk) }
+    requires known { IsFirst said.layout said.youngest (D.trace disk) about.now.value }
+    ensures said { IfOk result (λ o. o.said ≡ said) }
+    ensures first { IfOk result (λ o. o.repo.first.value ≡ disk) }
+    ensures laid { IfOk result (λ o. (o.repo.layout ≡ o.said.layout) × (o.seat.me.0.layout ≡ o.said.layout)) }
+    ensures sits { IfOk result (λ o. (o.seat.table_id ≡ o.repo.board.shared.table_id) × (o.seat.me.1 ≡ []) × IsSitting o.seat.me.0) }
+    ensures began { IfOk result (λ o. (o.repo.board.shared.key.value.disk.mount_path ≡ D.mount_path o.repo.first.value) × (o.repo.board.shared.key.value.disk.faults ≡ D.faults o.repo.first.value) × (o.repo.board.shared.key.value.disk.bench_faults ≡ D.bench_faults o.repo.first.value)) }
+    ensures alone { IfOk result (λ o. o.seat.me.0.kin ≡ alone) }
+    ensures fresh { IfOk result (λ o. (o.seat.me.0.met ≡ D.trace o.repo.first.value) × (o.seat.me.0.failures ≡ 0) × (o.seat.me.0.bench_failures ≡ 0)) }
+    ensures tells { IfOk result (λ o. TellsIt o.seat.me.0) }
+    ensures known { IfOk result (λ o. (s : SeatView) × IsFirst o.said.layout o.said.youngest (D.trace o.repo.first.value) s × (o.seat.me.0 ≡ look_view o.youngest o.seat.me.0.met s)) }
+    ensures looked { IfOk result (λ o. o.seat.me.0 ≡ look_view o.youngest o.seat.me.0.met about.now.value) }
+    ensures wanting { IfErr result (λ e. (e.why ≡ OpenFault.Memory) × (D.trace e.disk ≡ D.trace disk) × (D.mount_path e.disk ≡ D.mount_path disk) × (D.faults e.disk ≡ D.faults disk) × (D.bench_faults e.disk ≡ D.bench_faults disk)) }
 {
-    let Some(format) = &files.format else {
-        return Err(OpenFault::NotRepo);
-    };
-    if files.fs_type.as_slice() != b"fsfs\n".as_slice() {
-        return Err(OpenFault::NotRepo);
-    }
-    match read_format(format) {
-        Ok(Format::Other(number)) => Err(OpenFault::OtherFormat(number)),
-        Ok(Format::Linear) => Err(OpenFault::Linear),
-        Ok(Format::Sharded(shard_size)) => {
-            match judge_sharded(files, Layout::sharded(shard_size)) {
-                Ok(opened) => Ok(opened),
-                Err(fault) => Err(OpenFault::Small(fault)),
-            }
+    let layout = said.layout;
+    let first = Note::of(&AsItIs { disk: &disk });
+    let (board, mut seat) = match start(alloc, disk, layout, said.youngest, about) {
+        Ok(made) => made,
+        Err(disk) => {
+            return Err(Unopened {
+                why: OpenFault::Memory,
+                disk,
+            });
         }
-        Err(fault) => Err(OpenFault::Small(fault)),
-    }
+    };
+    let youngest = look(&board, &mut seat);
+    let repo = SharedRepo {
+        board,
+        layout,
+        first,
+    };
+    Ok(OpenedShared {
+        repo,
+        seat,
+        youngest,
+        said,
+    })
 }
 
-/// Opens a repository: makes its names firm, and reads what its small files say: of each no more than its first 64 bytes, which is
-/// more than any text of it has, and `db/min-unpacked-rev` before `db/current`, since others may commit and pack meanwhile.
-pub fn open<D: Disk>(alloc: Global, disk: &mut D) -> Result<Opened, OpenFault>
-    ensures opened { IfSome (D.trace disk.old) (λ t. IfOk result (IsOpened (small_texts (files_now t)))) }
-    ensures refused { IfErr result (OpensBecause (Rose (D.faults disk.old) (D.faults disk.new)) (D.trace disk.old)) }
-    // Where it is opened or refused is decided by the files alone.
-    ensures decided { IfSome (D.trace disk.old) (λ t. Decides (small_texts (files_now t)) result) }
-    ensures same { option_map files_now (D.trace disk.new) ≡ option_map files_now (D.trace disk.old) }
-    // All that it does to the disk is to make the names firm.
-    ensures ended { FailsAt FirmNames (D.trace disk.old) (D.trace disk.new) }
-    // Where it is opened they are firm.
-    ensures firm { OnOk result (Performs FirmNames (D.trace disk.old) (D.trace disk.new)) }
-    ensures mounted { D.mount_path disk.new ≡ D.mount_path disk.old }
-    ensures right { D.may_write disk.new ≡ D.may_write disk.old }
-    ensures later { D.faults disk.old ≤ D.faults disk.new }
-{
-    if disk.firm_names().is_err() {
-        return Err(OpenFault::DiskFault(DiskPlace::Open(OpenPlace::Firm)));
+impl<D: Disk + Drop> SharedRepo<D> {
+    /// Opens the repository on a disk for passes that share it: makes its names firm, reads its small files, and lets the first pass sit
+    /// down. For want of memory the disk comes back too.
+    pub fn open(alloc: Global, disk: D) -> Result<OpenedShared<D>, Unopened<D>>
+        requires right { IsTrue (D.may_write disk) }
+        // Passes rest on each other, so where the disk tells its files they stand for a history, packed or not, and each file that is left
+        // over of a packed revision has the same bytes.
+        requires stands { IfSome (D.trace disk) (λ t. (h : List Revision) × (stands : StandsFor (files_now t) h) × LeftoversAgree stands) }
+        ensures opened { IfSome (D.trace disk) (λ t. IfOk result (λ o. IsOpened (small_texts (files_now t)) o.said)) }
+        ensures refused { IfErr result (λ e. OpensBecause (Rose (D.faults disk) (D.faults e.disk)) (D.trace disk) e.why) }
+        ensures firm { IfOk result (λ o. Performs FirmNames (D.trace disk) (D.trace o.repo.first.value)) }
+        ensures left { IfErr result (λ e. FailsAt FirmNames (D.trace disk) (D.trace e.disk)) }
+        ensures mounted { MatchResult result (λ o. D.mount_path o.repo.first.value ≡ D.mount_path disk) (λ e. D.mount_path e.disk ≡ D.mount_path disk) }
+        ensures later { MatchResult result (λ o. D.faults disk ≤ D.faults o.repo.first.value) (λ e. D.faults disk ≤ D.faults e.disk) }
+        ensures laid { IfOk result (λ o. (o.repo.layout ≡ o.said.layout) × (o.seat.me.0.layout ≡ o.said.layout)) }
+        // The table began with that disk.
+        ensures began { IfOk result (λ o. (o.repo.board.shared.key.value.disk.mount_path ≡ D.mount_path o.repo.first.value) × (o.repo.board.shared.key.value.disk.faults ≡ D.faults o.repo.first.value) × (o.repo.board.shared.key.value.disk.bench_faults ≡ D.bench_faults o.repo.first.value)) }
+        // The first pass sits at the table, in all parts of the right to know that no other sits; it has met the disk as it is, and knows what is
+        // known of the store, and the youngest revision.
+        ensures sits { IfOk result (λ o. (o.seat.table_id ≡ o.repo.board.shared.table_id) × (o.seat.me.1 ≡ []) × IsSitting o.seat.me.0) }
+        ensures alone { IfOk result (λ o. o.seat.me.0.kin ≡ alone) }
+        ensures fresh { IfOk result (λ o. (o.seat.me.0.met ≡ D.trace o.repo.first.value) × (o.seat.me.0.failures ≡ 0) × (o.seat.me.0.bench_failures ≡ 0)) }
+        ensures tells { IfOk result (λ o. TellsIt o.seat.me.0) }
+        ensures known { IfOk result (λ o. (s : SeatView) × IsFirst o.said.layout o.said.youngest (D.trace o.repo.first.value) s × (o.seat.me.0 ≡ look_view o.youngest o.seat.me.0.met s)) }
+        ensures seen { IfSome (D.trace disk) (λ t. IfOk result (λ o. SeesAll t o.seat.me.0)) }
+    {
+        let before = Note::of(&AsItIs { disk: &disk });
+        match open_store(alloc, disk) {
+            Ok(OpenedStore { store, said }) => {
+                let disk = store.into_disk();
+                let about = Note::some(&JustOpened {
+                    before: &before,
+                    disk: &disk,
+                    layout: said.layout,
+                    young: said.youngest,
+                });
+                share(alloc, disk, said, &about)
+            }
+            Err(unopened) => Err(unopened),
+        }
     }
-    let files = read_small_files(alloc, disk)?;
-    judge(&files)
 }

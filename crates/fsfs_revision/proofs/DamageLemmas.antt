@@ -2,14 +2,14 @@
 use Rattle.std.proofs.Common.{◌≡◌, ℕ, Bool, true, false, List, length, take, drop, refl, sym, ap, subst, ◌∙◌, inl, inr}
 use Rattle.std.specs.Prelude.{Result, Ok, Err, Option, Some}
 use Rattle.std.proofs.lemmas.Bool.{and_parts}
-use Rattle.fsfs_damage.specs.declared.damage.RevOffset.{RevOffset}
-use Rattle.fsfs_damage.specs.declared.damage.DamageKind.TheVariants as what
-use Rattle.fsfs_damage.specs.declared.wrong.Wrong.{Wrong}
-use Rattle.fsfs_damage.specs.declared.wrong.ReadError.{ReadError}
-use Rattle.fsfs_damage.specs.declared.wrong.ReadError.TheVariants as errors
-use Rattle.fsfs_damage.specs.Damages.{place_of, damaged}
-use Rattle.fsfs_damage.specs.Readings.{Answers, HasOneAnswer}
-use Rattle.fsfs_damage.proofs.OneAnswer.{and_then_one, judged_one}
+use Rattle.fsfs_revision.specs.declared.damage.RevOffset.{RevOffset}
+use Rattle.fsfs_revision.specs.declared.damage.DamageKind.TheVariants as what
+use Rattle.fsfs_revision.specs.declared.wrong.Wrong.{Wrong}
+use Rattle.fsfs_revision.specs.declared.wrong.ReadError.{ReadError}
+use Rattle.fsfs_revision.specs.declared.wrong.ReadError.TheVariants as errors
+use Rattle.fsfs_revision.specs.DamageDamages.{place_of, damaged}
+use Rattle.fsfs_revision.specs.Readings.{Answers, HasOneAnswer}
+use Rattle.fsfs_revision.proofs.OneAnswer.{and_then_one, judged_one}
 use Rattle.fsfs_noderev.specs.NodeRevs.{IsRead}
 use Rattle.fsfs_noderev.specs.declared.node_rev.NodeRev.{NodeRev}
 use Rattle.fsfs_revision.specs.declared.trailer.Trailer.{Trailer}

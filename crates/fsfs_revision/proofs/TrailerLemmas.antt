@@ -4,13 +4,13 @@ use Rattle.std.specs.Prelude.{Result, Ok, Err, ◌==◌, false, IfSome}
 use Rattle.std.proofs.lemmas.List.{length-append, length-drop, length-take, take-append-drop, drop-append-le, take_all}
 use Rattle.std.proofs.lemmas.Fmt.{length-decimal-le}
 use Rattle.std.specs.Fmt.{decimal}
-use Rattle.fsfs_grammar.specs.Grammar.{Then, IsText, Mapped, Appends}
-use Rattle.fsfs_grammar.specs.Numeral.{IsNumber, IsNumeral}
-use Rattle.fsfs_grammar.specs.Cuts.{Lacks}
-use Rattle.fsfs_grammar.proofs.Readers.{ReadsAll, next_reads, mapped_reads, whole_reads, text_reads, all_found, all_again, ok_is}
-use Rattle.fsfs_grammar.proofs.Numerals.{number_reads}
-use Rattle.fsfs_grammar.proofs.Spelling.{plain_lacks}
-use Rattle.fsfs_grammar.proofs.Unique.{numeral_decimal}
+use Rattle.fsfs_base.specs.Grammar.{Then, IsText, Mapped, Appends}
+use Rattle.fsfs_base.specs.Numeral.{IsNumber, IsNumeral}
+use Rattle.fsfs_base.specs.Cuts.{Lacks}
+use Rattle.fsfs_base.proofs.Readers.{ReadsAll, next_reads, mapped_reads, whole_reads, text_reads, all_found, all_again, ok_is}
+use Rattle.fsfs_base.proofs.Numerals.{number_reads}
+use Rattle.fsfs_base.proofs.Spelling.{plain_lacks}
+use Rattle.fsfs_base.proofs.Unique.{numeral_decimal}
 use Rattle.fsfs_revision.specs.Trailers.{IsOffset, IsTrailer, EndsWith, trailer_at}
 use Rattle.fsfs_revision.specs.declared.trailer.Trailer.{Trailer}
 

@@ -1,12 +1,12 @@
 -- What is read of a node-revision and of a root, and what is damaged there: the checks in their order. (The order is this
 -- project's profile.)
 use Rattle.std.specs.Prelude.{◌≡◌, ℕ, true, List, [], ◌∷◌, length, drop, Result}
-use Rattle.fsfs_damage.specs.declared.damage.RevOffset.{RevOffset}
-use Rattle.fsfs_damage.specs.declared.damage.DamageKind.TheVariants as what
-use Rattle.fsfs_damage.specs.declared.wrong.Wrong.{Wrong}
-use Rattle.fsfs_damage.specs.Checks.{Check, must, Judged}
-use Rattle.fsfs_damage.specs.Damages.{place_of, damaged}
-use Rattle.fsfs_damage.specs.Readings.{AndThen}
+use Rattle.fsfs_revision.specs.declared.damage.RevOffset.{RevOffset}
+use Rattle.fsfs_revision.specs.declared.damage.DamageKind.TheVariants as what
+use Rattle.fsfs_revision.specs.declared.wrong.Wrong.{Wrong}
+use Rattle.fsfs_revision.specs.Checks.{Check, must, Judged}
+use Rattle.fsfs_revision.specs.DamageDamages.{place_of, damaged}
+use Rattle.fsfs_revision.specs.Readings.{AndThen}
 use Rattle.fsfs_noderev.specs.declared.node_rev.NodeRev.{NodeRev}
 use Rattle.fsfs_revision.specs.declared.trailer.Trailer.{Trailer}
 use Rattle.fsfs_revision.specs.Trailers.{EndsWith}

@@ -13,7 +13,7 @@ use Rattle.fsfs_noderev.specs.declared.rep.Contents.TheVariants as contents
 use Rattle.fsfs_noderev.specs.declared.node_rev.CopySource.{CopySource}
 use Rattle.fsfs_noderev.specs.declared.node_rev.CopyRoot.{CopyRoot}
 use Rattle.fsfs_noderev.specs.declared.node_rev.NodeRev.{NodeRev}
-use Rattle.fsfs_damage.specs.declared.damage.RevOffset.{RevOffset}
+use Rattle.fsfs_revision.specs.declared.damage.RevOffset.{RevOffset}
 
 -- ---- without the forms of a transaction
 

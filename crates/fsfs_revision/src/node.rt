@@ -1,12 +1,12 @@
 //! A node-revision that stands in a revision.
 ghost use Rattle.std.specs.Prelude.{◌≡◌, true, IfOk};
 ghost use Rattle.fsfs_revision.specs.Nodes.{is_lasting_part, is_revision_place, is_revision_id, is_some_rev, has_revision_pred, has_revision_rep, has_revision_root, is_of_revision, is_before as before, place_before, pred_before, rep_place_before, rep_before, source_before, rev_not_after, root_not_after, is_ordered};
-ghost use Rattle.fsfs_damage.specs.Causes.{IsQuiet};
-ghost use Rattle.fsfs_damage.specs.Readings.{Answers};
+ghost use Rattle.fsfs_revision.specs.Causes.{IsQuiet};
+ghost use Rattle.fsfs_revision.specs.Readings.{Answers};
 ghost use Rattle.fsfs_revision.specs.Damages.{NodeIn};
 
-use fsfs_damage::{DamageKind, ReadError, RevOffset};
-use fsfs_fields::RevNum;
+use crate::{DamageKind, ReadError, RevOffset};
+use fsfs_base::RevNum;
 use fsfs_noderev::{
     Contents, CopyRoot, CopySource, Fields, NodeError, NodeId, NodeRev, Part, Place, read_fields,
 };

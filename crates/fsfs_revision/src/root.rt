@@ -1,15 +1,14 @@
 //! The root of a revision.
 ghost use Rattle.std.specs.Prelude.{◌≡◌, ◌≤◌, ◌+◌, ◌-◌, ◌^◌, ◌<◌, ℕ, length, drop};
-ghost use Rattle.fsfs_damage.specs.Causes.{IsQuiet};
-ghost use Rattle.fsfs_damage.specs.Readings.{Answers};
+ghost use Rattle.fsfs_revision.specs.Causes.{IsQuiet};
+ghost use Rattle.fsfs_revision.specs.Readings.{Answers};
 ghost use Rattle.fsfs_revision.specs.Nodes.{is_own_place as own_place};
 ghost use Rattle.fsfs_revision.specs.Damages.{AsRoot, RootIn};
 
 use crate::node::read_node_at;
 use crate::trailer::read_trailer;
-use fsfs_base::Kind;
-use fsfs_damage::{DamageKind, ReadError, RevOffset};
-use fsfs_fields::RevNum;
+use crate::{DamageKind, ReadError, RevOffset};
+use fsfs_base::{Kind, RevNum};
 use fsfs_noderev::{NodeId, NodeRev, Place};
 use std::alloc::Global;
 

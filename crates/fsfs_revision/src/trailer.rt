@@ -1,12 +1,12 @@
 //! The trailer that ends a revision.
 ghost use Rattle.std.specs.Prelude.{◌≡◌, ◌≤◌, ◌<◌, ◌+◌, ◌^◌, length, IfSome, Some, OnOk};
-ghost use Rattle.fsfs_grammar.specs.Grammar.{Appends};
-ghost use Rattle.fsfs_grammar.specs.Reading.{Gives};
+ghost use Rattle.fsfs_base.specs.Grammar.{Appends};
+ghost use Rattle.fsfs_base.specs.Reading.{Gives};
 ghost use Rattle.fsfs_revision.specs.Trailers.{IsTrailer, EndsWith, trailer_at};
 ghost use Rattle.fsfs_revision.specs.declared.trailer.Trailer.{Trailer};
 
-use fsfs_grammar::decimals::{decimal, put_decimal};
-use fsfs_grammar::pieces::text;
+use fsfs_base::decimals::{decimal, put_decimal};
+use fsfs_base::pieces::text;
 use std::alloc::AllocError;
 
 /// Where the trailer begins at most, in bytes before the end of the revision.

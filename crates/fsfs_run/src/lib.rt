@@ -3,4 +3,5 @@
 
 mod mains;
 
+pub use fsfs_top::Tool;
 pub use mains::run;

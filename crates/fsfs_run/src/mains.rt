@@ -1,6 +1,6 @@
 //! What the mains of all programs do.
 
-use fsfs_faults::{Fault, OutsideFault, print_fault, status};
+use fsfs_cli::{Fault, OutsideFault, print_fault, status};
 use fsfs_hostcalls::HostFileSystem;
 use fsfs_mount::FolderHost;
 use fsfs_outside::{ProgressGate, StreamSink, StreamSource, SystemClock, SystemDice, words};

@@ -2,23 +2,23 @@
 use Rattle.std.proofs.Common.{◌≡◌, ◌≢◌, ◌+◌, ℕ, false, List, [], ◌∷◌, ◌++◌, length, take, drop, Option, Some, None, refl, sym, ap, subst, ◌∙◌, append_assoc, arith}
 use Rattle.std.specs.Prelude.{Result, Ok, codes}
 use Rattle.fsfs_base.specs.Paths.{Path, path_text}
-use Rattle.fsfs_job_lines.specs.Lines.{command_line_at, opening_line_at, to_line_at}
-use Rattle.fsfs_job_lines.specs.Texts.{CanEdit, CanSay, CanValue, MayStand, edit_text, said_text, opening_text}
-use Rattle.fsfs_job_lines.specs.declared.edit.Edit.{Edit}
-use Rattle.fsfs_job_lines.specs.declared.edit.Edit.TheVariants as edits
-use Rattle.fsfs_job_lines.specs.declared.job.CommitJob.{CommitJob}
-use Rattle.fsfs_job_lines.specs.declared.job.Step.{Step}
-use Rattle.fsfs_job_lines.specs.declared.job.Job.{Job}
-use Rattle.fsfs_job_lines.specs.declared.job.Job.TheVariants as jobs
-use Rattle.fsfs_job_lines.specs.declared.lines.CommandLine.{CommandLine}
-use Rattle.fsfs_job_lines.specs.declared.lines.CommandLine.TheVariants as says
-use Rattle.fsfs_job_lines.specs.declared.lines.OpeningLine.TheVariants as openings
-use Rattle.fsfs_job_lines.specs.declared.refusal.Refusal.{Refusal}
-use Rattle.fsfs_job_lines.specs.declared.verbs.Stage.{Stage}
-use Rattle.fsfs_job_lines.specs.declared.verbs.Stage.TheVariants.{AfterJob, AfterAuthor, InEdits}
-use Rattle.fsfs_job_lines.proofs.LinesAgain.{line_again as said_again}
-use Rattle.fsfs_job_lines.proofs.OpeningTexts.{opening_again, to_again}
-use Rattle.fsfs_job_lines.proofs.LineSizes.{IsWithin, said_within, opening_within, to_within}
+use Rattle.fsfs_script.specs.Lines.{command_line_at, opening_line_at, to_line_at}
+use Rattle.fsfs_script.specs.Texts.{CanEdit, CanSay, CanValue, MayStand, edit_text, said_text, opening_text}
+use Rattle.fsfs_script.specs.declared.edit.Edit.{Edit}
+use Rattle.fsfs_script.specs.declared.edit.Edit.TheVariants as edits
+use Rattle.fsfs_script.specs.declared.job.CommitJob.{CommitJob}
+use Rattle.fsfs_script.specs.declared.job.Step.{Step}
+use Rattle.fsfs_script.specs.declared.job.Job.{Job}
+use Rattle.fsfs_script.specs.declared.job.Job.TheVariants as jobs
+use Rattle.fsfs_script.specs.declared.job_lines_lines.CommandLine.{CommandLine}
+use Rattle.fsfs_script.specs.declared.job_lines_lines.CommandLine.TheVariants as says
+use Rattle.fsfs_script.specs.declared.job_lines_lines.OpeningLine.TheVariants as openings
+use Rattle.fsfs_script.specs.declared.refusal.Refusal.{Refusal}
+use Rattle.fsfs_script.specs.declared.verbs.Stage.{Stage}
+use Rattle.fsfs_script.specs.declared.verbs.Stage.TheVariants.{AfterJob, AfterAuthor, InEdits}
+use Rattle.fsfs_script.proofs.LinesAgain.{line_again as said_again}
+use Rattle.fsfs_script.proofs.OpeningTexts.{opening_again, to_again}
+use Rattle.fsfs_script.proofs.LineSizes.{IsWithin, said_within, opening_within, to_within}
 use Rattle.fsfs_script.specs.Places.{Place, newlines}
 use Rattle.fsfs_script.specs.Reading.{newline_at, text_at}
 use Rattle.fsfs_script.specs.Commands.{judged_at, rest_at, next_at}

@@ -1,3 +1,10 @@
+pub mod PathReadings
+pub mod NameReadings
+pub mod WordTexts
+pub mod LineTexts
+pub mod LinesAgain
+pub mod OpeningTexts
+pub mod LineSizes
 pub mod PlaceLemmas
 pub mod LineLemmas
 pub mod TextLemmas

@@ -4,26 +4,26 @@ use Rattle.std.proofs.lemmas.Bool.{eqb-true}
 use Rattle.std.proofs.lemmas.List.{take-append-drop, length-take-le, length-drop}
 use Rattle.std.specs.List.{list_all}
 use Rattle.std.specs.Prelude.{Result, Ok, Err, codes, decimal}
-use Rattle.fsfs_grammar.specs.Cuts.{Lacks, cut}
-use Rattle.fsfs_grammar.proofs.CutLemmas.{cut_found}
+use Rattle.fsfs_base.specs.Cuts.{Lacks, cut}
+use Rattle.fsfs_base.proofs.CutLemmas.{cut_found}
 use Rattle.fsfs_base.specs.Paths.{path_text}
-use Rattle.fsfs_job_lines.specs.Judging.{◌>>=◌}
-use Rattle.fsfs_job_lines.specs.Lines.{command_line_at, to_line_at}
-use Rattle.fsfs_job_lines.specs.Verbs.{command_named}
-use Rattle.fsfs_job_lines.specs.Texts.{CanEdit, CanAuthor, CanSay, CanWhole, MayStand, edit_line, edit_body, edit_text, said_text}
-use Rattle.fsfs_job_lines.specs.declared.edit.Edit.{Edit}
-use Rattle.fsfs_job_lines.specs.declared.edit.Edit.TheVariants as edits
-use Rattle.fsfs_job_lines.specs.declared.lines.CommandLine.{CommandLine}
-use Rattle.fsfs_job_lines.specs.declared.lines.CommandLine.TheVariants as says
-use Rattle.fsfs_job_lines.specs.declared.refusal.Refusal.{Refusal}
-use Rattle.fsfs_job_lines.specs.declared.refusal.Refusal.TheVariants.{Bad}
-use Rattle.fsfs_job_lines.specs.declared.refusal.Why.TheVariants as why
-use Rattle.fsfs_job_lines.specs.declared.verbs.Stage.{Stage}
-use Rattle.fsfs_job_lines.specs.declared.verbs.Stage.TheVariants.{AfterJob, AfterAuthor, InEdits}
-use Rattle.fsfs_job_lines.proofs.WordTexts.{bound, tail}
-use Rattle.fsfs_job_lines.proofs.LineTexts.{line_found as said_found}
-use Rattle.fsfs_job_lines.proofs.LinesAgain.{lacking, plain_utf8, split_tail}
-use Rattle.fsfs_job_lines.proofs.OpeningTexts.{to_found}
+use Rattle.fsfs_script.specs.Judging.{◌>>=◌}
+use Rattle.fsfs_script.specs.Lines.{command_line_at, to_line_at}
+use Rattle.fsfs_script.specs.Verbs.{command_named}
+use Rattle.fsfs_script.specs.Texts.{CanEdit, CanAuthor, CanSay, CanWhole, MayStand, edit_line, edit_body, edit_text, said_text}
+use Rattle.fsfs_script.specs.declared.edit.Edit.{Edit}
+use Rattle.fsfs_script.specs.declared.edit.Edit.TheVariants as edits
+use Rattle.fsfs_script.specs.declared.job_lines_lines.CommandLine.{CommandLine}
+use Rattle.fsfs_script.specs.declared.job_lines_lines.CommandLine.TheVariants as says
+use Rattle.fsfs_script.specs.declared.refusal.Refusal.{Refusal}
+use Rattle.fsfs_script.specs.declared.refusal.Refusal.TheVariants.{Bad}
+use Rattle.fsfs_script.specs.declared.refusal.Why.TheVariants as why
+use Rattle.fsfs_script.specs.declared.verbs.Stage.{Stage}
+use Rattle.fsfs_script.specs.declared.verbs.Stage.TheVariants.{AfterJob, AfterAuthor, InEdits}
+use Rattle.fsfs_script.proofs.WordTexts.{bound, tail}
+use Rattle.fsfs_script.proofs.LineTexts.{line_found as said_found}
+use Rattle.fsfs_script.proofs.LinesAgain.{lacking, plain_utf8, split_tail}
+use Rattle.fsfs_script.proofs.OpeningTexts.{to_found}
 use Rattle.fsfs_script.specs.Places.{Place, newlines, passed}
 use Rattle.fsfs_script.specs.Reading.{line_at, newline_at, newline_on, text_at}
 use Rattle.fsfs_script.specs.Commands.{judged_at, to_at, edited, rest_at, next_at}

@@ -1,3 +1,10 @@
+pub mod Judging
+pub mod Parts
+pub mod Words
+pub mod Verbs
+pub mod Lines
+pub mod Texts
+pub mod JobLinesLaws
 pub mod Places
 pub mod Errors
 pub mod Reading

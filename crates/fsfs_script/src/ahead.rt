@@ -3,8 +3,7 @@ ghost use Rattle.std.specs.Prelude.{◌≡◌, ◌+◌, ◌<◌, ◌≤◌, [], 
 ghost use Rattle.fsfs_base.specs.Failures.{HasCause};
 ghost use Rattle.fsfs_script.specs.Places.{newlines, passed, place_of, Fills, Keeps, IsAtEnd};
 
-use fsfs_base::Failed;
-use fsfs_streams::Source;
+use fsfs_base::{Failed, Source};
 use std::alloc::{AllocError, Global};
 use std::marker::Model;
 

@@ -7,13 +7,11 @@ ghost use Rattle.fsfs_script.specs.Commands.{opening_at, to_at, copy_at, put_at,
 
 use crate::ahead::Ahead;
 use crate::stop::Stop;
-use fsfs_base::FsPath;
-use fsfs_fields::PropName;
-use fsfs_job_lines::{
+use crate::{
     Author, CommandLine, CopyFrom, Edit, OpeningLine, PutText, SetProp, Stage, Text, command_line,
     opening_line, to_line,
 };
-use fsfs_streams::Source;
+use fsfs_base::{FsPath, PropName, Source};
 use std::alloc::Global;
 
 /// A command inside a job.

@@ -8,8 +8,8 @@ ghost use Rattle.fsfs_script.specs.Jobs.{start, stage_after, with_command, Fills
 use crate::ahead::Ahead;
 use crate::commands::{Command, Next};
 use crate::script_error::{ScriptError, stopped_at};
-use fsfs_job_lines::{Base, CommitJob, Job, OpeningLine, ReadJob, Stage, Step, Steps};
-use fsfs_streams::Source;
+use crate::{Base, CommitJob, Job, OpeningLine, ReadJob, Stage, Step, Steps};
+use fsfs_base::Source;
 use std::alloc::{AllocError, Global};
 
 fn begun(alloc: Global, line: u64, base: Base) -> CommitJob

@@ -1,7 +1,7 @@
 //! Lines and texts of a source.
 ghost use Rattle.std.specs.Prelude.{◌≡◌, ◌<◌, ◌≤◌, length, IfOk, IfErr, OnOk};
 ghost use Rattle.fsfs_base.specs.Counts.{HasCause};
-ghost use Rattle.fsfs_job_lines.specs.declared.refusal.Refusal.TheVariants.{Bad};
+ghost use Rattle.fsfs_script.specs.declared.refusal.Refusal.TheVariants.{Bad};
 ghost use Rattle.fsfs_script.specs.declared.stop.Stop.TheVariants.{Refused};
 ghost use Rattle.fsfs_script.specs.Places.{place_of};
 ghost use Rattle.fsfs_script.specs.Errors.{IfRead};
@@ -9,10 +9,9 @@ ghost use Rattle.fsfs_script.specs.Reading.{line_at, newline_at, text_at, skippe
 
 use crate::ahead::Ahead;
 use crate::stop::Stop;
-use fsfs_base::fitting;
-use fsfs_grammar::cuts::cut_at;
-use fsfs_job_lines::{Refusal, Text, Why};
-use fsfs_streams::Source;
+use crate::{Refusal, Text, Why};
+use fsfs_base::cuts::cut_at;
+use fsfs_base::{Source, fitting};
 use std::alloc::{AllocError, Global};
 
 /// The most bytes that a line may have.

@@ -5,10 +5,10 @@ ghost use Rattle.fsfs_script.specs.Places.{place_of};
 ghost use Rattle.fsfs_script.specs.Errors.{IfReadFault};
 ghost use Rattle.fsfs_script.specs.Jobs.{ReadsNext, room_after};
 
+use crate::Job;
 use crate::ahead::Ahead;
 use crate::script_error::ScriptError;
-use fsfs_job_lines::Job;
-use fsfs_streams::Source;
+use fsfs_base::Source;
 use std::alloc::{AllocError, Global};
 
 /// How many jobs a script may have.

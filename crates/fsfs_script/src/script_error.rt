@@ -3,7 +3,7 @@ ghost use Rattle.std.specs.Prelude.{◌≡◌};
 ghost use Rattle.fsfs_script.specs.Errors.{error_at, error_from};
 
 use crate::stop::Stop;
-use fsfs_job_lines::{Refusal, Why};
+use crate::{Refusal, Why};
 use std::alloc::AllocError;
 use thiserror::Error;
 

@@ -1,8 +1,8 @@
 //! Why reading stops.
 ghost use Rattle.std.specs.Prelude.{◌≡◌};
 
+use crate::{LineError, Refusal};
 use fsfs_base::Failed;
-use fsfs_job_lines::{LineError, Refusal};
 use std::alloc::{AllocError, AllocFailed};
 
 /// Why reading a command stops.

@@ -4,11 +4,11 @@ ghost use Rattle.fsfs_base.specs.Counts.{HasCause};
 ghost use Rattle.fsfs_script.specs.Errors.{IfReadFault};
 ghost use Rattle.fsfs_script.specs.Whole.{ReadsScript, EndsSource};
 
+use crate::Job;
 use crate::ahead::Ahead;
 use crate::script::MAX_JOBS;
 use crate::script_error::ScriptError;
-use fsfs_job_lines::Job;
-use fsfs_streams::Source;
+use fsfs_base::Source;
 use std::alloc::{AllocError, Global};
 use std::marker::Model;
 
@@ -20,7 +20,7 @@ pub struct Jobs {
 
 impl Model for Jobs {
     ghost use Rattle.std.specs.Prelude.{List};
-    ghost use Rattle.fsfs_job_lines.specs.declared.job.Job.{Job};
+    ghost use Rattle.fsfs_script.specs.declared.job.Job.{Job};
 
     ghost Value = { List Job };
 

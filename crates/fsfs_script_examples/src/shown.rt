@@ -1,5 +1,5 @@
 // Jobs and refusals as they are printed.
-use fsfs_escapes::Transcript;
+use fsfs_memory::Transcript;
 use fsfs_script::{Base, CommitJob, Edit, Job, ReadJob, ScriptError, SetProp};
 
 // A text this long is printed by its length.

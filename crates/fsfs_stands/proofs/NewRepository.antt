@@ -3,8 +3,8 @@ use Rattle.std.proofs.Common.{◌≡◌, ◌≤◌, ℕ, List, [], ◌∷◌, �
 use Rattle.std.specs.Prelude.{Option, Some, Ok, unwrap_or, codes, decimal}
 use Rattle.std.specs.FinMap.{get}
 use Rattle.std.proofs.Math.Nat.{zero-mod, zero-div}
-use Rattle.fsfs_grammar.specs.Numeral.{IsNumber, IsNumeral, value_after}
-use Rattle.fsfs_grammar.proofs.Unique.{decimal_plain, numeral_decimal}
+use Rattle.fsfs_base.specs.Numeral.{IsNumber, IsNumeral, value_after}
+use Rattle.fsfs_base.proofs.Unique.{decimal_plain, numeral_decimal}
 use Rattle.fsfs_base.specs.Files.{Files}
 use Rattle.fsfs_layout.specs.Formats.{IsFormat}
 use Rattle.fsfs_layout.specs.Opening.{text_at}
@@ -13,11 +13,11 @@ use Rattle.fsfs_layout.specs.Names.{in_shard}
 use Rattle.fsfs_layout.specs.declared.layout.Layout.{Layout}
 use Rattle.fsfs_layout.specs.declared.format_file.Format.TheVariants.{Sharded}
 use Rattle.fsfs_layout.proofs.Writing.{sharded_layout, our_format, uuid_line}
-use Rattle.fsfs_rev_file.specs.RevBytes.{floor_in, or_missing, by_floor, rev_bytes, props_bytes}
-use Rattle.fsfs_rev_file.proofs.FloorLemmas.{floor_is}
+use Rattle.fsfs_revision.specs.RevBytes.{floor_in, or_missing, by_floor, rev_bytes, props_bytes}
+use Rattle.fsfs_revision.proofs.FloorLemmas.{floor_is}
 use Rattle.fsfs_layout.specs.CreatedFiles.{format_text, date_properties}
 use Rattle.fsfs_base.specs.FirstRevision.{first_bytes}
-use Rattle.fsfs_shows.proofs.FirstRevision.{zero_digit}
+use Rattle.fsfs_revision.proofs.FirstRevision.{zero_digit}
 use Rattle.fsfs_stands.specs.NewRepository.{NewRepositoriesStand}
 use Rattle.fsfs_stands.proofs.FirstHistory.{first_history}
 

@@ -7,24 +7,24 @@ use Rattle.fsfs_base.specs.Paths.{Path, path_cmp}
 use Rattle.fsfs_tree.specs.Revisions.{Revision}
 use Rattle.fsfs_base.specs.declared.kind.Kind.{Kind}
 use Rattle.fsfs_tree.specs.declared.change_map.Change.{Change}
-use Rattle.fsfs_book.specs.Told.{RevisionBytes}
-use Rattle.fsfs_damage.specs.declared.wrong.Refusal.{Refusal}
-use Rattle.fsfs_hash.specs.Dump.{IsDump}
+use Rattle.fsfs_revision.specs.Told.{RevisionBytes}
+use Rattle.fsfs_revision.specs.declared.wrong.Refusal.{Refusal}
+use Rattle.fsfs_layout.specs.Dump.{IsDump}
 use Rattle.fsfs_noderev.specs.declared.node_rev.NodeRev.{NodeRev}
 use Rattle.fsfs_layout.specs.Opening.{small_texts}
 use Rattle.fsfs_layout.specs.declared.layout.Layout.{Layout}
 use Rattle.fsfs_layout.proofs.OpeningLemmas.{one_youngest, one_layout}
 use Rattle.fsfs_revision.specs.Trailers.{IsTrailer}
 use Rattle.fsfs_revision.proofs.TrailerLemmas.{one_trailer}
-use Rattle.fsfs_changes.specs.Changes.{HasNewPath, AreRevisionChanges}
-use Rattle.fsfs_changes.specs.declared.item.ChangeItem.{ChangeItem}
-use Rattle.fsfs_changes.proofs.ItemLists.{items_one}
-use Rattle.fsfs_shows.proofs.OneNode.{end_one}
-use Rattle.fsfs_shows.proofs.OneRep.{dump_one}
-use Rattle.fsfs_damage.proofs.OneAnswer.{ok_same}
-use Rattle.fsfs_shows.proofs.OneWalk.{of_id_one, stands_same}
-use Rattle.fsfs_shows.proofs.OneTree.{one_tree}
-use Rattle.fsfs_rev_file.specs.RevBytes.{rev_bytes, props_bytes}
+use Rattle.fsfs_noderev.specs.Changes.{HasNewPath, AreRevisionChanges}
+use Rattle.fsfs_noderev.specs.declared.item.ChangeItem.{ChangeItem}
+use Rattle.fsfs_noderev.proofs.ItemLists.{items_one}
+use Rattle.fsfs_revision.proofs.OneNode.{end_one}
+use Rattle.fsfs_revision.proofs.OneRep.{dump_one}
+use Rattle.fsfs_revision.proofs.OneAnswer.{ok_same}
+use Rattle.fsfs_revision.proofs.OneWalk.{of_id_one, stands_same}
+use Rattle.fsfs_revision.proofs.OneTree.{one_tree}
+use Rattle.fsfs_revision.specs.RevBytes.{rev_bytes, props_bytes}
 use Rattle.fsfs_stands.specs.Changes.{HasItems, IsKindOf, Said, Named, There, NotThere, IsChangeOf, AreChangesOf}
 use Rattle.fsfs_stands.specs.History.{ShowsRevision, ShowsHistory}
 use Rattle.fsfs_stands.specs.Same.{AreSame, OneHistoryIsShown, OneHistoryIsStoodFor}

@@ -7,7 +7,7 @@ use Rattle.fsfs_base.specs.Files.{Files}
 use Rattle.fsfs_tree.specs.Revisions.{Revision}
 use Rattle.fsfs_layout.specs.Opening.{small_texts, IsOpened}
 use Rattle.fsfs_layout.specs.declared.opened.Opened.{Opened}
-use Rattle.fsfs_rev_file.specs.RevBytes.{rev_bytes, props_bytes}
+use Rattle.fsfs_revision.specs.RevBytes.{rev_bytes, props_bytes}
 use Rattle.fsfs_stands.specs.History.{ShowsHistory}
 
 -- the files stand for the history: the bytes of revisions, packed or not, and the property files show it

@@ -1,9 +1,9 @@
 -- What shows the history of a new repository.
 use Rattle.std.specs.Prelude.{◌≡◌, ℕ, List, Ok}
 use Rattle.jiff_core.specs.declared.civil.datetime.DateTime.{DateTime}
-use Rattle.fsfs_fields.specs.Dates.{IsDateText}
-use Rattle.fsfs_answers.specs.Answers.{new_history}
-use Rattle.fsfs_book.specs.Told.{RevisionBytes}
+use Rattle.fsfs_base.specs.Dates.{IsDateText}
+use Rattle.fsfs_tree.specs.Answers.{new_history}
+use Rattle.fsfs_revision.specs.Told.{RevisionBytes}
 use Rattle.fsfs_layout.specs.CreatedFiles.{date_properties}
 use Rattle.fsfs_base.specs.FirstRevision.{first_bytes}
 use Rattle.fsfs_stands.specs.History.{ShowsHistory}

@@ -3,10 +3,10 @@ use Rattle.std.specs.Prelude.{◌≡◌, ℕ, List, Some, Ok, slice_get}
 use Rattle.std.specs.FinMap.{get}
 use Rattle.fsfs_tree.specs.Revisions.{Revision}
 use Rattle.fsfs_tree.specs.Dated.{IsDated, last_of}
-use Rattle.fsfs_book.specs.Told.{RevisionBytes}
-use Rattle.fsfs_hash.specs.Dump.{IsDump}
-use Rattle.fsfs_shows.specs.Shown.{Shows}
-use Rattle.fsfs_shows.specs.IdRules.{IdRule}
+use Rattle.fsfs_revision.specs.Told.{RevisionBytes}
+use Rattle.fsfs_layout.specs.Dump.{IsDump}
+use Rattle.fsfs_revision.specs.Shown.{Shows}
+use Rattle.fsfs_revision.specs.IdRules.{IdRule}
 use Rattle.fsfs_stands.specs.Changes.{AreChangesOf}
 
 -- the bytes of revision r and of its property file show this revision

@@ -4,3 +4,17 @@ pub mod Files
 pub mod Same
 pub mod FirstHistory
 pub mod NewRepository
+pub mod Texts
+pub mod TreeTexts
+pub mod FileTexts
+pub mod Agreeing
+pub mod ByTree
+pub mod Steps
+pub mod HistoryTexts
+pub mod Laws
+pub mod Items
+pub mod ChangedTexts
+pub mod ChangedLaws
+pub mod Histories
+pub mod Seen
+pub mod PathHistories

@@ -4,7 +4,7 @@ use Rattle.std.specs.FinMap.{get}
 use Rattle.fsfs_base.specs.Files.{Files}
 use Rattle.fsfs_base.specs.Paths.{Path}
 use Rattle.fsfs_tree.specs.Revisions.{Revision}
-use Rattle.fsfs_book.specs.Told.{RevisionBytes}
+use Rattle.fsfs_revision.specs.Told.{RevisionBytes}
 use Rattle.fsfs_stands.specs.History.{ShowsHistory}
 use Rattle.fsfs_stands.specs.Files.{StandsFor}
 

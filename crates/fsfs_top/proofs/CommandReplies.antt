@@ -8,22 +8,22 @@ use Rattle.fsfs_base.specs.Paths.{Path}
 use Rattle.fsfs_tree.specs.Revisions.{Revision, tree_of}
 use Rattle.fsfs_tree.specs.Dated.{last_of}
 use Rattle.fsfs_disk.specs.Trace.{Trace, files_now, labels_now}
-use Rattle.fsfs_streams.specs.Streams.{Adds}
-use Rattle.fsfs_streams.specs.Output.{AddsFront, Prints}
-use Rattle.fsfs_faults.specs.Lines.{line_of}
-use Rattle.fsfs_faults.specs.declared.fault.Fault.{Fault}
-use Rattle.fsfs_faults.specs.declared.fault.Fault.TheVariants.{Request}
-use Rattle.fsfs_faults.specs.declared.request_fault.RequestFault.TheVariants.{AlreadyRepo, NotRepo}
-use Rattle.fsfs_rev_file.specs.RevBytes.{rev_bytes}
-use Rattle.fsfs_answers.specs.FaultWords.{already_repo, not_repo}
-use Rattle.fsfs_answers.specs.Answers.{Answer, Reply, refuses, prints, refuses_look, tree_reply, text_reply, history_reply, found_at, asked_revision, of_revision}
-use Rattle.fsfs_answers.specs.PropTexts.{author_text, date_text, log_text, info_text}
-use Rattle.fsfs_answers.specs.ChangedTexts.{changed_text}
+use Rattle.fsfs_base.specs.Streams.{Adds}
+use Rattle.fsfs_base.specs.Output.{AddsFront, Prints}
+use Rattle.fsfs_cli.specs.Lines.{line_of}
+use Rattle.fsfs_cli.specs.declared.faults_fault.Fault.{Fault}
+use Rattle.fsfs_cli.specs.declared.faults_fault.Fault.TheVariants.{Request}
+use Rattle.fsfs_cli.specs.declared.request_fault.RequestFault.TheVariants.{AlreadyRepo, NotRepo}
+use Rattle.fsfs_revision.specs.RevBytes.{rev_bytes}
+use Rattle.fsfs_tree.specs.FaultWords.{already_repo, not_repo}
+use Rattle.fsfs_tree.specs.Answers.{Answer, Reply, refuses, prints, refuses_look, tree_reply, text_reply, history_reply, found_at, asked_revision, of_revision}
+use Rattle.fsfs_tree.specs.PropTexts.{author_text, date_text, log_text, info_text}
+use Rattle.fsfs_tree.specs.ChangedTexts.{changed_text}
 use Rattle.fsfs_tree.specs.PathHistories.{path_history}
 use Rattle.fsfs_layout.specs.Opening.{small_texts, IsOpened}
 use Rattle.fsfs_layout.specs.declared.opened.Opened.{Opened}
 use Rattle.fsfs_stands.specs.Files.{StandsFor}
-use Rattle.fsfs_printed.specs.Texts.{End}
+use Rattle.fsfs_stands.specs.Texts.{End}
 use Rattle.fsfs_cli.specs.Readings.{Asks}
 use Rattle.fsfs_cli.specs.Requests.{printed_path}
 use Rattle.fsfs_cli.specs.declared.request.Look.{Look as SomeLook}

@@ -6,23 +6,23 @@ use Rattle.fsfs_base.specs.Failures.{Rose}
 use Rattle.fsfs_base.specs.Files.{Files}
 use Rattle.fsfs_base.specs.Paths.{Path}
 use Rattle.fsfs_disk.specs.Trace.{Trace, files_now}
-use Rattle.fsfs_faults.specs.Faults.{fault_from_open, fault_from_look, IsFromLook}
-use Rattle.fsfs_faults.specs.declared.fault.Fault.{Fault}
-use Rattle.fsfs_faults.specs.declared.fault.Fault.TheVariants.{Request, Memory}
-use Rattle.fsfs_faults.specs.declared.request_fault.RequestFault.TheVariants.{NoRev}
+use Rattle.fsfs_cli.specs.FaultsFaults.{fault_from_open, fault_from_look, IsFromLook}
+use Rattle.fsfs_cli.specs.declared.faults_fault.Fault.{Fault}
+use Rattle.fsfs_cli.specs.declared.faults_fault.Fault.TheVariants.{Request, Memory}
+use Rattle.fsfs_cli.specs.declared.request_fault.RequestFault.TheVariants.{NoRev}
 use Rattle.fsfs_layout.specs.declared.layout.Layout.{Layout}
 use Rattle.fsfs_layout.proofs.OpeningLemmas.{one_youngest, one_layout}
 use Rattle.fsfs_look.specs.declared.look_error.LookError.TheVariants as errors
 use Rattle.fsfs_look.specs.declared.look_error.LookError.{LookError}
 use Rattle.fsfs_look.specs.Written.{Writes}
 use Rattle.fsfs_layout.specs.Opening.{small_texts, IsOpened}
-use Rattle.fsfs_repo.specs.Deciding.{Decides, IsOutside as IsOpenOutside}
+use Rattle.fsfs_create.specs.Deciding.{Decides, IsOutside as IsOpenOutside}
 use Rattle.fsfs_layout.specs.declared.opened.Opened.{Opened}
-use Rattle.fsfs_places.specs.declared.open_fault.OpenFault.{OpenFault}
-use Rattle.fsfs_places.specs.declared.open_fault.OpenFault.TheVariants as opening
-use Rattle.fsfs_printed.specs.Texts.{End, Whole, Refused}
-use Rattle.fsfs_printed.specs.declared.look_fault.LookFault.{LookFault}
-use Rattle.fsfs_printed.specs.declared.look_fault.LookFault.TheVariants as refusal
+use Rattle.fsfs_base.specs.declared.open_fault.OpenFault.{OpenFault}
+use Rattle.fsfs_base.specs.declared.open_fault.OpenFault.TheVariants as opening
+use Rattle.fsfs_stands.specs.Texts.{End, Whole, Refused}
+use Rattle.fsfs_stands.specs.declared.look_fault.LookFault.{LookFault}
+use Rattle.fsfs_stands.specs.declared.look_fault.LookFault.TheVariants as refusal
 use Rattle.fsfs_top.specs.Looks.{AllBytes, all_bytes, TextOf, TextIn, revision_line, uuid_line, looked_revision, LacksRevision, IsFaultOf, PrintsLine, LooksInto, DoesNotOpen, IsOutside, Agrees, DecidesRevision, DecidesOpened, DecidesOpening, LookIsDecided}
 use Rattle.fsfs_top.specs.Transactions.{OpeningIsDecided}
 use Rattle.fsfs_top.specs.Scenes.{SinkScene}
@@ -32,12 +32,12 @@ use Rattle.fsfs_cli.specs.declared.request.Look.TheVariants.{Youngest, Uuid, AtR
 use Rattle.fsfs_cli.specs.declared.request.Printed.{Printed}
 use Rattle.fsfs_cli.specs.declared.request.Printed.TheVariants.{Tree, Text, Author, Date, Log, Info, Changed, History}
 use Rattle.fsfs_cli.specs.declared.request.RevisionLook.{RevisionLook}
-use Rattle.fsfs_printed.specs.Agreeing.{HasOneText}
-use Rattle.fsfs_printed.proofs.OneText.{tree_one, file_one}
-use Rattle.fsfs_prop_looks.proofs.OneText.{authors_one, dates_one, logs_one, infos_one}
-use Rattle.fsfs_changed.proofs.OneText.{changed_one}
-use Rattle.fsfs_histories.proofs.OnePoint.{histories_one}
-use Rattle.fsfs_printed.proofs.Prefixes.{whole_or_refused, refusals_same}
+use Rattle.fsfs_stands.specs.Agreeing.{HasOneText}
+use Rattle.fsfs_stands.proofs.OneText.{tree_one, file_one}
+use Rattle.fsfs_look.proofs.OneText.{authors_one, dates_one, logs_one, infos_one}
+use Rattle.fsfs_stands.proofs.ChangedOneText.{changed_one}
+use Rattle.fsfs_stands.proofs.OnePoint.{histories_one}
+use Rattle.fsfs_stands.proofs.Prefixes.{whole_or_refused, refusals_same}
 
 -- ---- failures of the outside
 

@@ -9,38 +9,38 @@ use Rattle.fsfs_tree.specs.Nodes.{Node, Content, Bytes, Closed}
 use Rattle.fsfs_tree.specs.Revisions.{Revision, node_in, tree_of}
 use Rattle.fsfs_base.specs.declared.kind.Kind.{Kind}
 use Rattle.fsfs_base.specs.declared.kind.Kind.TheVariants.{File, Dir}
-use Rattle.fsfs_faults.specs.Lines.{line_of, status_of}
-use Rattle.fsfs_faults.specs.Faults.{fault_from_look}
-use Rattle.fsfs_faults.specs.declared.fault.Fault.TheVariants.{Request}
-use Rattle.fsfs_faults.specs.declared.request_fault.RequestFault.TheVariants.{NoRev}
-use Rattle.fsfs_book.specs.Told.{RevisionBytes}
-use Rattle.fsfs_rev_file.specs.RevBytes.{rev_bytes, props_bytes}
-use Rattle.fsfs_answers.specs.FaultWords.{not_found, not_dir, not_file, delta, two_numbers}
-use Rattle.fsfs_answers.specs.Answers.{Reply, Found, Stands, Lacking, Blocked, found_at, tree_reply, node_reply, text_reply, history_reply, prints, refuses, refuses_at, refuses_look, in_revision}
-use Rattle.fsfs_answers.specs.PropTexts.{author_text, date_text, log_text, info_text}
-use Rattle.fsfs_answers.specs.ChangedTexts.{changed_text}
-use Rattle.fsfs_answers.specs.HistoryTexts.{history_text}
+use Rattle.fsfs_cli.specs.Lines.{line_of, status_of}
+use Rattle.fsfs_cli.specs.FaultsFaults.{fault_from_look}
+use Rattle.fsfs_cli.specs.declared.faults_fault.Fault.TheVariants.{Request}
+use Rattle.fsfs_cli.specs.declared.request_fault.RequestFault.TheVariants.{NoRev}
+use Rattle.fsfs_revision.specs.Told.{RevisionBytes}
+use Rattle.fsfs_revision.specs.RevBytes.{rev_bytes, props_bytes}
+use Rattle.fsfs_tree.specs.FaultWords.{not_found, not_dir, not_file, delta, two_numbers}
+use Rattle.fsfs_tree.specs.Answers.{Reply, Found, Stands, Lacking, Blocked, found_at, tree_reply, node_reply, text_reply, history_reply, prints, refuses, refuses_at, refuses_look, in_revision}
+use Rattle.fsfs_tree.specs.PropTexts.{author_text, date_text, log_text, info_text}
+use Rattle.fsfs_tree.specs.ChangedTexts.{changed_text}
+use Rattle.fsfs_tree.specs.HistoryTexts.{history_text}
 use Rattle.fsfs_tree.specs.PathHistories.{path_history}
 use Rattle.fsfs_tree.specs.Dated.{last_of}
-use Rattle.fsfs_damage.specs.Damages.{place_of}
-use Rattle.fsfs_damage.specs.declared.wrong.Wrong.TheVariants as wrongs
+use Rattle.fsfs_revision.specs.DamageDamages.{place_of}
+use Rattle.fsfs_revision.specs.declared.wrong.Wrong.TheVariants as wrongs
 use Rattle.fsfs_stands.specs.Files.{StandsFor}
-use Rattle.fsfs_printed.specs.ByTree.{IsOf, IsTreeOf, IsFileOf, IsContent, IsNotFoundAt, IsNotDirAt, AreShownIds}
-use Rattle.fsfs_printed.specs.Texts.{End, Whole, Refused, Stopped}
-use Rattle.fsfs_printed.specs.TreeTexts.{TreeText}
-use Rattle.fsfs_printed.specs.FileTexts.{FileText}
-use Rattle.fsfs_printed.specs.declared.look_fault.LookFault.{LookFault}
-use Rattle.fsfs_printed.specs.declared.look_fault.LookFault.TheVariants as faults
-use Rattle.fsfs_printed.proofs.TreeByTree.{trees_by_tree}
-use Rattle.fsfs_printed.proofs.FileByTree.{files_by_tree}
-use Rattle.fsfs_prop_looks.specs.PropTexts.{AuthorText, DateText, LogText, InfoText}
-use Rattle.fsfs_prop_looks.specs.Laws.{ShowsProps}
-use Rattle.fsfs_prop_looks.proofs.ByProps.{authors_by, dates_by, logs_by, infos_by}
-use Rattle.fsfs_changed.specs.ChangedTexts.{ChangedText}
-use Rattle.fsfs_changed.proofs.Flat.{changed_flat}
-use Rattle.fsfs_histories.specs.HistoryTexts.{HistoryText}
-use Rattle.fsfs_histories.specs.Laws.{IsHistoryOf}
-use Rattle.fsfs_flat_history.proofs.PathHistories.{path_histories_flat}
+use Rattle.fsfs_stands.specs.ByTree.{IsOf, IsTreeOf, IsFileOf, IsContent, IsNotFoundAt, IsNotDirAt, AreShownIds}
+use Rattle.fsfs_stands.specs.Texts.{End, Whole, Refused, Stopped}
+use Rattle.fsfs_stands.specs.TreeTexts.{TreeText}
+use Rattle.fsfs_stands.specs.FileTexts.{FileText}
+use Rattle.fsfs_stands.specs.declared.look_fault.LookFault.{LookFault}
+use Rattle.fsfs_stands.specs.declared.look_fault.LookFault.TheVariants as faults
+use Rattle.fsfs_stands.proofs.TreeByTree.{trees_by_tree}
+use Rattle.fsfs_stands.proofs.FileByTree.{files_by_tree}
+use Rattle.fsfs_look.specs.PropTexts.{AuthorText, DateText, LogText, InfoText}
+use Rattle.fsfs_look.specs.Laws.{ShowsProps}
+use Rattle.fsfs_look.proofs.ByProps.{authors_by, dates_by, logs_by, infos_by}
+use Rattle.fsfs_stands.specs.ChangedTexts.{ChangedText}
+use Rattle.fsfs_stands.proofs.Flat.{changed_flat}
+use Rattle.fsfs_stands.specs.HistoryTexts.{HistoryText}
+use Rattle.fsfs_stands.specs.Laws.{IsHistoryOf}
+use Rattle.fsfs_stands.proofs.PathHistories.{path_histories_flat}
 use Rattle.fsfs_cli.specs.declared.tool.Tool.{Tool}
 use Rattle.fsfs_cli.specs.declared.tool.Tool.TheVariants.{Look}
 use Rattle.fsfs_top.proofs.LookReplies.{Fits}

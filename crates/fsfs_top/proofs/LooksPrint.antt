@@ -3,29 +3,29 @@ use Rattle.std.proofs.Common.{◌≡◌, ◌≤◌, ℕ, List, inl, inr, refl, a
 use Rattle.std.specs.Prelude.{Option, Some, None, IfSome, option_map, Result, Ok, Err}
 use Rattle.fsfs_base.specs.Files.{Files}
 use Rattle.fsfs_base.specs.Paths.{Path}
-use Rattle.fsfs_book.specs.Told.{Telling}
+use Rattle.fsfs_revision.specs.Told.{Telling}
 use Rattle.fsfs_base.specs.Failures.{Rose}
 use Rattle.fsfs_disk.specs.Trace.{Trace, files_now}
-use Rattle.fsfs_faults.specs.Faults.{fault_from_open}
-use Rattle.fsfs_faults.specs.declared.fault.Fault.{Fault}
+use Rattle.fsfs_cli.specs.FaultsFaults.{fault_from_open}
+use Rattle.fsfs_cli.specs.declared.faults_fault.Fault.{Fault}
 use Rattle.fsfs_fetch.specs.Owned.{TellsAll}
-use Rattle.fsfs_rev_file.specs.RevBytes.{floor_in}
+use Rattle.fsfs_revision.specs.RevBytes.{floor_in}
 use Rattle.fsfs_look.specs.Written.{Writes, IfDisk, IfWrite}
 use Rattle.fsfs_look.specs.declared.look_error.LookError.{LookError}
 use Rattle.fsfs_look.specs.declared.look_error.LookError.TheVariants as errors
 use Rattle.fsfs_layout.specs.Opening.{small_texts, IsOpened}
-use Rattle.fsfs_repo.specs.OpenFaults.{OpensBecause}
-use Rattle.fsfs_repo.specs.Deciding.{Decides}
+use Rattle.fsfs_create.specs.OpenFaults.{OpensBecause}
+use Rattle.fsfs_create.specs.Deciding.{Decides}
 use Rattle.fsfs_layout.specs.declared.opened.Opened.{Opened}
-use Rattle.fsfs_places.specs.declared.open_fault.OpenFault.{OpenFault}
-use Rattle.fsfs_places.specs.declared.open_fault.OpenFault.TheVariants as opening
+use Rattle.fsfs_base.specs.declared.open_fault.OpenFault.{OpenFault}
+use Rattle.fsfs_base.specs.declared.open_fault.OpenFault.TheVariants as opening
 use Rattle.fsfs_cli.specs.Requests.{printed_path}
 use Rattle.fsfs_cli.specs.declared.request.Look.{Look}
 use Rattle.fsfs_cli.specs.declared.request.Look.TheVariants.{Youngest, Uuid, AtRevision}
 use Rattle.fsfs_cli.specs.declared.request.RevisionLook.{RevisionLook}
 use Rattle.fsfs_top.specs.Looks.{AllBytes, all_bytes, KnowsAll, TextOf, TextIn, looked_revision, IsFaultAt, IsFaultOf, LooksInto, OpensAs, DoesNotOpen, NotOpened, PrintsLook}
 use Rattle.fsfs_top.specs.Scenes.{Scene, SinkScene}
-use Rattle.fsfs_rev_file.proofs.FloorLemmas.{floor_is}
+use Rattle.fsfs_revision.proofs.FloorLemmas.{floor_is}
 use Rattle.fsfs_top.proofs.FilesDecide.{does_not_open}
 
 -- ---- an opened repository

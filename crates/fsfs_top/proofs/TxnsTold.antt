@@ -11,17 +11,17 @@ use Rattle.fsfs_disk.proofs.CrashLemmas.{keeps_firm, leaves_then, leaves_with, o
 use Rattle.fsfs_disk.proofs.LeftLemmas.{amid_same, both_then, keeps_labels_at, same_both}
 use Rattle.fsfs_layout.specs.Opening.{small_texts, IsOpened}
 use Rattle.fsfs_layout.specs.declared.opened.Opened.{Opened}
-use Rattle.fsfs_faults.specs.Faults.{fault_from_open}
-use Rattle.fsfs_faults.specs.declared.fault.Fault.{Fault}
-use Rattle.fsfs_places.specs.declared.open_fault.OpenFault.{OpenFault}
-use Rattle.fsfs_places.specs.declared.open_fault.OpenFault.TheVariants as opening
-use Rattle.fsfs_repo.specs.OpenFaults.{OpensBecause}
-use Rattle.fsfs_repo.specs.Deciding.{Decides}
-use Rattle.fsfs_txns.specs.Txns.{txn_label, AreTxns}
-use Rattle.fsfs_txns.specs.Removals.{first_lacking, labels_left, HasLabels, IfFailed, IsImageOf, Removes, WasKept}
-use Rattle.fsfs_txns.proofs.InTurn.{old_kept}
-use Rattle.fsfs_txns.specs.declared.removing.RemovalFault.{RemovalFault}
-use Rattle.fsfs_txns.specs.declared.removing.RemovalFault.TheVariants.{NoTxn, Failed}
+use Rattle.fsfs_cli.specs.FaultsFaults.{fault_from_open}
+use Rattle.fsfs_cli.specs.declared.faults_fault.Fault.{Fault}
+use Rattle.fsfs_base.specs.declared.open_fault.OpenFault.{OpenFault}
+use Rattle.fsfs_base.specs.declared.open_fault.OpenFault.TheVariants as opening
+use Rattle.fsfs_create.specs.OpenFaults.{OpensBecause}
+use Rattle.fsfs_create.specs.Deciding.{Decides}
+use Rattle.fsfs_disk.specs.Txns.{txn_label, AreTxns}
+use Rattle.fsfs_disk.specs.Removals.{first_lacking, labels_left, HasLabels, IfFailed, IsImageOf, Removes, WasKept}
+use Rattle.fsfs_disk.proofs.InTurn.{old_kept}
+use Rattle.fsfs_disk.specs.declared.removing.RemovalFault.{RemovalFault}
+use Rattle.fsfs_disk.specs.declared.removing.RemovalFault.TheVariants.{NoTxn, Failed}
 use Rattle.fsfs_top.specs.TxnAnswers.{same_txn, has_txn, without_txn, first_missing}
 use Rattle.fsfs_top.specs.Looks.{OpensAs, DoesNotOpen}
 use Rattle.fsfs_top.specs.Scenes.{HostScene, Scene, SinkScene}

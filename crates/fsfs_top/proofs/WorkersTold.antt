@@ -3,14 +3,14 @@ use Rattle.std.proofs.Common.{◌≡◌, ℕ, Bool, inl, inr, arith}
 use Rattle.std.specs.Prelude.{Option, Result}
 use Rattle.fsfs_base.specs.Failures.{added_count}
 use Rattle.fsfs_disk.specs.Trace.{Trace}
-use Rattle.fsfs_beside.specs.Lines.{RoseBy}
-use Rattle.fsfs_faults.specs.declared.fault.Fault.{Fault}
-use Rattle.fsfs_places.specs.declared.open_fault.OpenFault.{OpenFault}
-use Rattle.fsfs_places.specs.declared.open_fault.OpenFault.TheVariants.{NotRepo, OtherFormat, Linear, Small, DiskFault, Memory}
-use Rattle.fsfs_repo.specs.OpenFaults.{OpensBecause}
-use Rattle.fsfs_job_command.specs.Runs.{RunScene}
-use Rattle.fsfs_job_command.proofs.RunLemmas.{runs_weaker}
-use Rattle.fsfs_worker_command.specs.ByWorkers.{RunsBeside, NotOpened, NotRead, NoRoom, Done, Lost, scene_where}
+use Rattle.fsfs_job_run.specs.Lines.{RoseBy}
+use Rattle.fsfs_cli.specs.declared.faults_fault.Fault.{Fault}
+use Rattle.fsfs_base.specs.declared.open_fault.OpenFault.{OpenFault}
+use Rattle.fsfs_base.specs.declared.open_fault.OpenFault.TheVariants.{NotRepo, OtherFormat, Linear, Small, DiskFault, Memory}
+use Rattle.fsfs_create.specs.OpenFaults.{OpensBecause}
+use Rattle.fsfs_job_run.specs.Runs.{RunScene}
+use Rattle.fsfs_job_run.proofs.RunLemmas.{runs_weaker}
+use Rattle.fsfs_workers.specs.ByWorkers.{RunsBeside, NotOpened, NotRead, NoRoom, Done, Lost, scene_where}
 use Rattle.fsfs_top.specs.Scripts.{RunsBy}
 
 opens_weaker : {D E : Type 0} (told : Option Trace) (why : OpenFault) → (D → E) → OpensBecause D told why → OpensBecause E told why

@@ -3,17 +3,17 @@ use Rattle.std.specs.Prelude.{◌≡◌, ◌⊎◌, ℕ, List, Option, Some, Non
 use Rattle.fsfs_base.specs.Failures.{Rose}
 use Rattle.fsfs_base.specs.Files.{Files}
 use Rattle.fsfs_disk.specs.Trace.{Trace}
-use Rattle.fsfs_streams.specs.Streams.{Adds}
-use Rattle.fsfs_streams.specs.Output.{AddsFront}
-use Rattle.fsfs_faults.specs.Faults.{fault_from_create, fault_from_words}
-use Rattle.fsfs_faults.specs.Lines.{line_of, status_of}
-use Rattle.fsfs_faults.specs.declared.fault.Fault.{Fault}
-use Rattle.fsfs_faults.specs.declared.fault.Fault.TheVariants.{Outside}
-use Rattle.fsfs_faults.specs.declared.outside_fault.OutsideFault.TheVariants.{Mount}
+use Rattle.fsfs_base.specs.Streams.{Adds}
+use Rattle.fsfs_base.specs.Output.{AddsFront}
+use Rattle.fsfs_cli.specs.FaultsFaults.{fault_from_create, fault_from_words}
+use Rattle.fsfs_cli.specs.Lines.{line_of, status_of}
+use Rattle.fsfs_cli.specs.declared.faults_fault.Fault.{Fault}
+use Rattle.fsfs_cli.specs.declared.faults_fault.Fault.TheVariants.{Outside}
+use Rattle.fsfs_cli.specs.declared.outside_fault.OutsideFault.TheVariants.{Mount}
 use Rattle.fsfs_layout.specs.CreatedFiles.{identifier_text, random_identifier}
 use Rattle.fsfs_create.specs.Creation.{CreateFails, IsCreated, IsNoneOrWhole, IsNoRepository, IsUnpublished}
 use Rattle.fsfs_create.specs.NewStore.{IsNewStore}
-use Rattle.fsfs_places.specs.declared.create_fault.CreateFault.{CreateFault}
+use Rattle.fsfs_base.specs.declared.create_fault.CreateFault.{CreateFault}
 use Rattle.fsfs_cli.specs.Words.{asked}
 use Rattle.fsfs_cli.specs.Readings.{Asks, Refuses}
 use Rattle.fsfs_cli.specs.declared.fault.WordsFault.{WordsFault}

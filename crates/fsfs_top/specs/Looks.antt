@@ -3,34 +3,34 @@ use Rattle.std.specs.Prelude.{◌≡◌, ◌≤◌, ◌<◌, ◌⊎◌, ℕ, Lis
 use Rattle.fsfs_base.specs.Failures.{Rose}
 use Rattle.fsfs_base.specs.Files.{Files}
 use Rattle.fsfs_base.specs.Paths.{Path}
-use Rattle.fsfs_book.specs.Told.{RevisionBytes, Telling, Knows}
+use Rattle.fsfs_revision.specs.Told.{RevisionBytes, Telling, Knows}
 use Rattle.fsfs_disk.specs.Trace.{Trace, files_now}
-use Rattle.fsfs_streams.specs.Streams.{Adds}
-use Rattle.fsfs_streams.specs.Output.{AddsFront}
-use Rattle.fsfs_faults.specs.Faults.{fault_from_open, fault_from_look, IsFromLook}
-use Rattle.fsfs_faults.specs.declared.fault.Fault.{Fault}
-use Rattle.fsfs_faults.specs.declared.fault.Fault.TheVariants.{Request, Repository, Outside, Memory}
-use Rattle.fsfs_faults.specs.declared.request_fault.RequestFault.TheVariants.{NotRepo, NoRev}
-use Rattle.fsfs_faults.specs.declared.repository_fault.RepositoryFault.TheVariants.{OtherFormat, Linear}
-use Rattle.fsfs_faults.specs.declared.outside_fault.OutsideFault.TheVariants.{Mount, Disk, Write}
-use Rattle.fsfs_rev_file.specs.RevBytes.{rev_bytes, props_bytes}
+use Rattle.fsfs_base.specs.Streams.{Adds}
+use Rattle.fsfs_base.specs.Output.{AddsFront}
+use Rattle.fsfs_cli.specs.FaultsFaults.{fault_from_open, fault_from_look, IsFromLook}
+use Rattle.fsfs_cli.specs.declared.faults_fault.Fault.{Fault}
+use Rattle.fsfs_cli.specs.declared.faults_fault.Fault.TheVariants.{Request, Repository, Outside, Memory}
+use Rattle.fsfs_cli.specs.declared.request_fault.RequestFault.TheVariants.{NotRepo, NoRev}
+use Rattle.fsfs_cli.specs.declared.repository_fault.RepositoryFault.TheVariants.{OtherFormat, Linear}
+use Rattle.fsfs_cli.specs.declared.outside_fault.OutsideFault.TheVariants.{Mount, Disk, Write}
+use Rattle.fsfs_revision.specs.RevBytes.{rev_bytes, props_bytes}
 use Rattle.fsfs_look.specs.Written.{Writes, IfDisk, IfWrite}
 use Rattle.fsfs_look.specs.declared.look_error.LookError.{LookError}
 use Rattle.fsfs_look.specs.declared.look_error.LookError.TheVariants as errors
 use Rattle.fsfs_layout.specs.Opening.{small_texts, IsOpened, IsNone, HasFormat, IsLinear}
-use Rattle.fsfs_repo.specs.OpenFaults.{OpensBecause}
-use Rattle.fsfs_repo.specs.Deciding.{IsOutside as IsOpenOutside}
+use Rattle.fsfs_create.specs.OpenFaults.{OpensBecause}
+use Rattle.fsfs_create.specs.Deciding.{IsOutside as IsOpenOutside}
 use Rattle.fsfs_layout.specs.declared.layout.Layout.{Layout}
 use Rattle.fsfs_layout.specs.declared.opened.Opened.{Opened}
-use Rattle.fsfs_places.specs.declared.open_fault.OpenFault.{OpenFault}
-use Rattle.fsfs_places.specs.declared.place.DiskPlace.TheVariants.{Read}
-use Rattle.fsfs_printed.specs.Texts.{End, Whole, Refused}
-use Rattle.fsfs_printed.specs.TreeTexts.{TreeText}
-use Rattle.fsfs_printed.specs.FileTexts.{FileText}
-use Rattle.fsfs_printed.specs.declared.look_fault.LookFault.{LookFault}
-use Rattle.fsfs_prop_looks.specs.PropTexts.{AuthorText, DateText, LogText, InfoText}
-use Rattle.fsfs_changed.specs.ChangedTexts.{ChangedText}
-use Rattle.fsfs_histories.specs.HistoryTexts.{HistoryText}
+use Rattle.fsfs_base.specs.declared.open_fault.OpenFault.{OpenFault}
+use Rattle.fsfs_base.specs.declared.place.DiskPlace.TheVariants.{Read}
+use Rattle.fsfs_stands.specs.Texts.{End, Whole, Refused}
+use Rattle.fsfs_stands.specs.TreeTexts.{TreeText}
+use Rattle.fsfs_stands.specs.FileTexts.{FileText}
+use Rattle.fsfs_stands.specs.declared.look_fault.LookFault.{LookFault}
+use Rattle.fsfs_look.specs.PropTexts.{AuthorText, DateText, LogText, InfoText}
+use Rattle.fsfs_stands.specs.ChangedTexts.{ChangedText}
+use Rattle.fsfs_stands.specs.HistoryTexts.{HistoryText}
 use Rattle.fsfs_cli.specs.Requests.{printed_path}
 use Rattle.fsfs_cli.specs.declared.request.Look.{Look}
 use Rattle.fsfs_cli.specs.declared.request.Look.TheVariants.{Youngest, Uuid, AtRevision}

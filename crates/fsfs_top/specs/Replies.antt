@@ -3,23 +3,23 @@ use Rattle.std.specs.Prelude.{◌≡◌, ◌⊎◌, ℕ, List, [], Option, Some,
 use Rattle.fsfs_base.specs.Failures.{Rose}
 use Rattle.fsfs_base.specs.Files.{Files}
 use Rattle.fsfs_base.specs.Paths.{Path}
-use Rattle.fsfs_book.specs.Told.{RevisionBytes}
+use Rattle.fsfs_revision.specs.Told.{RevisionBytes}
 use Rattle.fsfs_tree.specs.Revisions.{Revision}
 use Rattle.fsfs_tree.specs.Dated.{last_of}
-use Rattle.fsfs_fields.specs.Dates.{IsDateAt}
+use Rattle.fsfs_base.specs.Dates.{IsDateAt}
 use Rattle.fsfs_disk.specs.Labels.{Label}
 use Rattle.fsfs_disk.specs.Trace.{Trace, files_now, labels_now}
-use Rattle.fsfs_streams.specs.Streams.{Adds}
-use Rattle.fsfs_streams.specs.Output.{AddsFront}
+use Rattle.fsfs_base.specs.Streams.{Adds}
+use Rattle.fsfs_base.specs.Output.{AddsFront}
 use Rattle.fsfs_create.specs.Creation.{IsUnpublished}
-use Rattle.fsfs_rev_file.specs.RevBytes.{rev_bytes}
-use Rattle.fsfs_answers.specs.Answers.{Reply, prints, Answer, UuidAnswer, asked_revision, new_history}
-use Rattle.fsfs_answers.specs.Answers as model
+use Rattle.fsfs_revision.specs.RevBytes.{rev_bytes}
+use Rattle.fsfs_tree.specs.Answers.{Reply, prints, Answer, UuidAnswer, asked_revision, new_history}
+use Rattle.fsfs_tree.specs.Answers as model
 use Rattle.fsfs_top.specs.TxnAnswers.{ListingAnswer, RemovalAnswer}
 use Rattle.fsfs_layout.specs.Opening.{small_texts, IsOpened, IsNone}
 use Rattle.fsfs_layout.specs.declared.opened.Opened.{Opened}
 use Rattle.fsfs_stands.specs.Files.{StandsFor}
-use Rattle.fsfs_printed.specs.ByTree.{AreShownIds}
+use Rattle.fsfs_stands.specs.ByTree.{AreShownIds}
 use Rattle.fsfs_cli.specs.Readings.{Asks}
 use Rattle.fsfs_cli.specs.declared.request.Look.TheVariants.{Youngest, Uuid, AtRevision}
 use Rattle.fsfs_cli.specs.declared.request.Printed.{Printed}
@@ -27,7 +27,7 @@ use Rattle.fsfs_cli.specs.declared.request.Printed.TheVariants.{Tree, Text, Auth
 use Rattle.fsfs_cli.specs.declared.request.Task.{Task}
 use Rattle.fsfs_cli.specs.declared.request.Task.TheVariants.{Create, ListTxns, RemoveTxns, Look, RunJobs}
 use Rattle.fsfs_cli.specs.declared.tool.Tool.{Tool}
-use Rattle.fsfs_txns.specs.Txns.{AreTxns}
+use Rattle.fsfs_disk.specs.Txns.{AreTxns}
 use Rattle.fsfs_top.specs.Transactions.{txns_of}
 use Rattle.fsfs_top.specs.Scenes.{Scene, SinkScene}
 

@@ -2,8 +2,8 @@
 use Rattle.std.specs.Prelude.{ℕ, List, Option}
 use Rattle.fsfs_disk.specs.Trace.{Trace}
 use Rattle.fsfs_disk.specs.declared.host.Host as Host
-use Rattle.fsfs_streams.specs.declared.streams.Sink as Sink
-use Rattle.fsfs_streams.specs.declared.streams.Source as Source
+use Rattle.fsfs_base.specs.declared.streams.Sink as Sink
+use Rattle.fsfs_base.specs.declared.streams.Source as Source
 
 -- of a host: the disk of each path, where it tells, and how often mounts, disks and benches failed
 pub record HostScene : Type 0 where

@@ -7,19 +7,19 @@ use Rattle.fsfs_tree.specs.Revisions.{Revision}
 use Rattle.fsfs_stands.specs.Files.{StandsFor}
 use Rattle.fsfs_turn.specs.Mountings.{RoseBy}
 use Rattle.fsfs_turn.specs.Opening.{LeftoversAgree}
-use Rattle.fsfs_txns.specs.Removals.{WasKept}
-use Rattle.fsfs_faults.specs.Faults.{fault_from_words}
-use Rattle.fsfs_faults.specs.Lines.{status_of}
-use Rattle.fsfs_faults.specs.declared.fault.Fault.{Fault}
-use Rattle.fsfs_faults.specs.declared.fault.Fault.TheVariants.{Outside}
-use Rattle.fsfs_faults.specs.declared.outside_fault.OutsideFault.TheVariants.{Mount}
+use Rattle.fsfs_disk.specs.Removals.{WasKept}
+use Rattle.fsfs_cli.specs.FaultsFaults.{fault_from_words}
+use Rattle.fsfs_cli.specs.Lines.{status_of}
+use Rattle.fsfs_cli.specs.declared.faults_fault.Fault.{Fault}
+use Rattle.fsfs_cli.specs.declared.faults_fault.Fault.TheVariants.{Outside}
+use Rattle.fsfs_cli.specs.declared.outside_fault.OutsideFault.TheVariants.{Mount}
 use Rattle.fsfs_cli.specs.Words.{asked}
 use Rattle.fsfs_cli.specs.Readings.{Asks, Refuses}
 use Rattle.fsfs_cli.specs.declared.fault.WordsFault.{WordsFault}
 use Rattle.fsfs_cli.specs.declared.request.Task.TheVariants.{RunJobs}
 use Rattle.fsfs_cli.specs.declared.tool.Tool.TheVariants.{Jobs}
-use Rattle.fsfs_job_command.specs.Runs.{RunScene, RunsScript}
-use Rattle.fsfs_worker_command.specs.ByWorkers.{RunsByWorkers}
+use Rattle.fsfs_job_run.specs.Runs.{RunScene, RunsScript}
+use Rattle.fsfs_workers.specs.ByWorkers.{RunsByWorkers}
 use Rattle.fsfs_top.specs.Scenes.{Scene, SourceScene}
 
 -- the status of a run, or that of its fault

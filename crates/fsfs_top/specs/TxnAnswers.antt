@@ -2,9 +2,9 @@
 -- and its number. (That a removal ends at the first name of which there is none is this project's own: Subversion's goes on.)
 use Rattle.std.specs.Prelude.{ℕ, List, [], ◌∷◌, ◌++◌, ◌==◌, ◌&&◌, ◌||◌, Bool, false, Option, Some, None, codes, if◌then◌else◌}
 use Rattle.std.specs.List.{flat_map}
-use Rattle.fsfs_answers.specs.FaultWords.{not_repo}
-use Rattle.fsfs_answers.specs.Answers.{Reply, prints, refuses}
-use Rattle.fsfs_faults.specs.Lines.{no_txn, txn_value}
+use Rattle.fsfs_tree.specs.FaultWords.{not_repo}
+use Rattle.fsfs_tree.specs.Answers.{Reply, prints, refuses}
+use Rattle.fsfs_cli.specs.Lines.{no_txn, txn_value}
 
 -- svnadmin refused: the name of the fault and its values, and the status
 abbrev pub refuses_admin : List ℕ → ℕ → Reply

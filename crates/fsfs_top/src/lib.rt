@@ -8,6 +8,6 @@ mod top;
 mod txns;
 
 pub use fsfs_cli::Tool;
-pub use fsfs_faults::Fault;
+pub use fsfs_cli::Fault;
 pub use output::{print_revision, print_uuid};
 pub use top::command;

@@ -1,11 +1,11 @@
 // Looks at a repository.
 ghost use Rattle.std.specs.Prelude.{◌≡◌, ◌≢◌, ◌≤◌, ◌<◌, ◌⊎◌, ℕ, List, [], Some, IfOk, IfErr, IfSome, MatchOption, option_map, unwrap_or};
-ghost use Rattle.fsfs_book.specs.Told.{Keeps};
+ghost use Rattle.fsfs_revision.specs.Told.{Keeps};
 ghost use Rattle.fsfs_base.specs.Failures.{Rose};
 ghost use Rattle.fsfs_disk.specs.Trace.{FirmNames, files_now, FailsAt};
-ghost use Rattle.fsfs_faults.specs.Faults.{IsFromLook};
-ghost use Rattle.fsfs_faults.specs.declared.fault.Fault.TheVariants.{Request};
-ghost use Rattle.fsfs_faults.specs.declared.request_fault.RequestFault.TheVariants.{NoRev};
+ghost use Rattle.fsfs_cli.specs.FaultsFaults.{IsFromLook};
+ghost use Rattle.fsfs_cli.specs.declared.faults_fault.Fault.TheVariants.{Request};
+ghost use Rattle.fsfs_cli.specs.declared.request_fault.RequestFault.TheVariants.{NoRev};
 ghost use Rattle.fsfs_look.specs.Written.{Writes, HasDiskCause, HasSinkCause};
 ghost use Rattle.fsfs_layout.specs.Opening.{small_texts, IsOpened};
 ghost use Rattle.fsfs_top.specs.Command.{fault_of};
@@ -16,21 +16,21 @@ ghost use Rattle.fsfs_top.specs.Scenes.{scene, sink_scene};
 
 use crate::output::{line_fault, print_revision, print_uuid};
 use fsfs_base::FsPath;
-use fsfs_book::Book;
-use fsfs_changed_look::changed_text;
+use fsfs_revision::Book;
+use fsfs_history::changed_text;
 use fsfs_cli::{Look, Printed, RevisionLook};
 use fsfs_disk::{Disk, Host};
-use fsfs_faults::{Fault, OutsideFault, RequestFault};
+use fsfs_cli::{Fault, OutsideFault, RequestFault};
 use fsfs_fetch::{disk_of, over_disk};
-use fsfs_fields::RevNum;
-use fsfs_history_look::history_text;
+use fsfs_base::RevNum;
+use fsfs_history::history_text;
 use fsfs_layout::Opened;
 use fsfs_look::{LookError, cat, tree_text};
-use fsfs_places::DiskPlace;
-use fsfs_printed::LookFault;
-use fsfs_prop_looks::{author, date, info, log};
-use fsfs_repo::open;
-use fsfs_streams::Sink;
+use fsfs_base::DiskPlace;
+use fsfs_stands::LookFault;
+use fsfs_look::{author, date, info, log};
+use fsfs_create::open;
+use fsfs_base::Sink;
 use std::alloc::Global;
 
 // The revision of this number, if there is one.

@@ -1,18 +1,18 @@
 // Printing what the small files of a repository say, and the names of its transactions.
 ghost use Rattle.std.specs.Prelude.{◌++◌, ℕ, List, codes, map};
-ghost use Rattle.fsfs_streams.specs.Output.{Prints};
+ghost use Rattle.fsfs_base.specs.Output.{Prints};
 ghost use Rattle.fsfs_top.specs.Command.{fault_of};
 ghost use Rattle.fsfs_top.specs.Looks.{revision_line, uuid_line, PrintsLine};
 ghost use Rattle.fsfs_top.specs.Scenes.{SinkScene};
 ghost use Rattle.fsfs_top.specs.TxnAnswers.{names_text};
-ghost use Rattle.fsfs_txns.specs.Txns.{text_of};
+ghost use Rattle.fsfs_disk.specs.Txns.{text_of};
 
 use arrayvec::ArrayString;
 use fsfs_base::Failed;
-use fsfs_faults::{Fault, OutsideFault, txn_text};
-use fsfs_fields::{RevNum, TxnName};
+use fsfs_cli::{Fault, OutsideFault, txn_text};
+use fsfs_base::{RevNum, TxnName};
 use fsfs_layout::Uuid;
-use fsfs_streams::{Sink, print};
+use fsfs_base::{Sink, print};
 use itoa::Buffer;
 
 /// Writes a revision's number and the end of the line.

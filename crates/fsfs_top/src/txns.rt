@@ -3,7 +3,7 @@ ghost use Rattle.std.specs.Prelude.{◌≡◌, ◌≢◌, ◌≤◌, ℕ, List, 
 ghost use Rattle.fsfs_base.specs.Failures.{Rose};
 ghost use Rattle.fsfs_disk.specs.Trace.{FirmNames, files_now, FailsAt};
 ghost use Rattle.fsfs_disk.specs.Crash.{AreAll, Leaves, LeavesBoth};
-ghost use Rattle.fsfs_txns.specs.Removals.{IsImageOf, WasKept};
+ghost use Rattle.fsfs_disk.specs.Removals.{IsImageOf, WasKept};
 ghost use Rattle.fsfs_top.specs.Command.{fault_of};
 ghost use Rattle.fsfs_top.specs.Scenes.{host_scene, scene, sink_scene};
 ghost use Rattle.fsfs_top.specs.Transactions.{Lists, ListsOpened, ListsTxns, OpeningIsDecided, RemovesOpened, RemovesTxns, removal_fault};
@@ -11,11 +11,11 @@ ghost use Rattle.fsfs_top.specs.Transactions.{Lists, ListsOpened, ListsTxns, Ope
 use crate::output::{line_fault, print_txns};
 use fsfs_cli::TxnNames;
 use fsfs_disk::{Disk, Host, ListFault};
-use fsfs_faults::{Fault, OutsideFault, RequestFault};
-use fsfs_places::DiskPlace;
-use fsfs_repo::open;
-use fsfs_streams::Sink;
-use fsfs_txns::{RemovalFault, rmtxns, txns};
+use fsfs_cli::{Fault, OutsideFault, RequestFault};
+use fsfs_base::DiskPlace;
+use fsfs_create::open;
+use fsfs_base::Sink;
+use fsfs_disk::{RemovalFault, rmtxns, txns};
 use std::alloc::Global;
 
 // Prints the names of an opened repository's transactions.

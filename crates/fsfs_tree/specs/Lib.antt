@@ -7,3 +7,10 @@ pub mod Dated
 pub mod Entries
 pub mod Histories
 pub mod PathHistories
+pub mod FaultWords
+pub mod ShownDates
+pub mod PropTexts
+pub mod TreeTexts
+pub mod HistoryTexts
+pub mod ChangedTexts
+pub mod Answers

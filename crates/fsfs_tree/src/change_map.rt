@@ -4,8 +4,7 @@ ghost use Rattle.std.specs.Option.{option_copied};
 ghost use Rattle.std.specs.FinMap as map;
 ghost use Rattle.fsfs_base.specs.Paths.{Path, path_cmp};
 
-use fsfs_base::{Action, FsPath, Kind};
-use fsfs_fields::RevNum;
+use fsfs_base::{Action, FsPath, Kind, RevNum};
 use std::alloc::{AllocError, Global};
 use std::collections::BTreeMap;
 use std::marker::Model;

@@ -4,8 +4,7 @@ ghost use Rattle.std.specs.Option.{option_copied};
 
 use crate::change_map::ChangeMap;
 use crate::tree::Tree;
-use fsfs_base::Pairs;
-use fsfs_fields::RevNum;
+use fsfs_base::{Pairs, RevNum};
 use std::alloc::{AllocError, Global};
 use std::marker::Model;
 

@@ -1,8 +1,7 @@
 //! What stands at a path.
 ghost use Rattle.std.specs.Prelude.{◌≡◌};
 
-use fsfs_base::{FsPath, Kind, Pairs};
-use fsfs_fields::RevNum;
+use fsfs_base::{FsPath, Kind, Pairs, RevNum};
 use std::alloc::{AllocError, Global};
 use std::marker::Model;
 

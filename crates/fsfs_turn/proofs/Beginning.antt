@@ -8,16 +8,16 @@ use Rattle.fsfs_disk.specs.Trace.{Operation, Done, files_after, ImageSince}
 use Rattle.fsfs_disk.specs.Trace as real
 use Rattle.fsfs_base.specs.Files.{Files}
 use Rattle.fsfs_tree.specs.Dated.{date_name}
-use Rattle.fsfs_hash.specs.Dump.{IsDump}
-use Rattle.fsfs_grammar.specs.Numeral.{IsNumber}
-use Rattle.fsfs_grammar.proofs.Unique.{decimal_plain}
+use Rattle.fsfs_layout.specs.Dump.{IsDump}
+use Rattle.fsfs_base.specs.Numeral.{IsNumber}
+use Rattle.fsfs_base.proofs.Unique.{decimal_plain}
 use Rattle.fsfs_layout.specs.CreatedFiles.{format_text, date_properties}
 use Rattle.fsfs_layout.specs.Formats.{IsFormat}
 use Rattle.fsfs_layout.specs.declared.format_file.Format.TheVariants.{Sharded}
 use Rattle.fsfs_layout.proofs.Writing.{sharded_layout, our_format}
 use Rattle.fsfs_base.specs.FirstRevision.{first_bytes}
 use Rattle.fsfs_stands.specs.History.{ShowsHistory}
-use Rattle.fsfs_answers.specs.Answers.{first_revision as first_shown}
+use Rattle.fsfs_tree.specs.Answers.{first_revision as first_shown}
 use Rattle.fsfs_stands.specs.NewRepository.{HoldsNew}
 use Rattle.fsfs_stands.specs.Changes.{AreChangesOf}
 use Rattle.fsfs_stands.proofs.FirstHistory.{first_history}

@@ -11,8 +11,8 @@ use Rattle.std.specs.FinMap.{get}
 use Rattle.fsfs_base.specs.Files.{Files}
 use Rattle.fsfs_layout.specs.Layouts.{place_in_shard}
 use Rattle.fsfs_layout.specs.declared.layout.Layout.{Layout}
-use Rattle.fsfs_rev_file.specs.RevBytes.{floor_in}
-use Rattle.fsfs_rev_file.proofs.FloorLemmas.{floor_is}
+use Rattle.fsfs_revision.specs.RevBytes.{floor_in}
+use Rattle.fsfs_revision.proofs.FloorLemmas.{floor_is}
 use Rattle.fsfs_disk.specs.Trace.{Operation, ImageSince}
 use Rattle.fsfs_disk.specs.Trace as real
 use Rattle.fsfs_machine.specs.declared.contents.FileName.TheVariants.{Current, Props}

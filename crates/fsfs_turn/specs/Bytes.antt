@@ -2,11 +2,11 @@
 use Rattle.std.specs.Prelude.{◌≡◌, ◌<◌, ℕ, List, take, Option, Some, None, Ok, Err, Result, slice_get}
 use Rattle.std.specs.FinMap.{get}
 use Rattle.fsfs_tree.specs.Dated.{IsDated, last_of}
-use Rattle.fsfs_damage.specs.declared.wrong.Refusal.{Refusal}
-use Rattle.fsfs_damage.specs.declared.wrong.Refusal.TheVariants.{Missing}
-use Rattle.fsfs_book.specs.Told.{RevisionBytes}
-use Rattle.fsfs_shows.specs.Shown.{Shows}
-use Rattle.fsfs_shows.specs.IdRules.{IdRule}
+use Rattle.fsfs_revision.specs.declared.wrong.Refusal.{Refusal}
+use Rattle.fsfs_revision.specs.declared.wrong.Refusal.TheVariants.{Missing}
+use Rattle.fsfs_revision.specs.Told.{RevisionBytes}
+use Rattle.fsfs_revision.specs.Shown.{Shows}
+use Rattle.fsfs_revision.specs.IdRules.{IdRule}
 use Rattle.fsfs_stands.specs.Changes.{AreChangesOf}
 use Rattle.fsfs_machine.specs.declared.machine.Recorded.{Recorded}
 use Rattle.fsfs_machine.specs.Machine.{revisions}

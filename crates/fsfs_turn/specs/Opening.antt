@@ -6,7 +6,7 @@ use Rattle.fsfs_tree.specs.Dated.{date_name}
 use Rattle.fsfs_tree.specs.Revisions.{Revision}
 use Rattle.fsfs_disk.specs.Labels.{Label}
 use Rattle.fsfs_disk.specs.Trace.{Operation, Done, FirmNames, files_after}
-use Rattle.fsfs_rev_file.specs.RevBytes.{rev_file, packed_bytes}
+use Rattle.fsfs_revision.specs.RevBytes.{rev_file, packed_bytes}
 use Rattle.fsfs_fetch.specs.Kept.{agrees}
 use Rattle.fsfs_stands.specs.Files.{StandsFor}
 use Rattle.fsfs_stands.specs.NewRepository.{HoldsNew}

@@ -2,10 +2,10 @@
 use Rattle.std.specs.Prelude.{◌≡◌, ℕ, List, true, Option, Some, Ok, slice_get, option_map}
 use Rattle.fsfs_base.specs.Files.{Files}
 use Rattle.fsfs_layout.specs.declared.layout.Layout.{Layout}
-use Rattle.fsfs_hash.specs.Dump.{IsDump}
+use Rattle.fsfs_layout.specs.Dump.{IsDump}
 use Rattle.fsfs_disk.specs.Trace.{Trace, files_now}
-use Rattle.fsfs_places.specs.declared.place.DiskPlace.{DiskPlace}
-use Rattle.fsfs_rev_file.specs.RevBytes.{rev_bytes, rev_file, props_bytes}
+use Rattle.fsfs_base.specs.declared.place.DiskPlace.{DiskPlace}
+use Rattle.fsfs_revision.specs.RevBytes.{rev_bytes, rev_file, props_bytes}
 use Rattle.fsfs_fetch.specs.Views.{View as StoreView, Ends, IsKnown}
 use Rattle.fsfs_fetch.specs.Kept.{agrees}
 use Rattle.fsfs_machine.specs.declared.machine.Recorded.{Recorded}

@@ -7,10 +7,10 @@ use Rattle.fsfs_layout.specs.Small.{IsRevLine}
 use Rattle.fsfs_layout.specs.declared.layout.Layout.{Layout}
 use Rattle.fsfs_layout.specs.declared.only_file.OnlyFile.TheVariants as only
 use Rattle.fsfs_layout.specs.declared.repository_file.RepositoryFile.TheVariants as file
-use Rattle.fsfs_rev_file.specs.RevBytes.{rev_bytes}
-use Rattle.fsfs_hash.specs.Dump.{IsDump}
+use Rattle.fsfs_revision.specs.RevBytes.{rev_bytes}
+use Rattle.fsfs_layout.specs.Dump.{IsDump}
 use Rattle.fsfs_disk.specs.Trace.{Trace, IsImage, ImageSince}
-use Rattle.fsfs_places.specs.declared.place.DiskPlace.{DiskPlace}
+use Rattle.fsfs_base.specs.declared.place.DiskPlace.{DiskPlace}
 use Rattle.fsfs_machine.specs.declared.machine.Recorded.{Recorded}
 use Rattle.fsfs_machine.specs.declared.machine.Coming.{Coming}
 use Rattle.fsfs_turn.specs.Bytes.{BytesShow}

@@ -6,12 +6,9 @@ ghost use Rattle.fsfs_turn.specs.Alone.{KnowsAlone};
 
 use crate::adoption::Adoption;
 use crate::turns::{LoneTurns, Turns};
-use fsfs_base::{Failed, Name};
+use fsfs_base::{DiskPlace, Failed, Name, Note, RevNum};
 use fsfs_disk::{Disk, Label, ListFault};
-use fsfs_fields::RevNum;
 use fsfs_layout::{Layout, OnlyFile};
-use fsfs_note::Note;
-use fsfs_places::DiskPlace;
 use std::alloc::Global;
 
 /// A store whose disk has one owner and may be written: the write lock and the youngest revision are fields, and there is one

@@ -6,7 +6,7 @@ ghost use Rattle.fsfs_base.specs.Failures.{HasCause, Rose};
 ghost use Rattle.fsfs_layout.specs.FileNames.{only_name};
 ghost use Rattle.fsfs_layout.specs.Small.{IsRevLine};
 ghost use Rattle.fsfs_layout.specs.declared.only_file.OnlyFile.TheVariants.{MinUnpackedRev, TxnCurrent};
-ghost use Rattle.fsfs_hash.specs.Dump.{IsDump};
+ghost use Rattle.fsfs_layout.specs.Dump.{IsDump};
 ghost use Rattle.fsfs_disk.specs.Labels.{Label as KeptLabel, Txn as TxnLabel, label_of, with_label, without_label, IsListing};
 ghost use Rattle.fsfs_disk.specs.Benches.{removed, bytes_on, IsFirmFile, HasShortFiles};
 ghost use Rattle.fsfs_disk.specs.Trace.{Put, Rename, FirmNames, IsRead, IsSize};
@@ -14,7 +14,7 @@ ghost use Rattle.fsfs_machine.specs.declared.machine.Recorded.{Recorded};
 ghost use Rattle.fsfs_machine.specs.declared.machine.Coming.{Coming};
 ghost use Rattle.fsfs_machine.specs.declared.machine.Drawn.{Drawn};
 ghost use Rattle.fsfs_machine.specs.declared.machine.Txn.{Txn};
-ghost use Rattle.fsfs_places.specs.declared.place.DiskPlace.{DiskPlace as SpecPlace};
+ghost use Rattle.fsfs_base.specs.declared.place.DiskPlace.{DiskPlace as SpecPlace};
 ghost use Rattle.fsfs_machine.specs.declared.machine.Section.TheVariants.{Begun, CurrentFirm, Doubtful};
 ghost use Rattle.fsfs_machine.specs.declared.machine.Step.TheVariants.{GiveLock, StickLock};
 ghost use Rattle.fsfs_machine.specs.declared.machine.Went.{Went};
@@ -30,12 +30,9 @@ ghost use Rattle.fsfs_turn.specs.Mountings.{Mounting, RoseBy};
 ghost use Rattle.fsfs_turn.specs.Learning.{PropsRead, FloorRead, ReadsCounter, Listed, MayMake, BenchMade, MayPurge, Purged, SpentPurged};
 
 use crate::adoption::Adoption;
-use fsfs_base::{Failed, Name};
+use fsfs_base::{DiskPlace, Failed, Name, Note, RevNum};
 use fsfs_disk::{Bench, Label, ListFault};
-use fsfs_fields::RevNum;
 use fsfs_layout::Layout;
-use fsfs_note::Note;
-use fsfs_places::DiskPlace;
 use std::alloc::Global;
 
 /// The turns of one pass. Each call is one step of the machine (`Turned`), made at one moment: between two calls other

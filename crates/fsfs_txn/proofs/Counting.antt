@@ -3,28 +3,28 @@ use Rattle.std.proofs.Common.{◌≡◌, ◌≤◌, ◌⊎◌, ◌+◌, ℕ, zer
 use Rattle.std.specs.Prelude.{Option, Some, None, Ok, Err}
 use Rattle.fsfs_base.specs.Paths.{PathName, Path}
 use Rattle.fsfs_tree.specs.Nodes.{TreeFunction}
-use Rattle.fsfs_fields.specs.declared.txn_name.TxnName.{TxnName}
-use Rattle.fsfs_book.specs.Told.{RevisionBytes}
+use Rattle.fsfs_base.specs.declared.txn_name.TxnName.{TxnName}
+use Rattle.fsfs_revision.specs.Told.{RevisionBytes}
 use Rattle.fsfs_noderev.specs.Ids.{Old, part_value}
 use Rattle.fsfs_noderev.specs.declared.node_id.NodeId.{NodeId}
 use Rattle.fsfs_noderev.specs.declared.node_rev.CopySource.{CopySource}
 use Rattle.fsfs_noderev.specs.declared.node_rev.NodeRev.{NodeRev}
-use Rattle.fsfs_damage.specs.declared.wrong.ReadError.{ReadError}
-use Rattle.fsfs_damage.specs.declared.wrong.ReadError.TheVariants as reads
-use Rattle.fsfs_damage.specs.Readings.{Answers}
-use Rattle.fsfs_damage.proofs.OneAnswer.{ok_same}
-use Rattle.fsfs_shows.specs.Reading.{OfId, offset_of, StandsAt}
-use Rattle.fsfs_shows.proofs.OneWalk.{of_id_one}
-use Rattle.fsfs_shows.proofs.Walks.{take_front}
-use Rattle.fsfs_drafts.specs.Own.{OwnNode, Own}
-use Rattle.fsfs_drafts.specs.Rules.{at_top, ComesBy, Change, Copied, Made, stands_from}
-use Rattle.fsfs_drafts.specs.Drafts.{Folder, IsDraft, ShowTrees}
-use Rattle.fsfs_drafts.proofs.Here.{goes_from, rule_here, agrees_below}
-use Rattle.fsfs_own.specs.Errors.{of_read, IsFailure}
-use Rattle.fsfs_own.specs.Walks.{IsAt}
-use Rattle.fsfs_own.specs.declared.walk.Step.{Step}
-use Rattle.fsfs_own.specs.declared.walk.Step.TheVariants as steps
-use Rattle.fsfs_own.proofs.Walking.{pushed}
+use Rattle.fsfs_revision.specs.declared.wrong.ReadError.{ReadError}
+use Rattle.fsfs_revision.specs.declared.wrong.ReadError.TheVariants as reads
+use Rattle.fsfs_revision.specs.Readings.{Answers}
+use Rattle.fsfs_revision.proofs.OneAnswer.{ok_same}
+use Rattle.fsfs_revision.specs.ShowsReading.{OfId, offset_of, StandsAt}
+use Rattle.fsfs_revision.proofs.OneWalk.{of_id_one}
+use Rattle.fsfs_revision.proofs.Walks.{take_front}
+use Rattle.fsfs_draft.specs.Own.{OwnNode, Own}
+use Rattle.fsfs_draft.specs.Rules.{at_top, ComesBy, Change, Copied, Made, stands_from}
+use Rattle.fsfs_draft.specs.Drafts.{Folder, IsDraft, ShowTrees}
+use Rattle.fsfs_draft.proofs.Here.{goes_from, rule_here, agrees_below}
+use Rattle.fsfs_draft.specs.Errors.{of_read, IsFailure}
+use Rattle.fsfs_draft.specs.Walks.{IsAt}
+use Rattle.fsfs_draft.specs.declared.walk.Step.{Step}
+use Rattle.fsfs_draft.specs.declared.walk.Step.TheVariants as steps
+use Rattle.fsfs_draft.proofs.Walking.{pushed}
 use Rattle.fsfs_txn.specs.Mergeinfo.{has_counts, RevisionHas, IsPlainAt, MeetsCountsTo, LacksCountsTo, CountsTo}
 use Rattle.fsfs_txn.specs.Seeing.{counts_with}
 

@@ -1,19 +1,19 @@
 -- A merge that landed, as one of a transaction.
 use Rattle.std.proofs.Common.{◌≡◌, ◌≤◌, ◌<◌, ℕ, List, subst, arith}
 use Rattle.std.specs.Prelude.{Result, Ok, Err}
-use Rattle.fsfs_ancestry.specs.Trees.{ShowTrees}
+use Rattle.fsfs_revision.specs.Trees.{ShowTrees}
 use Rattle.fsfs_tree.specs.Nodes.{TreeFunction}
-use Rattle.fsfs_flat.specs.Transactions.{IsTransaction, Landed}
-use Rattle.fsfs_flat.specs.declared.mark.Mark.{Mark}
-use Rattle.fsfs_fields.specs.declared.txn_name.TxnName.{TxnName}
-use Rattle.fsfs_book.specs.Told.{Told, RevisionBytes, Knows}
-use Rattle.fsfs_drafts.specs.Drafts.{Folder}
-use Rattle.fsfs_drafts.specs.Edits.{IsDraftAfter}
-use Rattle.fsfs_land.specs.Landings.{LeavesLanded}
-use Rattle.fsfs_land.specs.declared.land.Outcome.{Outcome}
-use Rattle.fsfs_land.specs.declared.land.Outcome.TheVariants as outcomes
-use Rattle.fsfs_own.specs.Errors as errors
-use Rattle.fsfs_own.specs.declared.error.EditError.{EditError}
+use Rattle.fsfs_model.specs.Transactions.{IsTransaction, Landed}
+use Rattle.fsfs_model.specs.declared.mark.Mark.{Mark}
+use Rattle.fsfs_base.specs.declared.txn_name.TxnName.{TxnName}
+use Rattle.fsfs_revision.specs.Told.{Told, RevisionBytes, Knows}
+use Rattle.fsfs_draft.specs.Drafts.{Folder}
+use Rattle.fsfs_draft.specs.Edits.{IsDraftAfter}
+use Rattle.fsfs_merge.specs.Landings.{LeavesLanded}
+use Rattle.fsfs_merge.specs.declared.land.Outcome.{Outcome}
+use Rattle.fsfs_merge.specs.declared.land.Outcome.TheVariants as outcomes
+use Rattle.fsfs_draft.specs.Errors as errors
+use Rattle.fsfs_draft.specs.declared.error.EditError.{EditError}
 use Rattle.fsfs_txn.specs.Standing.{Stands}
 use Rattle.fsfs_txn.specs.Merging.{IsMerging}
 

@@ -1,3 +1,11 @@
+pub mod ReachLemmas
+pub mod ReachedLemmas
+pub mod Growing
+pub mod TextLemmas
+pub mod Following
+pub mod Leaving
+pub mod Walked
+pub mod Staying
 pub mod Counting
 pub mod Looking
 pub mod Meeting

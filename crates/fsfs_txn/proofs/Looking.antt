@@ -4,19 +4,19 @@ use Rattle.std.specs.Prelude.{Option, Some, None, is_some, Result, Ok, Err}
 use Rattle.fsfs_base.specs.Paths.{PathName, Path}
 use Rattle.fsfs_base.specs.declared.kind.Kind.{Kind}
 use Rattle.fsfs_tree.specs.Nodes.{Node, TreeFunction}
-use Rattle.fsfs_flat.specs.declared.mark.Mark.{Mark}
-use Rattle.fsfs_fields.specs.declared.txn_name.TxnName.{TxnName}
-use Rattle.fsfs_book.specs.Told.{Told, RevisionBytes}
-use Rattle.fsfs_drafts.specs.Own.{Own, draft_tree}
-use Rattle.fsfs_drafts.specs.Drafts.{Folder, bare}
-use Rattle.fsfs_drafts.specs.Edits.{IsDraftAfter}
-use Rattle.fsfs_own.specs.Walks.{HasKind, IsChild}
-use Rattle.fsfs_own.specs.declared.error.EditError.{EditError}
-use Rattle.fsfs_own.specs.declared.walk.Child.{Child}
+use Rattle.fsfs_model.specs.declared.mark.Mark.{Mark}
+use Rattle.fsfs_base.specs.declared.txn_name.TxnName.{TxnName}
+use Rattle.fsfs_revision.specs.Told.{Told, RevisionBytes}
+use Rattle.fsfs_draft.specs.Own.{Own, draft_tree}
+use Rattle.fsfs_draft.specs.Drafts.{Folder, bare}
+use Rattle.fsfs_draft.specs.Edits.{IsDraftAfter}
+use Rattle.fsfs_draft.specs.Walks.{HasKind, IsChild}
+use Rattle.fsfs_draft.specs.declared.error.EditError.{EditError}
+use Rattle.fsfs_draft.specs.declared.walk.Child.{Child}
 use Rattle.fsfs_edit.proofs.Bare.{bare_none, bare_some, bare_kind, lacks_over, blocked_over}
 use Rattle.fsfs_edit.proofs.MakingAt.{kind_some}
-use Rattle.fsfs_opened.specs.declared.opening.Opening.{Opening}
-use Rattle.fsfs_opened.specs.Opening.{OpensAt}
+use Rattle.fsfs_txn.specs.declared.opened_opening.Opening.{Opening}
+use Rattle.fsfs_txn.specs.OpenedOpening.{OpensAt}
 use Rattle.fsfs_txn.specs.declared.seeing.Seen.{Seen}
 use Rattle.fsfs_txn.specs.declared.seeing.Seen.TheVariants as seens
 use Rattle.fsfs_txn.specs.declared.above.Above.{Above}

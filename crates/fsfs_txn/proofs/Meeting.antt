@@ -7,22 +7,22 @@ use Rattle.fsfs_base.specs.declared.kind.Kind.TheVariants.{Dir}
 use Rattle.fsfs_tree.specs.Nodes.{Node, TreeFunction}
 use Rattle.fsfs_tree.specs.Trees.{IsTree}
 use Rattle.fsfs_tree.specs.Histories.{AreRevisions}
-use Rattle.fsfs_flat.specs.Edits.{parent}
-use Rattle.fsfs_flat.specs.Transactions.{Edited}
-use Rattle.fsfs_flat.specs.declared.edit.Edit.{Edit}
-use Rattle.fsfs_flat.specs.declared.edit.Edit.TheVariants.{Delete, Copy}
-use Rattle.fsfs_flat.specs.declared.mark.Mark.{Mark}
+use Rattle.fsfs_model.specs.Edits.{parent}
+use Rattle.fsfs_model.specs.Transactions.{Edited}
+use Rattle.fsfs_model.specs.declared.edit.Edit.{Edit}
+use Rattle.fsfs_model.specs.declared.edit.Edit.TheVariants.{Delete, Copy}
+use Rattle.fsfs_model.specs.declared.mark.Mark.{Mark}
 use Rattle.fsfs_model.proofs.Legal.{landing_leaves_a_tree}
-use Rattle.fsfs_fields.specs.declared.txn_name.TxnName.{TxnName}
-use Rattle.fsfs_book.specs.Told.{Told, RevisionBytes}
+use Rattle.fsfs_base.specs.declared.txn_name.TxnName.{TxnName}
+use Rattle.fsfs_revision.specs.Told.{Told, RevisionBytes}
 use Rattle.fsfs_noderev.specs.declared.node_rev.CopySource.{CopySource}
-use Rattle.fsfs_drafts.specs.Own.{Own}
-use Rattle.fsfs_drafts.specs.Drafts.{Folder}
-use Rattle.fsfs_own.specs.Errors as errors
-use Rattle.fsfs_own.specs.Walks.{HasKind}
-use Rattle.fsfs_own.specs.declared.walk.Step.{Step}
-use Rattle.fsfs_own.specs.declared.error.EditError.{EditError}
-use Rattle.fsfs_own.specs.declared.error.EditError.TheVariants as edit_errors
+use Rattle.fsfs_draft.specs.Own.{Own}
+use Rattle.fsfs_draft.specs.Drafts.{Folder}
+use Rattle.fsfs_draft.specs.Errors as errors
+use Rattle.fsfs_draft.specs.Walks.{HasKind}
+use Rattle.fsfs_draft.specs.declared.walk.Step.{Step}
+use Rattle.fsfs_draft.specs.declared.error.EditError.{EditError}
+use Rattle.fsfs_draft.specs.declared.error.EditError.TheVariants as edit_errors
 use Rattle.fsfs_edit.specs.Meeting.{IsDone}
 use Rattle.fsfs_edit.specs.Making as edit_making
 use Rattle.fsfs_edit.specs.Making.{make_of}

@@ -7,25 +7,25 @@ use Rattle.fsfs_base.specs.declared.kind.Kind.{Kind}
 use Rattle.fsfs_base.specs.declared.kind.Kind.TheVariants.{File, Dir}
 use Rattle.fsfs_tree.specs.Nodes.{TreeFunction}
 use Rattle.fsfs_tree.specs.Histories.{AreRevisions}
-use Rattle.fsfs_flat.specs.declared.edit.Edit.TheVariants.{PutText, SetProp}
-use Rattle.fsfs_flat.specs.declared.mark.Mark.{Mark}
-use Rattle.fsfs_fields.specs.declared.txn_name.TxnName.{TxnName}
-use Rattle.fsfs_fields.specs.declared.digest.HexDigest.{HexDigest}
-use Rattle.fsfs_book.specs.Told.{RevisionBytes}
-use Rattle.fsfs_drafts.specs.Drafts.{Folder}
-use Rattle.fsfs_own.specs.Walks.{HasKind}
-use Rattle.fsfs_own.specs.declared.error.EditError.{EditError}
-use Rattle.fsfs_own.specs.declared.error.EditError.TheVariants as edits
-use Rattle.fsfs_opened.specs.Failing as failing
-use Rattle.fsfs_opened.specs.Growing.{IsLonger}
-use Rattle.fsfs_opened.specs.declared.opening.Way.{Way}
-use Rattle.fsfs_opened.specs.Properties as opened_props
-use Rattle.fsfs_opened.specs.Texts as opened_texts
-use Rattle.fsfs_opened.specs.declared.properties.PropertyPut.{PropertyPut}
-use Rattle.fsfs_opened.specs.declared.properties.PropertyPut.TheVariants as props
-use Rattle.fsfs_opened.specs.declared.texts.TextPut.{TextPut}
-use Rattle.fsfs_opened.specs.declared.texts.TextPut.TheVariants as puts
-use Rattle.fsfs_opened.proofs.Growing.{drafts_grow}
+use Rattle.fsfs_model.specs.declared.edit.Edit.TheVariants.{PutText, SetProp}
+use Rattle.fsfs_model.specs.declared.mark.Mark.{Mark}
+use Rattle.fsfs_base.specs.declared.txn_name.TxnName.{TxnName}
+use Rattle.fsfs_base.specs.declared.digest.HexDigest.{HexDigest}
+use Rattle.fsfs_revision.specs.Told.{RevisionBytes}
+use Rattle.fsfs_draft.specs.Drafts.{Folder}
+use Rattle.fsfs_draft.specs.Walks.{HasKind}
+use Rattle.fsfs_draft.specs.declared.error.EditError.{EditError}
+use Rattle.fsfs_draft.specs.declared.error.EditError.TheVariants as edits
+use Rattle.fsfs_txn.specs.Failing as failing
+use Rattle.fsfs_txn.specs.Growing.{IsLonger}
+use Rattle.fsfs_txn.specs.declared.opened_opening.Way.{Way}
+use Rattle.fsfs_txn.specs.OpenedProperties as opened_props
+use Rattle.fsfs_txn.specs.OpenedTexts as opened_texts
+use Rattle.fsfs_txn.specs.declared.opened_properties.PropertyPut.{PropertyPut}
+use Rattle.fsfs_txn.specs.declared.opened_properties.PropertyPut.TheVariants as props
+use Rattle.fsfs_txn.specs.declared.opened_texts.TextPut.{TextPut}
+use Rattle.fsfs_txn.specs.declared.opened_texts.TextPut.TheVariants as puts
+use Rattle.fsfs_txn.proofs.Growing.{drafts_grow}
 use Rattle.fsfs_txn.specs.declared.opening.Opened.{Opened}
 use Rattle.fsfs_txn.specs.declared.texts.TextSet.{TextSet}
 use Rattle.fsfs_txn.specs.declared.txn_error.TxnError.TheVariants as errors

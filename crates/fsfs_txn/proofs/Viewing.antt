@@ -7,39 +7,39 @@ use Rattle.fsfs_base.specs.declared.kind.Kind.{Kind}
 use Rattle.fsfs_base.specs.declared.kind.Kind.TheVariants.{File, Dir}
 use Rattle.fsfs_tree.specs.Nodes.{Node, TreeFunction, Content}
 use Rattle.fsfs_tree.specs.Trees.{IsTree}
-use Rattle.fsfs_flat.specs.declared.mark.Mark.{Mark}
-use Rattle.fsfs_fields.specs.declared.txn_name.TxnName.{TxnName}
-use Rattle.fsfs_book.specs.Told.{Told, RevisionBytes}
+use Rattle.fsfs_model.specs.declared.mark.Mark.{Mark}
+use Rattle.fsfs_base.specs.declared.txn_name.TxnName.{TxnName}
+use Rattle.fsfs_revision.specs.Told.{Told, RevisionBytes}
 use Rattle.fsfs_noderev.specs.declared.node_id.NodeId.{NodeId}
 use Rattle.fsfs_noderev.specs.declared.node_rev.NodeRev.{NodeRev}
-use Rattle.fsfs_damage.specs.declared.wrong.ReadError.{ReadError}
-use Rattle.fsfs_damage.specs.declared.wrong.ReadError.TheVariants as reads
-use Rattle.fsfs_damage.specs.Readings.{Answers}
-use Rattle.fsfs_damage.proofs.OneAnswer.{ok_same}
-use Rattle.fsfs_shows.specs.Reading.{Pairs, PropsOf, StandsAt}
-use Rattle.fsfs_shows.proofs.OneWalk.{props_one}
-use Rattle.fsfs_drafts.specs.Own.{OwnNode, Own, draft_tree, shared_under, shared_at}
-use Rattle.fsfs_drafts.specs.Rules.{stands_under, stands_at}
-use Rattle.fsfs_drafts.specs.Drafts.{Folder, kept_of, IsLasting, IsFileText, Lasting, Put, IsDraftText, IsDraft, ShowTrees, bare}
-use Rattle.fsfs_drafts.proofs.Changing.{of_id_lasting, is_lasting, lasting_text as lasting_rep}
+use Rattle.fsfs_revision.specs.declared.wrong.ReadError.{ReadError}
+use Rattle.fsfs_revision.specs.declared.wrong.ReadError.TheVariants as reads
+use Rattle.fsfs_revision.specs.Readings.{Answers}
+use Rattle.fsfs_revision.proofs.OneAnswer.{ok_same}
+use Rattle.fsfs_revision.specs.ShowsReading.{Pairs, PropsOf, StandsAt}
+use Rattle.fsfs_revision.proofs.OneWalk.{props_one}
+use Rattle.fsfs_draft.specs.Own.{OwnNode, Own, draft_tree, shared_under, shared_at}
+use Rattle.fsfs_draft.specs.Rules.{stands_under, stands_at}
+use Rattle.fsfs_draft.specs.Drafts.{Folder, kept_of, IsLasting, IsFileText, Lasting, Put, IsDraftText, IsDraft, ShowTrees, bare}
+use Rattle.fsfs_draft.proofs.Changing.{of_id_lasting, is_lasting, lasting_text as lasting_rep}
 use Rattle.fsfs_revision.specs.Nodes.{is_of_revision}
 use Rattle.fsfs_noderev.specs.declared.rep.Rep.{Rep}
 use Rattle.fsfs_noderev.specs.declared.rep.Contents.{Contents}
 use Rattle.fsfs_noderev.specs.declared.rep.Contents.TheVariants as contents
-use Rattle.fsfs_shows.specs.Shown.{IsTextOf}
-use Rattle.fsfs_drafts.specs.Steps.{kept_at}
-use Rattle.fsfs_drafts.specs.Sides.{HasFiles}
-use Rattle.fsfs_drafts.specs.Edits.{IsDraftAfter}
-use Rattle.fsfs_drafts.specs.Agreeing.{Agrees}
-use Rattle.fsfs_drafts.proofs.Here.{agrees_below}
-use Rattle.fsfs_drafts.proofs.OwnShown.{own_shown}
-use Rattle.fsfs_own.specs.Errors.{of_read, IsFailure}
-use Rattle.fsfs_own.specs.Properties.{OfKeptProps}
-use Rattle.fsfs_own.specs.Walks.{IsRootId, IsLastingAt, HasKind, IsFound}
-use Rattle.fsfs_own.specs.declared.error.EditError.{EditError}
-use Rattle.fsfs_own.specs.declared.walk.Child.{Child}
-use Rattle.fsfs_own.specs.declared.walk.Found.{Found}
-use Rattle.fsfs_own.specs.declared.walk.Found.TheVariants as founds
+use Rattle.fsfs_revision.specs.Shown.{IsTextOf}
+use Rattle.fsfs_draft.specs.Steps.{kept_at}
+use Rattle.fsfs_draft.specs.Sides.{HasFiles}
+use Rattle.fsfs_draft.specs.Edits.{IsDraftAfter}
+use Rattle.fsfs_draft.specs.Agreeing.{Agrees}
+use Rattle.fsfs_draft.proofs.Here.{agrees_below}
+use Rattle.fsfs_draft.proofs.OwnShown.{own_shown}
+use Rattle.fsfs_draft.specs.Errors.{of_read, IsFailure}
+use Rattle.fsfs_draft.specs.Properties.{OfKeptProps}
+use Rattle.fsfs_draft.specs.Walks.{IsRootId, IsLastingAt, HasKind, IsFound}
+use Rattle.fsfs_draft.specs.declared.error.EditError.{EditError}
+use Rattle.fsfs_draft.specs.declared.walk.Child.{Child}
+use Rattle.fsfs_draft.specs.declared.walk.Found.{Found}
+use Rattle.fsfs_draft.specs.declared.walk.Found.TheVariants as founds
 use Rattle.fsfs_edit.proofs.OwnProps.{props_here, props_never}
 use Rattle.fsfs_edit.proofs.Reaching as reaching
 use Rattle.fsfs_txn.specs.declared.getting.NodeView.{NodeView}

@@ -4,20 +4,20 @@ use Rattle.fsfs_base.specs.Paths.{PathName, Path}
 use Rattle.fsfs_base.specs.declared.kind.Kind.TheVariants.{Dir}
 use Rattle.fsfs_tree.specs.Nodes.{TreeFunction}
 use Rattle.fsfs_tree.specs.Histories.{AreRevisions}
-use Rattle.fsfs_flat.specs.Edits.{parent}
-use Rattle.fsfs_flat.specs.declared.edit.Edit.TheVariants.{Copy}
-use Rattle.fsfs_flat.specs.declared.mark.Mark.{Mark}
-use Rattle.fsfs_fields.specs.declared.txn_name.TxnName.{TxnName}
-use Rattle.fsfs_book.specs.Told.{Told, RevisionBytes, Knows}
+use Rattle.fsfs_model.specs.Edits.{parent}
+use Rattle.fsfs_model.specs.declared.edit.Edit.TheVariants.{Copy}
+use Rattle.fsfs_model.specs.declared.mark.Mark.{Mark}
+use Rattle.fsfs_base.specs.declared.txn_name.TxnName.{TxnName}
+use Rattle.fsfs_revision.specs.Told.{Told, RevisionBytes, Knows}
 use Rattle.fsfs_noderev.specs.declared.node_rev.CopySource.{CopySource}
-use Rattle.fsfs_shows.specs.ByTree.{LacksAt, IsBlockedAt}
-use Rattle.fsfs_drafts.specs.Own.{Own}
-use Rattle.fsfs_drafts.specs.Drafts.{Folder, ShowTrees}
-use Rattle.fsfs_own.specs.Errors as errors
-use Rattle.fsfs_own.specs.Names.{IsFull, HasSpace}
-use Rattle.fsfs_own.specs.Walks.{IsAt, HasKind}
-use Rattle.fsfs_own.specs.declared.error.EditError.{EditError}
-use Rattle.fsfs_own.specs.declared.walk.Step.{Step}
+use Rattle.fsfs_revision.specs.ByTree.{LacksAt, IsBlockedAt}
+use Rattle.fsfs_draft.specs.Own.{Own}
+use Rattle.fsfs_draft.specs.Drafts.{Folder, ShowTrees}
+use Rattle.fsfs_draft.specs.Errors as errors
+use Rattle.fsfs_draft.specs.Names.{IsFull, HasSpace}
+use Rattle.fsfs_draft.specs.Walks.{IsAt, HasKind}
+use Rattle.fsfs_draft.specs.declared.error.EditError.{EditError}
+use Rattle.fsfs_draft.specs.declared.walk.Step.{Step}
 use Rattle.fsfs_edit.specs.Ways.{IsNoDirectory}
 use Rattle.fsfs_edit.specs.declared.copy.Copied as edit
 use Rattle.fsfs_edit.specs.declared.copy.Copied.TheVariants as edits

@@ -4,19 +4,19 @@ use Rattle.fsfs_base.specs.Paths.{Path}
 use Rattle.fsfs_tree.specs.Nodes.{Node, TreeFunction}
 use Rattle.fsfs_tree.specs.Trees.{IsTree}
 use Rattle.fsfs_tree.specs.Histories.{AreRevisions}
-use Rattle.fsfs_flat.specs.declared.mark.Mark.{Mark}
-use Rattle.fsfs_fields.specs.declared.txn_name.TxnName.{TxnName}
-use Rattle.fsfs_book.specs.Told.{Told, RevisionBytes, Knows}
-use Rattle.fsfs_shows.specs.Reading.{Pairs}
-use Rattle.fsfs_shows.specs.ByTree.{LacksAt, IsBlockedAt}
-use Rattle.fsfs_drafts.specs.Own.{Own, draft_tree}
-use Rattle.fsfs_drafts.specs.Drafts.{Folder, IsDraft, ShowTrees}
-use Rattle.fsfs_drafts.specs.Sides.{OwnFiles}
-use Rattle.fsfs_drafts.specs.Edits.{IsDraftAfter}
-use Rattle.fsfs_own.specs.Errors as errors
-use Rattle.fsfs_own.specs.Walks.{IsAt}
-use Rattle.fsfs_own.specs.declared.error.EditError.{EditError}
-use Rattle.fsfs_own.specs.declared.walk.Step.{Step}
+use Rattle.fsfs_model.specs.declared.mark.Mark.{Mark}
+use Rattle.fsfs_base.specs.declared.txn_name.TxnName.{TxnName}
+use Rattle.fsfs_revision.specs.Told.{Told, RevisionBytes, Knows}
+use Rattle.fsfs_revision.specs.ShowsReading.{Pairs}
+use Rattle.fsfs_revision.specs.ByTree.{LacksAt, IsBlockedAt}
+use Rattle.fsfs_draft.specs.Own.{Own, draft_tree}
+use Rattle.fsfs_draft.specs.Drafts.{Folder, IsDraft, ShowTrees}
+use Rattle.fsfs_draft.specs.Sides.{OwnFiles}
+use Rattle.fsfs_draft.specs.Edits.{IsDraftAfter}
+use Rattle.fsfs_draft.specs.Errors as errors
+use Rattle.fsfs_draft.specs.Walks.{IsAt}
+use Rattle.fsfs_draft.specs.declared.error.EditError.{EditError}
+use Rattle.fsfs_draft.specs.declared.walk.Step.{Step}
 use Rattle.fsfs_txn.specs.declared.getting.NodeView.{NodeView}
 use Rattle.fsfs_txn.specs.declared.getting.Got.{Got}
 use Rattle.fsfs_txn.specs.declared.getting.Got.TheVariants as gots

@@ -6,20 +6,20 @@ use Rattle.fsfs_base.specs.declared.kind.Kind.TheVariants.{File, Dir}
 use Rattle.fsfs_tree.specs.Nodes.{Node, TreeFunction, Content, Bytes}
 use Rattle.fsfs_tree.specs.Trees.{IsTree}
 use Rattle.fsfs_tree.specs.Histories.{AreRevisions}
-use Rattle.fsfs_flat.specs.declared.mark.Mark.{Mark}
-use Rattle.fsfs_fields.specs.declared.txn_name.TxnName.{TxnName}
-use Rattle.fsfs_book.specs.Told.{Told, RevisionBytes, Knows}
+use Rattle.fsfs_model.specs.declared.mark.Mark.{Mark}
+use Rattle.fsfs_base.specs.declared.txn_name.TxnName.{TxnName}
+use Rattle.fsfs_revision.specs.Told.{Told, RevisionBytes, Knows}
 use Rattle.fsfs_noderev.specs.declared.rep.Rep.{Rep}
 use Rattle.fsfs_noderev.specs.declared.rep.Contents.{Contents}
 use Rattle.fsfs_noderev.specs.declared.rep.Contents.TheVariants as contents
 use Rattle.fsfs_noderev.specs.declared.node_rev.NodeRev.{NodeRev}
-use Rattle.fsfs_drafts.specs.Own.{Own, draft_tree}
-use Rattle.fsfs_drafts.specs.Drafts.{Folder, IsFileText, IsDraft, ShowTrees}
-use Rattle.fsfs_drafts.specs.Edits.{IsDraftAfter}
-use Rattle.fsfs_own.specs.Errors as errors
-use Rattle.fsfs_own.specs.Walks.{IsAt}
-use Rattle.fsfs_own.specs.declared.error.EditError.{EditError}
-use Rattle.fsfs_own.specs.declared.walk.Step.{Step}
+use Rattle.fsfs_draft.specs.Own.{Own, draft_tree}
+use Rattle.fsfs_draft.specs.Drafts.{Folder, IsFileText, IsDraft, ShowTrees}
+use Rattle.fsfs_draft.specs.Edits.{IsDraftAfter}
+use Rattle.fsfs_draft.specs.Errors as errors
+use Rattle.fsfs_draft.specs.Walks.{IsAt}
+use Rattle.fsfs_draft.specs.declared.error.EditError.{EditError}
+use Rattle.fsfs_draft.specs.declared.walk.Step.{Step}
 use Rattle.fsfs_txn.specs.declared.getting.Got.{Got}
 use Rattle.fsfs_txn.specs.declared.getting.Got.TheVariants as gots
 use Rattle.fsfs_txn.specs.declared.txn_error.TxnError.{TxnError}

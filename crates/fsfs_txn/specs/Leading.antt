@@ -2,13 +2,13 @@
 use Rattle.std.specs.Prelude.{◌≤◌, ℕ, List, Result, Ok, Err}
 use Rattle.fsfs_tree.specs.Nodes.{TreeFunction}
 use Rattle.fsfs_tree.specs.Histories.{AreRevisions}
-use Rattle.fsfs_flat.specs.declared.mark.Mark.{Mark}
-use Rattle.fsfs_fields.specs.declared.txn_name.TxnName.{TxnName}
-use Rattle.fsfs_book.specs.Told.{Told, RevisionBytes, Knows}
-use Rattle.fsfs_drafts.specs.Drafts.{Folder, ShowTrees}
-use Rattle.fsfs_opened.specs.Knowing.{AreKnown}
-use Rattle.fsfs_opened.specs.Leading.{Leads, IsNotLacking}
-use Rattle.fsfs_opened.specs.declared.opening.Way.{Way}
+use Rattle.fsfs_model.specs.declared.mark.Mark.{Mark}
+use Rattle.fsfs_base.specs.declared.txn_name.TxnName.{TxnName}
+use Rattle.fsfs_revision.specs.Told.{Told, RevisionBytes, Knows}
+use Rattle.fsfs_draft.specs.Drafts.{Folder, ShowTrees}
+use Rattle.fsfs_txn.specs.Knowing.{AreKnown}
+use Rattle.fsfs_txn.specs.OpenedLeading.{Leads, IsNotLacking}
+use Rattle.fsfs_txn.specs.declared.opened_opening.Way.{Way}
 use Rattle.fsfs_txn.specs.declared.opening.Opened.{Opened}
 use Rattle.fsfs_txn.specs.declared.opening.PathOpened.{PathOpened}
 use Rattle.fsfs_txn.specs.declared.txn_error.TxnError.{TxnError}

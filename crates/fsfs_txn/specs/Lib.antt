@@ -1,3 +1,13 @@
+pub mod Knowing
+pub mod Reaching
+pub mod Reached
+pub mod OpenedOpening
+pub mod Growing
+pub mod Failing
+pub mod OpenedLeading
+pub mod Stepping
+pub mod OpenedTexts
+pub mod OpenedProperties
 pub mod Spending
 pub mod Standing
 pub mod Mergeinfo

@@ -4,11 +4,11 @@
 use Rattle.std.specs.Prelude.{◌≡◌, ◌≤◌, ◌⊎◌, ℕ, Bool, true, false, ◌||◌, [], length, take, is_some, Some}
 use Rattle.fsfs_base.specs.Paths.{Path}
 use Rattle.fsfs_tree.specs.Nodes.{TreeFunction}
-use Rattle.fsfs_book.specs.Told.{RevisionBytes}
+use Rattle.fsfs_revision.specs.Told.{RevisionBytes}
 use Rattle.fsfs_noderev.specs.declared.node_rev.NodeRev.{NodeRev}
-use Rattle.fsfs_shows.specs.Reading.{StandsAt}
-use Rattle.fsfs_drafts.specs.Own.{OwnNode, Own}
-use Rattle.fsfs_own.specs.Walks.{IsLastingAt}
+use Rattle.fsfs_revision.specs.ShowsReading.{StandsAt}
+use Rattle.fsfs_draft.specs.Own.{OwnNode, Own}
+use Rattle.fsfs_draft.specs.Walks.{IsLastingAt}
 
 -- the node-revision has one of the fields
 abbrev pub has_counts : NodeRev → Bool

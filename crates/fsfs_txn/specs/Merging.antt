@@ -1,16 +1,16 @@
 -- A transaction merged with a later revision: what is left, and where the two clash.
 use Rattle.std.specs.Prelude.{◌≡◌, ◌≢◌, ◌≤◌, ◌<◌, ◌+◌, ℕ, List, Result, Ok, Err}
-use Rattle.fsfs_ancestry.specs.Trees.{ShowTrees}
+use Rattle.fsfs_revision.specs.Trees.{ShowTrees}
 use Rattle.fsfs_tree.specs.Nodes.{TreeFunction}
-use Rattle.fsfs_flat.specs.Landing.{NoClash, IsFirstClash, land}
-use Rattle.fsfs_flat.specs.declared.mark.Mark.{Mark}
-use Rattle.fsfs_fields.specs.declared.txn_name.TxnName.{TxnName}
-use Rattle.fsfs_book.specs.Told.{Told, RevisionBytes, Knows}
-use Rattle.fsfs_drafts.specs.Drafts.{Folder}
-use Rattle.fsfs_land.specs.declared.land.Outcome.{Outcome}
-use Rattle.fsfs_land.specs.declared.land.Outcome.TheVariants as outcomes
-use Rattle.fsfs_own.specs.Errors as errors
-use Rattle.fsfs_own.specs.declared.error.EditError.{EditError}
+use Rattle.fsfs_model.specs.Landing.{NoClash, IsFirstClash, land}
+use Rattle.fsfs_model.specs.declared.mark.Mark.{Mark}
+use Rattle.fsfs_base.specs.declared.txn_name.TxnName.{TxnName}
+use Rattle.fsfs_revision.specs.Told.{Told, RevisionBytes, Knows}
+use Rattle.fsfs_draft.specs.Drafts.{Folder}
+use Rattle.fsfs_merge.specs.declared.land.Outcome.{Outcome}
+use Rattle.fsfs_merge.specs.declared.land.Outcome.TheVariants as outcomes
+use Rattle.fsfs_draft.specs.Errors as errors
+use Rattle.fsfs_draft.specs.declared.error.EditError.{EditError}
 use Rattle.fsfs_txn.specs.declared.txn_error.TxnError.{TxnError}
 use Rattle.fsfs_txn.specs.Spending.{IfStays}
 use Rattle.fsfs_txn.specs.Standing.{Stands}

@@ -4,15 +4,15 @@ use Rattle.std.specs.Global.{Global}
 use Rattle.fsfs_base.specs.Paths.{same_name}
 use Rattle.fsfs_tree.specs.Nodes.{TreeFunction}
 use Rattle.fsfs_tree.specs.Histories.{AreRevisions}
-use Rattle.fsfs_flat.specs.Edits.{bytes_of, fits_value}
-use Rattle.fsfs_flat.specs.declared.edit.Edit.TheVariants.{SetProp}
-use Rattle.fsfs_flat.specs.declared.mark.Mark.{Mark}
-use Rattle.fsfs_fields.specs.declared.txn_name.TxnName.{TxnName}
-use Rattle.fsfs_book.specs.Told.{RevisionBytes}
-use Rattle.fsfs_drafts.specs.Drafts.{Folder, ShowTrees}
-use Rattle.fsfs_opened.specs.Knowing.{AreKnown}
-use Rattle.fsfs_opened.specs.declared.properties.PropertyPut.{PropertyPut}
-use Rattle.fsfs_opened.specs.declared.properties.PropertyPut.TheVariants as puts
+use Rattle.fsfs_model.specs.Edits.{bytes_of, fits_value}
+use Rattle.fsfs_model.specs.declared.edit.Edit.TheVariants.{SetProp}
+use Rattle.fsfs_model.specs.declared.mark.Mark.{Mark}
+use Rattle.fsfs_base.specs.declared.txn_name.TxnName.{TxnName}
+use Rattle.fsfs_revision.specs.Told.{RevisionBytes}
+use Rattle.fsfs_draft.specs.Drafts.{Folder, ShowTrees}
+use Rattle.fsfs_txn.specs.Knowing.{AreKnown}
+use Rattle.fsfs_txn.specs.declared.opened_properties.PropertyPut.{PropertyPut}
+use Rattle.fsfs_txn.specs.declared.opened_properties.PropertyPut.TheVariants as puts
 use Rattle.fsfs_txn.specs.declared.opening.Opened.{Opened}
 use Rattle.fsfs_txn.specs.declared.properties.PropertySet.{PropertySet}
 use Rattle.fsfs_txn.specs.declared.properties.PropertySet.TheVariants as sets

@@ -4,19 +4,19 @@ use Rattle.fsfs_base.specs.Paths.{PathName, Path}
 use Rattle.fsfs_base.specs.declared.kind.Kind.TheVariants.{Dir}
 use Rattle.fsfs_tree.specs.Nodes.{TreeFunction}
 use Rattle.fsfs_tree.specs.Trees.{IsTree}
-use Rattle.fsfs_flat.specs.Edits.{parent}
-use Rattle.fsfs_flat.specs.declared.mark.Mark.{Mark}
-use Rattle.fsfs_fields.specs.declared.txn_name.TxnName.{TxnName}
-use Rattle.fsfs_book.specs.Told.{Told, RevisionBytes, Knows}
-use Rattle.fsfs_shows.specs.ByTree.{LacksAt, IsBlockedAt}
-use Rattle.fsfs_drafts.specs.Own.{Own}
-use Rattle.fsfs_drafts.specs.Drafts.{Folder, ShowTrees}
-use Rattle.fsfs_drafts.specs.Edits.{IsDraftAfter}
-use Rattle.fsfs_own.specs.Errors.{IsFailure}
-use Rattle.fsfs_own.specs.Walks.{IsAt, HasKind}
-use Rattle.fsfs_own.specs.declared.error.EditError.{EditError}
-use Rattle.fsfs_own.specs.declared.walk.Step.{Step}
-use Rattle.fsfs_own.specs.declared.walk.Step.TheVariants as steps
+use Rattle.fsfs_model.specs.Edits.{parent}
+use Rattle.fsfs_model.specs.declared.mark.Mark.{Mark}
+use Rattle.fsfs_base.specs.declared.txn_name.TxnName.{TxnName}
+use Rattle.fsfs_revision.specs.Told.{Told, RevisionBytes, Knows}
+use Rattle.fsfs_revision.specs.ByTree.{LacksAt, IsBlockedAt}
+use Rattle.fsfs_draft.specs.Own.{Own}
+use Rattle.fsfs_draft.specs.Drafts.{Folder, ShowTrees}
+use Rattle.fsfs_draft.specs.Edits.{IsDraftAfter}
+use Rattle.fsfs_draft.specs.Errors.{IsFailure}
+use Rattle.fsfs_draft.specs.Walks.{IsAt, HasKind}
+use Rattle.fsfs_draft.specs.declared.error.EditError.{EditError}
+use Rattle.fsfs_draft.specs.declared.walk.Step.{Step}
+use Rattle.fsfs_draft.specs.declared.walk.Step.TheVariants as steps
 use Rattle.fsfs_edit.specs.Ways.{IsNoDirectory}
 use Rattle.fsfs_txn.specs.declared.seeing.Seen.{Seen}
 use Rattle.fsfs_txn.specs.declared.seeing.Seen.TheVariants as seens

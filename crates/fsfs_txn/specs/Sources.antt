@@ -1,12 +1,12 @@
 -- The source of a copy.
 use Rattle.std.specs.Prelude.{◌≡◌, ◌≤◌, ◌<◌, ℕ, Bool, true, false, not, Option, Some, is_some, Result, Ok, Err}
 use Rattle.fsfs_tree.specs.Nodes.{TreeFunction}
-use Rattle.fsfs_book.specs.Told.{Told, RevisionBytes, Knows}
+use Rattle.fsfs_revision.specs.Told.{Told, RevisionBytes, Knows}
 use Rattle.fsfs_noderev.specs.declared.node_rev.CopySource.{CopySource}
-use Rattle.fsfs_shows.specs.ByTree.{LacksAt, IsBlockedAt}
-use Rattle.fsfs_drafts.specs.Drafts.{ShowTrees}
-use Rattle.fsfs_own.specs.Errors.{IsFailure}
-use Rattle.fsfs_own.specs.declared.error.EditError.{EditError}
+use Rattle.fsfs_revision.specs.ByTree.{LacksAt, IsBlockedAt}
+use Rattle.fsfs_draft.specs.Drafts.{ShowTrees}
+use Rattle.fsfs_draft.specs.Errors.{IsFailure}
+use Rattle.fsfs_draft.specs.declared.error.EditError.{EditError}
 use Rattle.fsfs_txn.specs.declared.sources.Source.{Source}
 use Rattle.fsfs_txn.specs.declared.sources.Source.TheVariants as sources
 use Rattle.fsfs_txn.specs.Mergeinfo.{RevisionHas}

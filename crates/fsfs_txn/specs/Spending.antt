@@ -2,10 +2,10 @@
 use Rattle.std.specs.Prelude.{◌≡◌, ◌+◌, ℕ, Bool, Option, Some, None, Result, Ok, Err, if◌then◌else◌}
 use Rattle.fsfs_base.specs.Counts as counts
 use Rattle.fsfs_base.specs.declared.failed.Failed.{Failed}
-use Rattle.fsfs_own.specs.Causes as causes
-use Rattle.fsfs_own.specs.Errors as errors
-use Rattle.fsfs_own.specs.declared.error.EditError.{EditError}
-use Rattle.fsfs_own.specs.declared.error.EditError.TheVariants as edits
+use Rattle.fsfs_draft.specs.Causes as causes
+use Rattle.fsfs_draft.specs.Errors as errors
+use Rattle.fsfs_draft.specs.declared.error.EditError.{EditError}
+use Rattle.fsfs_draft.specs.declared.error.EditError.TheVariants as edits
 use Rattle.fsfs_txn.specs.declared.txn_error.TxnError.{TxnError}
 use Rattle.fsfs_txn.specs.declared.txn_error.TxnError.TheVariants as txns
 

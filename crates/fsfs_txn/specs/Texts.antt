@@ -9,22 +9,22 @@ use Rattle.fsfs_base.specs.declared.kind.Kind.{Kind}
 use Rattle.fsfs_base.specs.declared.kind.Kind.TheVariants.{File, Dir}
 use Rattle.fsfs_tree.specs.Nodes.{TreeFunction}
 use Rattle.fsfs_tree.specs.Histories.{AreRevisions}
-use Rattle.fsfs_flat.specs.declared.edit.Edit.TheVariants.{PutText}
-use Rattle.fsfs_flat.specs.declared.mark.Mark.{Mark}
-use Rattle.fsfs_fields.specs.declared.txn_name.TxnName.{TxnName}
-use Rattle.fsfs_fields.specs.declared.digest.HexDigest.{HexDigest}
-use Rattle.fsfs_book.specs.Told.{RevisionBytes}
-use Rattle.fsfs_proto.specs.declared.text_error.TextError.{TextError}
-use Rattle.fsfs_proto.specs.declared.text_error.TextError.TheVariants as refused
-use Rattle.fsfs_proto.specs.Sources.{GivesAll, GivesFront}
-use Rattle.fsfs_proto.specs.Texts.{IsRefusedText}
-use Rattle.fsfs_drafts.specs.Drafts.{Folder, ShowTrees}
-use Rattle.fsfs_own.specs.Walks.{HasKind}
-use Rattle.fsfs_opened.specs.Failing as failing
-use Rattle.fsfs_opened.specs.Growing.{IsLonger}
-use Rattle.fsfs_opened.specs.Knowing.{AreKnown}
-use Rattle.fsfs_opened.specs.declared.texts.TextPut.{TextPut}
-use Rattle.fsfs_opened.specs.declared.texts.TextPut.TheVariants as puts
+use Rattle.fsfs_model.specs.declared.edit.Edit.TheVariants.{PutText}
+use Rattle.fsfs_model.specs.declared.mark.Mark.{Mark}
+use Rattle.fsfs_base.specs.declared.txn_name.TxnName.{TxnName}
+use Rattle.fsfs_base.specs.declared.digest.HexDigest.{HexDigest}
+use Rattle.fsfs_revision.specs.Told.{RevisionBytes}
+use Rattle.fsfs_txn_files.specs.declared.text_error.TextError.{TextError}
+use Rattle.fsfs_txn_files.specs.declared.text_error.TextError.TheVariants as refused
+use Rattle.fsfs_txn_files.specs.Sources.{GivesAll, GivesFront}
+use Rattle.fsfs_txn_files.specs.ProtoTexts.{IsRefusedText}
+use Rattle.fsfs_draft.specs.Drafts.{Folder, ShowTrees}
+use Rattle.fsfs_draft.specs.Walks.{HasKind}
+use Rattle.fsfs_txn.specs.Failing as failing
+use Rattle.fsfs_txn.specs.Growing.{IsLonger}
+use Rattle.fsfs_txn.specs.Knowing.{AreKnown}
+use Rattle.fsfs_txn.specs.declared.opened_texts.TextPut.{TextPut}
+use Rattle.fsfs_txn.specs.declared.opened_texts.TextPut.TheVariants as puts
 use Rattle.fsfs_txn.specs.declared.opening.Opened.{Opened}
 use Rattle.fsfs_txn.specs.declared.texts.TextSet.{TextSet}
 use Rattle.fsfs_txn.specs.declared.texts.TextSet.TheVariants as texts

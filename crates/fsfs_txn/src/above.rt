@@ -1,14 +1,14 @@
 //! What stands above a path at which an edit is asked for.
 ghost use Rattle.std.specs.Prelude.{◌≡◌, ◌++◌, ◌∷◌, []};
-ghost use Rattle.fsfs_flat.specs.Edits.{parent};
-ghost use Rattle.fsfs_book.specs.Told.{Keeps};
-ghost use Rattle.fsfs_own.specs.Causes.{HasDiskCause, HasBenchCause};
+ghost use Rattle.fsfs_model.specs.Edits.{parent};
+ghost use Rattle.fsfs_revision.specs.Told.{Keeps};
+ghost use Rattle.fsfs_draft.specs.Causes.{HasDiskCause, HasBenchCause};
 ghost use Rattle.fsfs_txn.specs.Seeing.{TakesAt, AboveFrom, SeesAbove};
 
 use crate::seeing::{Seen, seen_on};
 use fsfs_base::{FsPath, Kind};
-use fsfs_book::Book;
-use fsfs_own::{EditError, Own, Step, next};
+use fsfs_draft::{EditError, Own, Step, next};
+use fsfs_revision::Book;
 use std::alloc::Global;
 
 /// What stands above a path.

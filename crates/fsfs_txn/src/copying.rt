@@ -1,9 +1,9 @@
 //! Copies.
 ghost use Rattle.std.specs.Prelude.{◌≡◌, ◌++◌, ◌∷◌, [], None};
-ghost use Rattle.fsfs_book.specs.Told.{Keeps};
-ghost use Rattle.fsfs_flat.specs.Edits.{parent};
-ghost use Rattle.fsfs_held.specs.Written.{HasFiles};
-ghost use Rattle.fsfs_own.specs.Causes as causes;
+ghost use Rattle.fsfs_revision.specs.Told.{Keeps};
+ghost use Rattle.fsfs_model.specs.Edits.{parent};
+ghost use Rattle.fsfs_txn_nodes.specs.HeldWritten.{HasFiles};
+ghost use Rattle.fsfs_draft.specs.Causes as causes;
 ghost use Rattle.fsfs_txn.specs.Spending.{IsSpentAfter, IsCounted, StaysSpent, HasDiskCause, HasBenchCause};
 ghost use Rattle.fsfs_txn.specs.Copying.{outcome_of, is_copied, barred_by, CopiesIn, Copies, MeetsCopying};
 
@@ -12,13 +12,12 @@ use crate::paths::last_name;
 use crate::sources::{Source, is_plain, source_at};
 use crate::txn::Txn;
 use crate::txn_error::TxnError;
-use fsfs_base::FsPath;
-use fsfs_book::Book;
+use fsfs_base::{FsPath, RevNum};
+use fsfs_draft::{EditError, Own, Step};
 use fsfs_edit::copy_at;
-use fsfs_fields::RevNum;
-use fsfs_held::OwnFiles;
 use fsfs_noderev::CopySource;
-use fsfs_own::{EditError, Own, Step};
+use fsfs_revision::Book;
+use fsfs_txn_nodes::OwnFiles;
 use std::alloc::Global;
 
 /// What became of a copy: it was put, or why it can't be.

@@ -1,9 +1,9 @@
 //! Deletes.
 ghost use Rattle.std.specs.Prelude.{◌≡◌, ◌++◌, ◌∷◌, [], None};
-ghost use Rattle.fsfs_book.specs.Told.{Keeps};
-ghost use Rattle.fsfs_flat.specs.Edits.{parent};
-ghost use Rattle.fsfs_held.specs.Written.{HasFiles};
-ghost use Rattle.fsfs_own.specs.Causes as causes;
+ghost use Rattle.fsfs_revision.specs.Told.{Keeps};
+ghost use Rattle.fsfs_model.specs.Edits.{parent};
+ghost use Rattle.fsfs_txn_nodes.specs.HeldWritten.{HasFiles};
+ghost use Rattle.fsfs_draft.specs.Causes as causes;
 ghost use Rattle.fsfs_txn.specs.Spending.{IsSpentAfter, IsCounted, StaysSpent, HasDiskCause, HasBenchCause};
 ghost use Rattle.fsfs_txn.specs.Deleting.{is_deleted, outcome_of, Deletes, MeetsDeleting};
 
@@ -12,10 +12,10 @@ use crate::paths::last_name;
 use crate::txn::Txn;
 use crate::txn_error::TxnError;
 use fsfs_base::FsPath;
-use fsfs_book::Book;
+use fsfs_draft::{EditError, Own};
 use fsfs_edit::{Gone, delete_at};
-use fsfs_held::OwnFiles;
-use fsfs_own::{EditError, Own};
+use fsfs_revision::Book;
+use fsfs_txn_nodes::OwnFiles;
 use std::alloc::Global;
 
 /// What became of a delete: it was done, or why it can't be.

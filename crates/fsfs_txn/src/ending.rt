@@ -5,8 +5,8 @@ ghost use Rattle.fsfs_base.specs.Failures.{HasCause};
 use crate::txn::Txn;
 use fsfs_base::Failed;
 use fsfs_disk::Bench;
-use fsfs_held::HeldNodes;
-use fsfs_own::Own;
+use fsfs_draft::Own;
+use fsfs_txn_nodes::HeldNodes;
 
 impl<N: Own> Txn<N> {
     /// Its own node-revisions, as they are.

@@ -1,9 +1,9 @@
 //! What stands at a path.
 ghost use Rattle.std.specs.Prelude.{◌≡◌, ℕ, None};
-ghost use Rattle.fsfs_fields.specs.declared.txn_name.TxnName.{TxnName};
-ghost use Rattle.fsfs_book.specs.Told.{Keeps};
-ghost use Rattle.fsfs_drafts.specs.Drafts.{Folder};
-ghost use Rattle.fsfs_own.specs.Causes as causes;
+ghost use Rattle.fsfs_base.specs.declared.txn_name.TxnName.{TxnName};
+ghost use Rattle.fsfs_revision.specs.Told.{Keeps};
+ghost use Rattle.fsfs_draft.specs.Drafts.{Folder};
+ghost use Rattle.fsfs_draft.specs.Causes as causes;
 ghost use Rattle.fsfs_txn.specs.Spending.{IsSpentAfter, StaysSpent, HasDiskCause, HasBenchCause};
 ghost use Rattle.fsfs_txn.specs.Getting.{ReadsProps, Gets, MeetsGetting};
 ghost use Rattle.fsfs_txn.specs.GettingTexts.{GetsText, MeetsGettingText};
@@ -12,10 +12,10 @@ use crate::node_texts::text_of;
 use crate::txn::Txn;
 use crate::txn_error::TxnError;
 use fsfs_base::{FsPath, Kind, Pairs};
-use fsfs_book::Book;
 use fsfs_dag::{PlacedNode, props};
+use fsfs_draft::{EditError, Found, Own, Step, met, properties_in, root_id};
 use fsfs_noderev::{NodeId, Rep};
-use fsfs_own::{EditError, Found, Own, Step, met, properties_in, root_id};
+use fsfs_revision::Book;
 use std::alloc::Global;
 
 /// What stands at a path.

@@ -1,10 +1,10 @@
 //! New directories and files.
 ghost use Rattle.std.specs.Prelude.{◌≡◌, ◌++◌, ◌∷◌, [], None};
 ghost use Rattle.fsfs_base.specs.declared.kind.Kind.TheVariants as kinds;
-ghost use Rattle.fsfs_book.specs.Told.{Keeps};
-ghost use Rattle.fsfs_flat.specs.Edits.{parent};
-ghost use Rattle.fsfs_held.specs.Written.{HasFiles};
-ghost use Rattle.fsfs_own.specs.Causes as causes;
+ghost use Rattle.fsfs_revision.specs.Told.{Keeps};
+ghost use Rattle.fsfs_model.specs.Edits.{parent};
+ghost use Rattle.fsfs_txn_nodes.specs.HeldWritten.{HasFiles};
+ghost use Rattle.fsfs_draft.specs.Causes as causes;
 ghost use Rattle.fsfs_txn.specs.Spending.{IsSpentAfter, IsCounted, StaysSpent, HasDiskCause, HasBenchCause};
 ghost use Rattle.fsfs_txn.specs.Making.{outcome_of, is_made, Makes, MeetsMaking};
 
@@ -13,10 +13,10 @@ use crate::paths::last_name;
 use crate::txn::Txn;
 use crate::txn_error::TxnError;
 use fsfs_base::{FsPath, Kind};
-use fsfs_book::Book;
+use fsfs_draft::{EditError, Own};
 use fsfs_edit::make_at;
-use fsfs_held::OwnFiles;
-use fsfs_own::{EditError, Own};
+use fsfs_revision::Book;
+use fsfs_txn_nodes::OwnFiles;
 use std::alloc::Global;
 
 /// What became of a new node: it was made, or why it can't be.

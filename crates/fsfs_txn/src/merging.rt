@@ -1,19 +1,19 @@
 //! Merges with later revisions.
 ghost use Rattle.std.specs.Prelude.{◌≡◌, Ok, None};
-ghost use Rattle.fsfs_book.specs.Told.{Keeps};
-ghost use Rattle.fsfs_held.specs.Written.{HasFiles};
-ghost use Rattle.fsfs_own.specs.Causes as causes;
-ghost use Rattle.fsfs_land.specs.declared.land.Outcome.TheVariants.{Landed};
+ghost use Rattle.fsfs_revision.specs.Told.{Keeps};
+ghost use Rattle.fsfs_txn_nodes.specs.HeldWritten.{HasFiles};
+ghost use Rattle.fsfs_draft.specs.Causes as causes;
+ghost use Rattle.fsfs_merge.specs.declared.land.Outcome.TheVariants.{Landed};
 ghost use Rattle.fsfs_txn.specs.Spending.{IsSpentAfter, StaysSpent, HasDiskCause, HasBenchCause};
 ghost use Rattle.fsfs_txn.specs.Merging.{Merges, MeetsMerging, IsLandedOn};
 
 use crate::txn::Txn;
 use crate::txn_error::TxnError;
-use fsfs_book::Book;
-use fsfs_fields::RevNum;
-use fsfs_held::OwnFiles;
-use fsfs_land::{Outcome, Relink, merge};
-use fsfs_own::{EditError, Own};
+use fsfs_base::RevNum;
+use fsfs_draft::{EditError, Own};
+use fsfs_merge::{Outcome, Relink, merge};
+use fsfs_revision::Book;
+use fsfs_txn_nodes::OwnFiles;
 use std::alloc::Global;
 
 // Merges. What an earlier failure left unsettled is forgotten first.

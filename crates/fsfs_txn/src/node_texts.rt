@@ -1,11 +1,11 @@
 //! The text of what a walk came to.
 ghost use Rattle.std.specs.Prelude.{◌≡◌, ℕ};
-ghost use Rattle.fsfs_own.specs.Causes as causes;
+ghost use Rattle.fsfs_draft.specs.Causes as causes;
 ghost use Rattle.fsfs_txn.specs.GettingTexts.{rep_of, ReadsText};
 
 use fsfs_base::Kind;
+use fsfs_draft::{EditError, Own, Step};
 use fsfs_noderev::{Contents, NodeId, NodeRev, Rep};
-use fsfs_own::{EditError, Own, Step};
 
 // The representation of a node-revision's text; a directory has none.
 fn text_in(node: &NodeRev) -> Option<Rep>

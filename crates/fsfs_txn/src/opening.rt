@@ -2,13 +2,13 @@
 ghost use Rattle.std.specs.Prelude.{◌≡◌, ◌≤◌, ℕ, List, None};
 ghost use Rattle.fsfs_tree.specs.Nodes.{TreeFunction};
 ghost use Rattle.fsfs_tree.specs.Trees.{IsTree};
-ghost use Rattle.fsfs_flat.specs.declared.mark.Mark.{Mark};
-ghost use Rattle.fsfs_drafts.specs.Drafts.{ShowTrees};
-ghost use Rattle.fsfs_drafts.specs.Edits.{IsDraftAfter};
-ghost use Rattle.fsfs_book.specs.Told.{RevisionBytes, Knows, Keeps};
-ghost use Rattle.fsfs_own.specs.Causes as causes;
-ghost use Rattle.fsfs_opened.specs.Knowing.{AreKnown};
-ghost use Rattle.fsfs_opened.specs.Leading.{Leads};
+ghost use Rattle.fsfs_model.specs.declared.mark.Mark.{Mark};
+ghost use Rattle.fsfs_draft.specs.Drafts.{ShowTrees};
+ghost use Rattle.fsfs_draft.specs.Edits.{IsDraftAfter};
+ghost use Rattle.fsfs_revision.specs.Told.{RevisionBytes, Knows, Keeps};
+ghost use Rattle.fsfs_draft.specs.Causes as causes;
+ghost use Rattle.fsfs_txn.specs.Knowing.{AreKnown};
+ghost use Rattle.fsfs_txn.specs.OpenedLeading.{Leads};
 ghost use Rattle.fsfs_txn.specs.Spending.{IsSpentAfter, StaysSpent, HasDiskCause, HasBenchCause};
 ghost use Rattle.fsfs_txn.specs.Leading.{OpensLeading};
 ghost use Rattle.fsfs_txn.specs.Opening.{OpensPath, MeetsOpening, IfOpenedPath};
@@ -16,10 +16,10 @@ ghost use Rattle.fsfs_txn.specs.Opening.{OpensPath, MeetsOpening, IfOpenedPath};
 use crate::seeing::{Seen, seen_on};
 use crate::txn::Txn;
 use crate::txn_error::TxnError;
+use crate::{Opening, Way, open_at};
 use fsfs_base::{FsPath, Kind};
-use fsfs_book::Book;
-use fsfs_opened::{Opening, Way, open_at};
-use fsfs_own::{EditError, Own};
+use fsfs_draft::{EditError, Own};
+use fsfs_revision::Book;
 use std::alloc::Global;
 
 /// A node of a transaction that was opened: the way to it, with what is known of the revisions on it, how many moves the transaction

@@ -1,9 +1,9 @@
 //! Properties set or removed at what was opened.
 ghost use Rattle.std.specs.Prelude.{◌≡◌, None};
-ghost use Rattle.fsfs_held.specs.Written.{HasFiles};
-ghost use Rattle.fsfs_own.specs.Causes as causes;
-ghost use Rattle.fsfs_opened.specs.Leading as leading;
-ghost use Rattle.fsfs_opened.specs.Properties.{MeetsPutProp};
+ghost use Rattle.fsfs_txn_nodes.specs.HeldWritten.{HasFiles};
+ghost use Rattle.fsfs_draft.specs.Causes as causes;
+ghost use Rattle.fsfs_txn.specs.OpenedLeading as leading;
+ghost use Rattle.fsfs_txn.specs.OpenedProperties.{MeetsPutProp};
 ghost use Rattle.fsfs_txn.specs.Leading.{LacksNothing, LeadStill};
 ghost use Rattle.fsfs_txn.specs.Spending.{IsSpentAfter, StaysSpent, HasBenchCause};
 ghost use Rattle.fsfs_txn.specs.Properties.{is_mergeinfo, outcome_of, MeetsSettingProp, IsStaleProp};
@@ -11,10 +11,10 @@ ghost use Rattle.fsfs_txn.specs.Properties.{is_mergeinfo, outcome_of, MeetsSetti
 use crate::opening::Opened;
 use crate::txn::Txn;
 use crate::txn_error::TxnError;
-use fsfs_fields::PropName;
-use fsfs_held::OwnFiles;
-use fsfs_opened::{PropertyPut, Way, put_property};
-use fsfs_own::{EditError, Own};
+use crate::{PropertyPut, Way, put_property};
+use fsfs_base::PropName;
+use fsfs_draft::{EditError, Own};
+use fsfs_txn_nodes::OwnFiles;
 use std::alloc::Global;
 
 /// What became of a property: it was set or removed, or why it can't be.

@@ -2,18 +2,18 @@
 ghost use Rattle.std.specs.Prelude.{◌≡◌, ◌≤◌, [], ℕ, Some};
 ghost use Rattle.fsfs_base.specs.declared.kind.Kind.TheVariants.{Dir};
 ghost use Rattle.fsfs_tree.specs.Nodes.{TreeFunction};
-ghost use Rattle.fsfs_book.specs.Told.{RevisionBytes, Knows, Keeps};
-ghost use Rattle.fsfs_drafts.specs.Own.{Own as Owns, OwnNode, draft_tree};
-ghost use Rattle.fsfs_drafts.specs.Drafts.{IsDraft, ShowTrees};
-ghost use Rattle.fsfs_own.specs.Causes.{HasDiskCause, HasBenchCause};
+ghost use Rattle.fsfs_revision.specs.Told.{RevisionBytes, Knows, Keeps};
+ghost use Rattle.fsfs_draft.specs.Own.{Own as Owns, OwnNode, draft_tree};
+ghost use Rattle.fsfs_draft.specs.Drafts.{IsDraft, ShowTrees};
+ghost use Rattle.fsfs_draft.specs.Causes.{HasDiskCause, HasBenchCause};
 ghost use Rattle.fsfs_txn.specs.Mergeinfo.{has_counts};
 ghost use Rattle.fsfs_txn.specs.Seeing.{counts_with, IsBaseCounts, IsSeen, Sees};
 
 use fsfs_base::{FsPath, Kind};
-use fsfs_book::Book;
 use fsfs_dag::named_node;
+use fsfs_draft::{Child, EditError, Own, Step, next, root_id};
 use fsfs_noderev::{NodeId, NodeRev};
-use fsfs_own::{Child, EditError, Own, Step, next, root_id};
+use fsfs_revision::Book;
 use std::alloc::Global;
 
 /// What stands at a path.

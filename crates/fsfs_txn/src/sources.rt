@@ -1,15 +1,15 @@
 //! The source of a copy, and whether it has counts of mergeinfo.
 ghost use Rattle.std.specs.Prelude.{◌≡◌, ℕ};
-ghost use Rattle.fsfs_book.specs.Told.{Keeps};
-ghost use Rattle.fsfs_own.specs.Causes.{HasDiskCause, HasBenchCause};
+ghost use Rattle.fsfs_revision.specs.Told.{Keeps};
+ghost use Rattle.fsfs_draft.specs.Causes.{HasDiskCause, HasBenchCause};
 ghost use Rattle.fsfs_txn.specs.Sources.{is_plain, FindsSource};
 
 use crate::seeing::has_counts;
-use fsfs_book::Book;
+use fsfs_base::RevNum;
 use fsfs_dag::{Met, node_at};
-use fsfs_fields::RevNum;
+use fsfs_draft::EditError;
 use fsfs_noderev::CopySource;
-use fsfs_own::EditError;
+use fsfs_revision::Book;
 use std::alloc::Global;
 
 /// What stands where a copy is to be taken.

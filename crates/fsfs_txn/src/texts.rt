@@ -1,9 +1,9 @@
 //! Texts put at what was opened.
 ghost use Rattle.std.specs.Prelude.{◌≡◌, None, true};
-ghost use Rattle.fsfs_held.specs.Written.{HasFiles};
-ghost use Rattle.fsfs_opened.specs.Failing as failing;
-ghost use Rattle.fsfs_opened.specs.Leading as leading;
-ghost use Rattle.fsfs_opened.specs.Texts.{MeetsPut};
+ghost use Rattle.fsfs_txn_nodes.specs.HeldWritten.{HasFiles};
+ghost use Rattle.fsfs_txn.specs.Failing as failing;
+ghost use Rattle.fsfs_txn.specs.OpenedLeading as leading;
+ghost use Rattle.fsfs_txn.specs.OpenedTexts.{MeetsPut};
 ghost use Rattle.fsfs_txn.specs.Leading.{LacksNothing, LeadStill};
 ghost use Rattle.fsfs_txn.specs.Spending.{IsSpentAfter, StaysSpent};
 ghost use Rattle.fsfs_txn.specs.Texts.{outcome_of, counted_text, MeetsPuttingText, IsStaleText, HasSourceRise, HasBenchRise};
@@ -11,12 +11,10 @@ ghost use Rattle.fsfs_txn.specs.Texts.{outcome_of, counted_text, MeetsPuttingTex
 use crate::opening::Opened;
 use crate::txn::Txn;
 use crate::txn_error::TxnError;
-use fsfs_base::Kind;
-use fsfs_fields::HexDigest;
-use fsfs_held::OwnTexts;
-use fsfs_opened::{TextPut, Way, put_text};
-use fsfs_own::{EditError, Own};
-use fsfs_streams::Source;
+use crate::{TextPut, Way, put_text};
+use fsfs_base::{HexDigest, Kind, Source};
+use fsfs_draft::{EditError, Own};
+use fsfs_txn_nodes::OwnTexts;
 use std::alloc::Global;
 
 /// What became of a text: it was put, or why it can't be.

@@ -4,9 +4,8 @@ ghost use Rattle.fsfs_txn.specs.Spending.{IsReady, spends};
 ghost use Rattle.fsfs_txn.specs.declared.txn_error.TxnError.TheVariants.{Fault};
 
 use crate::txn_error::TxnError;
-use fsfs_base::Failed;
-use fsfs_fields::{RevNum, TxnName};
-use fsfs_own::{EditError, Own};
+use fsfs_base::{Failed, RevNum, TxnName};
+use fsfs_draft::{EditError, Own};
 
 /// A transaction: edits on a revision, its base, kept by its own node-revisions. It stands for its base, its tree and its marks.
 #[derive(Drop)]

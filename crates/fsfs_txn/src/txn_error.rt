@@ -1,6 +1,6 @@
 //! Why a call of a transaction gave nothing.
 use fsfs_base::Failed;
-use fsfs_own::EditError;
+use fsfs_draft::EditError;
 use thiserror::Error;
 
 /// Why a call of a transaction gave nothing.

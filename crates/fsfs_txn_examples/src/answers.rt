@@ -1,6 +1,6 @@
 // What the calls of a transaction answer.
 use fsfs_base::FsPath;
-use fsfs_escapes::Transcript;
+use fsfs_memory::Transcript;
 use fsfs_noderev::CopySource;
 use fsfs_txn::{Copied, Deleted, Made, PropertySet, TextSet};
 use std::alloc::Global;

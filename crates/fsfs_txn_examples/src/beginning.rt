@@ -9,10 +9,10 @@ use crate::faults::say_begin_fault;
 use crate::words::rev_of;
 use fsfs_begin::{Begun, begin};
 use fsfs_disk::{Bench, Disk};
-use fsfs_escapes::Transcript;
-use fsfs_fields::{RevNum, TxnName, put_txn_name};
+use fsfs_memory::Transcript;
+use fsfs_base::{RevNum, TxnName, put_txn_name};
 use fsfs_layout::Opened;
-use fsfs_repo::open;
+use fsfs_create::open;
 use fsfs_txn::Txn;
 use std::alloc::Global;
 

@@ -1,9 +1,9 @@
 // A book over the files of a disk, and transactions over a bench.
 use fsfs_disk::Disk;
-use fsfs_escapes::Transcript;
+use fsfs_memory::Transcript;
 use fsfs_fetch::{Direct, OwnedReads, over_disk};
-use fsfs_held::HeldNodes;
-use fsfs_repo::open;
+use fsfs_txn_nodes::HeldNodes;
+use fsfs_create::open;
 use fsfs_txn::Txn;
 use std::alloc::Global;
 

@@ -2,9 +2,9 @@
 use crate::book::HeldTxn;
 use crate::words::cut;
 use crate::{edits, reading, texts};
-use fsfs_book::Book;
+use fsfs_revision::Book;
 use fsfs_disk::Bench;
-use fsfs_escapes::Transcript;
+use fsfs_memory::Transcript;
 use fsfs_txn::Opened;
 use std::alloc::Global;
 

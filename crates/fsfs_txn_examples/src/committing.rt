@@ -3,13 +3,13 @@ use crate::book::HeldTxn;
 use crate::faults::say_final_error;
 use fsfs_base::{Failed, Name};
 use fsfs_disk::Disk;
-use fsfs_escapes::Transcript;
-use fsfs_fields::RevNum;
-use fsfs_final_bytes::final_bytes;
+use fsfs_memory::Transcript;
+use fsfs_base::RevNum;
+use fsfs_commit::final_bytes;
 use fsfs_layout::{Layout, OnlyFile, RepositoryFile, write_current};
-use fsfs_memdisk::{MemBench, MemDisk};
-use fsfs_memstreams::MemSink;
-use fsfs_own::Own;
+use fsfs_memory::{MemBench, MemDisk};
+use fsfs_memory::MemSink;
+use fsfs_draft::Own;
 use std::alloc::Global;
 
 // The name of a transaction's prototype file in its bench.

@@ -22,7 +22,7 @@ mod texts;
 mod words;
 
 use anyhow::{Result, bail};
-use fsfs_escapes::Transcript;
+use fsfs_memory::Transcript;
 use std::env::args;
 use std::io;
 

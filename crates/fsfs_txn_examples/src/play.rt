@@ -1,6 +1,6 @@
 // A whole text of examples.
 use crate::stage::Stage;
-use fsfs_escapes::Transcript;
+use fsfs_memory::Transcript;
 use std::alloc::{AllocError, Global};
 use std::sync::Wait;
 use std::thread::Threads;

@@ -4,9 +4,9 @@ use crate::book::HeldTxn;
 use crate::faults::say_txn_error;
 use crate::words::{cut, prop_name_of, text_of};
 use fsfs_disk::Bench;
-use fsfs_escapes::Transcript;
-use fsfs_fields::HexDigest;
-use fsfs_memstreams::MemSource;
+use fsfs_memory::Transcript;
+use fsfs_base::HexDigest;
+use fsfs_memory::MemSource;
 use fsfs_txn::Opened;
 use std::alloc::Global;
 

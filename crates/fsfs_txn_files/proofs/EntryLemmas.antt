@@ -11,8 +11,8 @@ use Rattle.std.specs.FinMap.{slice_cmp-IsAntisymmetric, nat_cmp-IsAntisymmetric}
 use Rattle.std.proofs.lemmas.List.{take_more, map_push}
 use Rattle.fsfs_base.specs.Paths.{PathName, same_name}
 use Rattle.fsfs_base.proofs.PathLemmas.{same_name-refl, same_name-is}
-use Rattle.fsfs_hash.specs.Dump.{Ascending}
-use Rattle.fsfs_shows.specs.Reading.{Pairs, DirEntry, named}
+use Rattle.fsfs_layout.specs.Dump.{Ascending}
+use Rattle.fsfs_revision.specs.ShowsReading.{Pairs, DirEntry, named}
 use Rattle.fsfs_dag.specs.declared.directory.DirEntry.{DirEntry as Listed}
 use Rattle.fsfs_dag.specs.Views.{entry_value, entry_values}
 use Rattle.fsfs_txn_files.specs.Children.{IsEntryText, SaysEntry, LeadTo, HasTaken}

@@ -1,3 +1,8 @@
+pub mod Longer
+pub mod SourceLemmas
+pub mod TextLemmas
+pub mod Steps
+pub mod ReadBack
 pub mod PartLemmas
 pub mod NameLemmas
 pub mod EntryLemmas

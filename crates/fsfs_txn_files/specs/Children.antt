@@ -8,9 +8,9 @@ use Rattle.fsfs_base.specs.Paths.{PathName, same_name}
 use Rattle.fsfs_base.specs.declared.kind.Kind.{Kind}
 use Rattle.fsfs_noderev.specs.Fields.{IsIdText}
 use Rattle.fsfs_noderev.specs.declared.node_id.NodeId.{NodeId}
-use Rattle.fsfs_hash.specs.Dump.{Field, Pair, IsDump, dump_text}
-use Rattle.fsfs_hash.specs.Children.{IsChildren}
-use Rattle.fsfs_shows.specs.Reading.{Pairs, DirEntry, kind_word, named}
+use Rattle.fsfs_layout.specs.Dump.{Field, Pair, IsDump, dump_text}
+use Rattle.fsfs_layout.specs.Children.{IsChildren}
+use Rattle.fsfs_revision.specs.ShowsReading.{Pairs, DirEntry, kind_word, named}
 
 -- ---- entries as pairs
 

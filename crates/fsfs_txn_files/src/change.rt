@@ -2,7 +2,7 @@
 ghost use Rattle.std.specs.Prelude.{IfOk};
 ghost use Rattle.fsfs_layout.specs.Small.{IsNextIds};
 ghost use Rattle.fsfs_noderev.specs.Writing.{HasText as HasNodeText};
-ghost use Rattle.fsfs_changes.specs.Items.{HasText, IsItem};
+ghost use Rattle.fsfs_noderev.specs.Items.{HasText, IsItem};
 ghost use Rattle.fsfs_dag.specs.Views.{entry_values};
 ghost use Rattle.fsfs_txn_files.specs.Changes.{IsChange};
 ghost use Rattle.fsfs_txn_files.specs.Children.{IsWholeList, IsPutRecord, IsTakenRecord};
@@ -13,11 +13,9 @@ ghost use Rattle.fsfs_txn_files.specs.declared.change.How.TheVariants.{Whole, At
 use crate::entries::{entry_pairs, entry_text};
 use crate::folder_file::FolderFile;
 use fsfs_base::{Kind, Pairs};
-use fsfs_changes::{ChangeItem, put_item};
 use fsfs_dag::DirEntry;
-use fsfs_hash::{add_entry, drop_entry, write_hash};
-use fsfs_layout::{NextIds as NextNumbers, write_next_ids};
-use fsfs_noderev::{NodeId, NodeRev, write_noderev};
+use fsfs_layout::{NextIds as NextNumbers, add_entry, drop_entry, write_hash, write_next_ids};
+use fsfs_noderev::{ChangeItem, NodeId, NodeRev, put_item, write_noderev};
 use std::alloc::{AllocError, Global};
 
 /// Where a text goes.

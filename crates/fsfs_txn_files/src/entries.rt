@@ -1,6 +1,6 @@
 //! The entries of a directory, as names with values.
 ghost use Rattle.std.specs.Prelude.{◌≡◌, ◌++◌, ◌∷◌, [], List, IfOk, OnOk};
-ghost use Rattle.fsfs_shows.specs.Reading.{DirEntry as Entry, kind_word as word_of};
+ghost use Rattle.fsfs_revision.specs.ShowsReading.{DirEntry as Entry, kind_word as word_of};
 ghost use Rattle.fsfs_dag.specs.Views.{entry_value, entry_values};
 ghost use Rattle.fsfs_txn_files.specs.Children.{IsEntryText, LeadTo};
 

@@ -1,6 +1,6 @@
 //! The node part and the copy part of an id, in the name of a file.
 ghost use Rattle.std.specs.Prelude.{◌≡◌, ◌≤◌, ◌<◌, ◌+◌, ◌++◌, length};
-ghost use Rattle.fsfs_grammar.specs.Base36.{glyph, last_digits};
+ghost use Rattle.fsfs_base.specs.Base36.{glyph, last_digits};
 ghost use Rattle.fsfs_noderev.specs.Ids.{part_value};
 ghost use Rattle.fsfs_txn_files.specs.FileNames.{part_text};
 
@@ -21,7 +21,7 @@ fn digit(d: u8) -> char
 }
 
 // Puts the last digits of a number in base 36 at the end. It takes no memory, as no name does.
-#[tactic(auto, unfolding(fsfs_grammar::specs::Base36::last_digits))]
+#[tactic(auto, unfolding(fsfs_base::specs::Base36::last_digits))]
 fn push_base36(name: &mut Name, digits: usize, number: u128)
     requires { length name.old + digits ≤ 128 }
     ensures text { name.new ≡ name.old ++ last_digits digits number }

@@ -2,7 +2,7 @@
 ghost use Rattle.std.specs.Prelude.{◌≡◌, IfErr, OnOk, IsOkAnd, option_map};
 ghost use Rattle.fsfs_layout.specs.Small.{IsNextIds};
 ghost use Rattle.fsfs_noderev.specs.Writing.{HasText as HasNodeText};
-ghost use Rattle.fsfs_changes.specs.Items.{HasText, IsItem};
+ghost use Rattle.fsfs_noderev.specs.Items.{HasText, IsItem};
 ghost use Rattle.fsfs_dag.specs.Views.{entry_values};
 ghost use Rattle.fsfs_txn_files.specs.Changes.{changed, IsPut, IsLeft, IsLeftBy, HasWriteCause};
 ghost use Rattle.fsfs_txn_files.specs.Children.{IsWholeList, IsPutRecord, IsTakenRecord};
@@ -13,11 +13,10 @@ ghost use Rattle.fsfs_txn_files.specs.declared.change.How.TheVariants.{Whole, At
 use crate::change::FileChange;
 use crate::write_error::WriteError;
 use fsfs_base::{Kind, Pairs};
-use fsfs_changes::ChangeItem;
 use fsfs_dag::DirEntry;
 use fsfs_disk::Bench;
 use fsfs_layout::NextIds as NextNumbers;
-use fsfs_noderev::{NodeId, NodeRev};
+use fsfs_noderev::{ChangeItem, NodeId, NodeRev};
 use std::alloc::{AllocError, Global};
 
 // Makes the change, if there was memory for it.

@@ -9,7 +9,7 @@ mod play;
 mod ways;
 
 use anyhow::Result;
-use fsfs_escapes::Transcript;
+use fsfs_memory::Transcript;
 use std::io;
 
 fn main(rt: HostRuntime) -> Result<()> {

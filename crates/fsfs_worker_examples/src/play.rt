@@ -1,7 +1,7 @@
 // A whole text of examples.
 use crate::example::{Example, play_way};
 use crate::ways::read_way;
-use fsfs_escapes::Transcript;
+use fsfs_memory::Transcript;
 use std::alloc::Global;
 use std::sync::Wait;
 use std::thread::Threads;

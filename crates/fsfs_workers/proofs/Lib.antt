@@ -1,3 +1,18 @@
+mod Parts
+mod Steps
+mod Lines
+mod Going
+mod Ending
+mod NoteLemmas
+mod Answered
+mod Histories
+mod EditLemmas
+mod Edited
+mod Shown
+mod Refusing
+mod Based
+mod Unbegun
+mod ReadLemmas
 pub mod InTurnLemmas
 pub mod Shares
 pub mod Sharing
@@ -5,3 +20,5 @@ pub mod Counting
 pub mod Both
 pub mod Readiness
 pub mod Ran
+mod Begun
+mod Ends

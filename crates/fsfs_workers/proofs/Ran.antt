@@ -17,20 +17,20 @@ use Rattle.fsfs_turn.specs.Past.{IsPart}
 use Rattle.fsfs_turn.specs.Views.{Begins, Looked}
 use Rattle.fsfs_turn.specs.Whole.{NamesFrom}
 use Rattle.fsfs_turn.proofs.Alone.{same_by_length}
-use Rattle.fsfs_seats.specs.declared.seat_view.Kin.{Kin}
-use Rattle.fsfs_seats.specs.declared.seat_view.SeatView.{SeatView}
-use Rattle.fsfs_seats.specs.Seats.{all_parts, alone, look_view, view_of}
-use Rattle.fsfs_seats.specs.Kinship.{all_own, own_in, AreOnce as AreSeatsOnce}
-use Rattle.fsfs_seats.proofs.Following.{grown_long}
-use Rattle.fsfs_shared_repo.specs.Left.{Leaves}
-use Rattle.fsfs_job_lines.specs.declared.job.Job.{Job}
+use Rattle.fsfs_pass.specs.declared.seat_view.Kin.{Kin}
+use Rattle.fsfs_pass.specs.declared.seat_view.SeatView.{SeatView}
+use Rattle.fsfs_pass.specs.Seats.{all_parts, alone, look_view, view_of}
+use Rattle.fsfs_pass.specs.Kinship.{all_own, own_in, AreOnce as AreSeatsOnce}
+use Rattle.fsfs_pass.proofs.Following.{grown_long}
+use Rattle.fsfs_repo.specs.Left.{Leaves}
+use Rattle.fsfs_script.specs.declared.job.Job.{Job}
 use Rattle.fsfs_jobs.specs.declared.answer.JobAnswer.{JobAnswer}
-use Rattle.fsfs_serial.specs.Jobs.{own_of_all}
-use Rattle.fsfs_beside.specs.Beside.{GoesOnFrom}
-use Rattle.fsfs_beside.specs.Lines.{AreOnce, JobLines, WorkerLines, dealt}
-use Rattle.fsfs_beside.specs.Passes.{IsOnward, last_known}
-use Rattle.fsfs_beside.proofs.BesideLemmas.{all_stay, begins_on}
-use Rattle.fsfs_job_command.specs.Runs.{AllStandFor, HoldsAll, IsPartOf}
+use Rattle.fsfs_job_run.specs.Jobs.{own_of_all}
+use Rattle.fsfs_job_run.specs.Beside.{GoesOnFrom}
+use Rattle.fsfs_job_run.specs.Lines.{AreOnce, JobLines, WorkerLines, dealt}
+use Rattle.fsfs_job_run.specs.Passes.{IsOnward, last_known}
+use Rattle.fsfs_job_run.proofs.BesideLemmas.{all_stay, begins_on}
+use Rattle.fsfs_job_run.specs.Runs.{AllStandFor, HoldsAll, IsPartOf}
 use Rattle.fsfs_workers.specs.Ready.{IsAtRest}
 use Rattle.fsfs_workers.specs.Two.{BothWorked, RanTwo}
 use Rattle.fsfs_workers.proofs.Shares.{shares_tell, shares_tell_once}

@@ -3,9 +3,9 @@ use Rattle.std.proofs.Common.{ℕ, Bool, refl}
 use Rattle.std.specs.Prelude.{Option}
 use Rattle.fsfs_disk.specs.Trace.{Trace}
 use Rattle.fsfs_layout.specs.declared.layout.Layout.{Layout}
-use Rattle.fsfs_seats.specs.declared.seat_view.SeatView.{SeatView}
-use Rattle.fsfs_seats.specs.Seats.{halved_view, numbered_view, split_pass}
-use Rattle.fsfs_seats.specs.Tells.{TellsIt}
+use Rattle.fsfs_pass.specs.declared.seat_view.SeatView.{SeatView}
+use Rattle.fsfs_pass.specs.Seats.{halved_view, numbered_view, split_pass}
+use Rattle.fsfs_pass.specs.Tells.{TellsIt}
 use Rattle.fsfs_workers.specs.Ready.{IsReady}
 
 pub halved_ready : (layout : Layout) (tells : Bool) (v : SeatView) → IsReady layout tells v → IsReady layout tells (halved_view v)

@@ -1,8 +1,8 @@
 //! Two workers beside each other.
 ghost use Rattle.std.specs.Prelude.{◌≡◌, ◌<◌, ◌≤◌, [], length, true, is_some, IfOk, OnErr};
 ghost use Rattle.std.specs.Vec.{vec_capacity};
-ghost use Rattle.fsfs_beside.specs.Lines.{dealt, disk_faults_in, RoseBy};
-ghost use Rattle.fsfs_serial.specs.Jobs.{bench_faults_in};
+ghost use Rattle.fsfs_job_run.specs.Lines.{dealt, disk_faults_in, RoseBy};
+ghost use Rattle.fsfs_job_run.specs.Jobs.{bench_faults_in};
 ghost use Rattle.fsfs_workers.specs.Ready.{IsAtRest, IsReady};
 ghost use Rattle.fsfs_workers.specs.Two.{BothWorked};
 ghost use Rattle.fsfs_workers.specs.OneWorker.{HasWorked};
@@ -10,14 +10,12 @@ ghost use Rattle.fsfs_workers.specs.OneWorker.{HasWorked};
 use crate::answers::{Rooms, in_order};
 use crate::share::Share;
 use crate::worker::work;
+use fsfs_base::{Gate, Note};
 use fsfs_disk::Disk;
-use fsfs_job_lines::Job;
 use fsfs_jobs::JobAnswer;
 use fsfs_layout::Layout;
-use fsfs_note::Note;
-use fsfs_pass::said_again;
-use fsfs_seats::{Board, SharedSeat, join, split};
-use fsfs_streams::Gate;
+use fsfs_pass::{Board, SharedSeat, join, said_again, split};
+use fsfs_script::Job;
 use std::alloc::{AllocError, Global};
 use std::sync::Wait;
 use std::thread;

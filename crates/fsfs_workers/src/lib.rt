@@ -1,11 +1,24 @@
+//! A job of a script, done by turns, beside others that may add revisions meanwhile.
 //! The jobs of a script, done by two workers beside each other, each by a pass of its own.
+//! `svnjobs` with two workers on a disk: the repository is opened, the script is read to its end, its jobs are done beside each other, and
+//! what became of them is printed.
 #![tactic(auto)]
 
 mod answers;
+mod bases;
 mod beside;
+mod committing;
+mod editing;
+mod job;
+mod noting;
+mod reading;
 mod run;
+mod running;
+mod seeing;
 mod share;
 mod worker;
 
 pub use beside::do_beside;
+pub use job::do_job;
 pub use run::{WorkDone, run_two};
+pub use running::run_script_by_two;

@@ -2,20 +2,19 @@
 ghost use Rattle.std.specs.Prelude.{◌≡◌, ◌≤◌, [], length, true, Some, is_some, IfOk, OnErr};
 ghost use Rattle.fsfs_disk.specs.Trace.{Trace};
 ghost use Rattle.fsfs_machine.specs.Machine.{revisions};
-ghost use Rattle.fsfs_seats.specs.Seats.{alone};
-ghost use Rattle.fsfs_beside.specs.Lines.{disk_faults_in, RoseBy};
-ghost use Rattle.fsfs_serial.specs.Jobs.{bench_faults_in};
+ghost use Rattle.fsfs_pass.specs.Seats.{alone};
+ghost use Rattle.fsfs_job_run.specs.Lines.{disk_faults_in, RoseBy};
+ghost use Rattle.fsfs_job_run.specs.Jobs.{bench_faults_in};
 ghost use Rattle.fsfs_workers.specs.Ready.{IsReady};
 ghost use Rattle.fsfs_workers.specs.Two.{RanTwo};
 
 use crate::beside::do_beside;
+use fsfs_base::{Gate, RevNum};
 use fsfs_disk::Disk;
-use fsfs_fields::RevNum;
-use fsfs_job_lines::Job;
 use fsfs_jobs::JobAnswer;
-use fsfs_seats::{SharedSeat, look};
-use fsfs_shared_repo::SharedRepo;
-use fsfs_streams::Gate;
+use fsfs_pass::{SharedSeat, look};
+use fsfs_repo::SharedRepo;
+use fsfs_script::Job;
 use std::alloc::{AllocError, Global};
 use std::sync::Wait;
 use std::thread::Threads;

@@ -2,15 +2,15 @@
 ghost use Rattle.std.specs.Prelude.{◌≡◌, ◌+◌, ◌<◌, ◌≤◌, [], length, true, false, None};
 ghost use Rattle.std.specs.Vec.{vec_capacity};
 ghost use Rattle.fsfs_turn.specs.Views.{View};
-ghost use Rattle.fsfs_beside.specs.Lines.{dealt, disk_faults_in, RoseBy};
-ghost use Rattle.fsfs_beside.specs.Passes.{WorkedSo};
-ghost use Rattle.fsfs_serial.specs.Jobs.{bench_faults_in};
+ghost use Rattle.fsfs_job_run.specs.Lines.{dealt, disk_faults_in, RoseBy};
+ghost use Rattle.fsfs_job_run.specs.Passes.{WorkedSo};
+ghost use Rattle.fsfs_job_run.specs.Jobs.{bench_faults_in};
 
-use fsfs_job_lines::Job;
+use crate::do_job;
+use fsfs_base::{Gate, GatePlace};
+use fsfs_job_run::JobGate;
 use fsfs_jobs::JobAnswer;
-use fsfs_pass_jobs::do_job;
-use fsfs_serial::JobGate;
-use fsfs_streams::{Gate, GatePlace};
+use fsfs_script::Job;
 use fsfs_turn::Turns;
 use std::alloc::Global;
 

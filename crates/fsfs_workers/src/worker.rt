@@ -1,19 +1,17 @@
 //! A worker: a pass at the table that does its share of the jobs.
 ghost use Rattle.std.specs.Prelude.{◌≡◌, ◌<◌, ◌≤◌, [], length, is_some};
 ghost use Rattle.std.specs.Vec.{vec_capacity};
-ghost use Rattle.fsfs_beside.specs.Lines.{dealt};
+ghost use Rattle.fsfs_job_run.specs.Lines.{dealt};
 ghost use Rattle.fsfs_workers.specs.Ready.{IsReady};
 ghost use Rattle.fsfs_workers.specs.OneWorker.{HasWorked};
 
 use crate::share::{Share, do_share};
+use fsfs_base::{Gate, Note};
 use fsfs_disk::Disk;
-use fsfs_job_lines::Job;
 use fsfs_jobs::JobAnswer;
 use fsfs_layout::Layout;
-use fsfs_note::Note;
-use fsfs_pass::PassTurns;
-use fsfs_seats::{Board, SharedSeat};
-use fsfs_streams::Gate;
+use fsfs_pass::{Board, PassTurns, SharedSeat};
+use fsfs_script::Job;
 use std::alloc::Global;
 use std::sync::Wait;
 

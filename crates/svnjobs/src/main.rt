@@ -1,8 +1,7 @@
 //! Commits the transactions of a job script: `svnjobs REPOS [-j N]`.
 #![tactic(auto)]
 
-use fsfs_run::run;
-use fsfs_top::Tool;
+use fsfs_run::{Tool, run};
 use std::process::ExitCode;
 
 fn main(rt: HostRuntime) -> ExitCode {

@@ -1,6 +1,6 @@
 use Rattle.std.proofs.Common.{arith}
 use Rattle.fsfs_disk.specs.Trace.{files_now}
-use Rattle.fsfs_rev_file.specs.RevBytes.{rev_bytes}
+use Rattle.fsfs_revision.specs.RevBytes.{rev_bytes}
 use Rattle.fsfs_begin.proofs.beginning.base_root.Goals as goal
 
 pub returns-clause-told : goal.returns-clause-told

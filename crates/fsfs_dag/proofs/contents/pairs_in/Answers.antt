@@ -2,9 +2,9 @@ use Rattle.std.proofs.Common.{ℕ, List, subst}
 use Rattle.std.proofs.lemmas.Result.{err_from_is_err_and}
 use Rattle.std.specs.declared.vec.Vec.{Vec}
 use Rattle.std.specs.declared.alloc.Global.{Global}
-use Rattle.fsfs_damage.specs.Readings.{Answers}
-use Rattle.fsfs_shows.specs.Reading.{RepAt, PairsIn}
-use Rattle.fsfs_damage.proofs.Answering.{stops, goes_on}
+use Rattle.fsfs_revision.specs.Readings.{Answers}
+use Rattle.fsfs_revision.specs.ShowsReading.{RepAt, PairsIn}
+use Rattle.fsfs_revision.proofs.Answering.{stops, goes_on}
 use Rattle.fsfs_dag.proofs.contents.pairs_in.Goals as goal
 
 abbrev Pairs : Type 0

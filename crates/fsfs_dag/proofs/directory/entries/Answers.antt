@@ -2,12 +2,12 @@ use Rattle.std.proofs.Common.{[], ℕ, List, Err, ap, subst}
 use Rattle.std.proofs.lemmas.Result.{err_from_is_err_and}
 use Rattle.std.specs.declared.vec.Vec.{Vec}
 use Rattle.std.specs.declared.alloc.Global.{Global}
-use Rattle.fsfs_damage.specs.declared.damage.RevOffset.{RevOffset}
-use Rattle.fsfs_damage.specs.Readings.{AndThen, Answers}
-use Rattle.fsfs_shows.specs.Reading.{RepAt, PairsIn, PairsAt, EntriesIn, EntriesAt}
+use Rattle.fsfs_revision.specs.declared.damage.RevOffset.{RevOffset}
+use Rattle.fsfs_revision.specs.Readings.{AndThen, Answers}
+use Rattle.fsfs_revision.specs.ShowsReading.{RepAt, PairsIn, PairsAt, EntriesIn, EntriesAt}
 use Rattle.fsfs_dag.specs.declared.directory.DirEntry.{DirEntry}
 use Rattle.fsfs_dag.specs.Views.{home_of, entry_values}
-use Rattle.fsfs_damage.proofs.Answering.{stops}
+use Rattle.fsfs_revision.proofs.Answering.{stops}
 use Rattle.fsfs_dag.proofs.PairLemmas.{Pair, entries_seen, goes_on_through}
 use Rattle.fsfs_dag.proofs.Reps.{rep_le, contents_some, contents_none}
 use Rattle.fsfs_dag.proofs.directory.entries.Goals as goal

@@ -1,9 +1,9 @@
 use Rattle.std.proofs.Common.{Err}
 use Rattle.std.proofs.lemmas.Result.{err_from_is_err_and}
-use Rattle.fsfs_shows.specs.Reading.{OfId, HasKind}
+use Rattle.fsfs_revision.specs.ShowsReading.{OfId, HasKind}
 use Rattle.fsfs_dag.specs.declared.node.PlacedNode.{PlacedNode}
 use Rattle.fsfs_dag.specs.Views.{entry_value}
-use Rattle.fsfs_damage.proofs.Answering.{stops, goes_on, err_as}
+use Rattle.fsfs_revision.proofs.Answering.{stops, goes_on, err_as}
 use Rattle.fsfs_dag.proofs.reading.child_of.Goals as goal
 
 pub returns-in_err-child-clause-told : goal.returns-in_err-child-clause-told

@@ -1,13 +1,13 @@
 use Rattle.std.proofs.Common.{Err, Ok, arith}
 use Rattle.std.proofs.lemmas.Result.{err_from_is_err_and}
-use Rattle.fsfs_book.specs.Told.{RevisionBytes}
+use Rattle.fsfs_revision.specs.Told.{RevisionBytes}
 use Rattle.fsfs_noderev.specs.declared.node_rev.NodeRev.{NodeRev}
-use Rattle.fsfs_damage.specs.declared.damage.RevOffset.{RevOffset}
-use Rattle.fsfs_damage.specs.Readings.{Answers}
-use Rattle.fsfs_shows.specs.Reading.{NodeAt, HasId, offset_of}
-use Rattle.fsfs_book.specs.Told.{IsTold}
+use Rattle.fsfs_revision.specs.declared.damage.RevOffset.{RevOffset}
+use Rattle.fsfs_revision.specs.Readings.{Answers}
+use Rattle.fsfs_revision.specs.ShowsReading.{NodeAt, HasId, offset_of}
+use Rattle.fsfs_revision.specs.Told.{IsTold}
 use Rattle.fsfs_dag.specs.declared.node.PlacedNode.{PlacedNode}
-use Rattle.fsfs_damage.proofs.Answering.{stops, goes_on, err_as}
+use Rattle.fsfs_revision.proofs.Answering.{stops, goes_on, err_as}
 use Rattle.fsfs_dag.proofs.Windows.{along}
 use Rattle.fsfs_dag.proofs.reading.named_node.Goals as goal
 

@@ -3,11 +3,11 @@ use Rattle.fsfs_revision.specs.Nodes.{is_root, is_ordered}
 use Rattle.std.proofs.lemmas.Result.{err_from_is_err_and}
 use Rattle.fsfs_noderev.specs.Writing.{HasText}
 use Rattle.fsfs_noderev.specs.declared.node_rev.NodeRev.{NodeRev}
-use Rattle.fsfs_damage.specs.declared.damage.RevOffset.{RevOffset}
+use Rattle.fsfs_revision.specs.declared.damage.RevOffset.{RevOffset}
 use Rattle.fsfs_dag.specs.declared.node.PlacedNode.{PlacedNode}
 use Rattle.fsfs_dag.proofs.Steps.{told_later}
 use Rattle.fsfs_dag.proofs.Windows.{root_no_end, root_no_node, as_root_of, no_root, own_place, root_own, placed_root}
-use Rattle.fsfs_book.proofs.Keeping.{keeps_trans}
+use Rattle.fsfs_revision.proofs.Keeping.{keeps_trans}
 use Rattle.fsfs_dag.proofs.reading.root_of.Goals as goal
 
 pub returns-in_err-at-clause-told : goal.returns-in_err-at-clause-told

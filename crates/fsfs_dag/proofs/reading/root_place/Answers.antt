@@ -1,7 +1,7 @@
 use Rattle.std.proofs.Common.{ℕ, take}
 use Rattle.std.proofs.lemmas.Result.{err_from_is_err_and}
-use Rattle.fsfs_damage.specs.Damages.{place_of}
-use Rattle.fsfs_damage.specs.declared.damage.RevOffset.{RevOffset}
+use Rattle.fsfs_revision.specs.DamageDamages.{place_of}
+use Rattle.fsfs_revision.specs.declared.damage.RevOffset.{RevOffset}
 use Rattle.fsfs_dag.specs.Told.{EndIn}
 use Rattle.fsfs_dag.proofs.Steps.{told_later}
 use Rattle.fsfs_dag.proofs.Windows.{length_stops, window_stops, end_found, end_missing}

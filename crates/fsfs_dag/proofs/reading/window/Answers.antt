@@ -1,5 +1,5 @@
 use Rattle.std.proofs.Common.{ℕ, List, length, Result, ap, ◌∙◌, Some}
-use Rattle.fsfs_damage.specs.declared.wrong.Refusal.{Refusal}
+use Rattle.fsfs_revision.specs.declared.wrong.Refusal.{Refusal}
 use Rattle.fsfs_dag.proofs.Windows.{window_read}
 use Rattle.fsfs_dag.proofs.reading.window.Goals as goal
 

@@ -1,8 +1,8 @@
 use Rattle.std.proofs.Common.{refl, subst}
 use Rattle.std.specs.Prelude.{Ok}
 use Rattle.std.proofs.lemmas.Result.{err_from_is_err_and}
-use Rattle.fsfs_book.specs.Told.{Knows}
-use Rattle.fsfs_book.proofs.Keeping.{keeps_trans}
+use Rattle.fsfs_revision.specs.Told.{Knows}
+use Rattle.fsfs_revision.proofs.Keeping.{keeps_trans}
 use Rattle.fsfs_edit.specs.Copying.{IsSource}
 use Rattle.fsfs_edit.specs.declared.copy.Source.{Source}
 use Rattle.fsfs_edit.specs.declared.copy.Source.TheVariants as sources

@@ -1,9 +1,9 @@
 use Rattle.std.proofs.Common.{refl, subst}
 use Rattle.std.specs.Prelude.{Ok, Err}
 use Rattle.std.proofs.lemmas.Result.{err_from_is_err_and}
-use Rattle.fsfs_book.specs.Told.{Knows}
-use Rattle.fsfs_book.proofs.Keeping.{keeps_trans}
-use Rattle.fsfs_drafts.specs.Drafts.{Folder}
+use Rattle.fsfs_revision.specs.Told.{Knows}
+use Rattle.fsfs_revision.proofs.Keeping.{keeps_trans}
+use Rattle.fsfs_draft.specs.Drafts.{Folder}
 use Rattle.fsfs_edit.specs.Ways.{IsTarget, LooksAt}
 use Rattle.fsfs_edit.specs.declared.way.Target.{Target}
 use Rattle.fsfs_edit.specs.declared.way.Target.TheVariants as targets

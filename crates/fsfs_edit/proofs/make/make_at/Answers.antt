@@ -1,5 +1,5 @@
 use Rattle.std.proofs.Common.{sym, subst}
-use Rattle.fsfs_drafts.specs.Drafts.{Folder}
+use Rattle.fsfs_draft.specs.Drafts.{Folder}
 use Rattle.fsfs_edit.specs.Making.{MeetsMake}
 use Rattle.fsfs_edit.proofs.make.make_at.Goals as goal
 

@@ -1,11 +1,11 @@
 use Rattle.std.proofs.Common.{◌≡◌, Some, Ok, Err, sym, subst, ◌∙◌}
 use Rattle.std.proofs.lemmas.Result.{err_from_is_err_and}
-use Rattle.fsfs_damage.specs.Readings.{Answers}
-use Rattle.fsfs_shows.specs.Reading.{Pairs}
-use Rattle.fsfs_drafts.specs.Drafts.{Kept}
-use Rattle.fsfs_own.specs.Entries.{IsWithin}
-use Rattle.fsfs_own.specs.Properties.{OfKeptProps}
-use Rattle.fsfs_own.specs.Views.{kept_value}
+use Rattle.fsfs_revision.specs.Readings.{Answers}
+use Rattle.fsfs_revision.specs.ShowsReading.{Pairs}
+use Rattle.fsfs_draft.specs.Drafts.{Kept}
+use Rattle.fsfs_draft.specs.Entries.{IsWithin}
+use Rattle.fsfs_draft.specs.Properties.{OfKeptProps}
+use Rattle.fsfs_draft.specs.Views.{kept_value}
 use Rattle.fsfs_edit.proofs.Lists.{list_fails}
 use Rattle.fsfs_edit.proofs.property.changed.Goals as goal
 

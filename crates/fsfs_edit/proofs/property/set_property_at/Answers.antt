@@ -1,5 +1,5 @@
 use Rattle.std.proofs.Common.{sym, subst}
-use Rattle.fsfs_drafts.specs.Drafts.{Folder}
+use Rattle.fsfs_draft.specs.Drafts.{Folder}
 use Rattle.fsfs_edit.specs.Properties.{MeetsProperty}
 use Rattle.fsfs_edit.proofs.property.set_property_at.Goals as goal
 

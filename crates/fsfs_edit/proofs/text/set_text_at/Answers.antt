@@ -1,5 +1,5 @@
 use Rattle.std.proofs.Common.{sym, subst}
-use Rattle.fsfs_drafts.specs.Drafts.{Folder}
+use Rattle.fsfs_draft.specs.Drafts.{Folder}
 use Rattle.fsfs_edit.specs.Texts.{MeetsText}
 use Rattle.fsfs_edit.proofs.text.set_text_at.Goals as goal
 

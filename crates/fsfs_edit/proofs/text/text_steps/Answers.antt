@@ -3,11 +3,11 @@ use Rattle.std.specs.Prelude.{Ok, Err}
 use Rattle.std.proofs.lemmas.Result.{err_from_is_err_and}
 use Rattle.fsfs_base.specs.declared.kind.Kind.{Kind}
 use Rattle.fsfs_base.specs.declared.kind.Kind.TheVariants.{File}
-use Rattle.fsfs_book.specs.Told.{Knows}
-use Rattle.fsfs_book.proofs.Keeping.{keeps_trans}
-use Rattle.fsfs_drafts.specs.Drafts.{Folder}
-use Rattle.fsfs_own.specs.Walks.{HasKind}
-use Rattle.fsfs_own.specs.declared.walk.Found.{Found}
+use Rattle.fsfs_revision.specs.Told.{Knows}
+use Rattle.fsfs_revision.proofs.Keeping.{keeps_trans}
+use Rattle.fsfs_draft.specs.Drafts.{Folder}
+use Rattle.fsfs_draft.specs.Walks.{HasKind}
+use Rattle.fsfs_draft.specs.declared.walk.Found.{Found}
 use Rattle.fsfs_edit.specs.Ways.{IsFoundIn, Finds}
 use Rattle.fsfs_edit.specs.Texts.{SetsText}
 use Rattle.fsfs_edit.proofs.Whole.{stays}

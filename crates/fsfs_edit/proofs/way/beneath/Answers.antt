@@ -1,8 +1,8 @@
 use Rattle.std.proofs.Common.{Some, [], ◌∷◌, ◌++◌, subst}
 use Rattle.std.specs.Prelude.{Option, Ok}
 use Rattle.std.proofs.lemmas.Result.{err_from_is_err_and}
-use Rattle.fsfs_own.specs.Walks.{IsChild}
-use Rattle.fsfs_own.specs.declared.walk.Child.{Child}
+use Rattle.fsfs_draft.specs.Walks.{IsChild}
+use Rattle.fsfs_draft.specs.declared.walk.Child.{Child}
 use Rattle.fsfs_edit.proofs.way.beneath.Goals as goal
 
 pub returns-in_err-next-clause-draft : goal.returns-in_err-next-clause-draft

@@ -3,12 +3,12 @@ use Rattle.std.specs.Prelude.{Ok}
 use Rattle.std.proofs.lemmas.Result.{err_from_is_err_and}
 use Rattle.fsfs_base.specs.declared.kind.Kind.{Kind}
 use Rattle.fsfs_base.specs.declared.kind.Kind.TheVariants.{Dir}
-use Rattle.fsfs_book.specs.Told.{Knows}
-use Rattle.fsfs_book.proofs.Keeping.{keeps_trans}
-use Rattle.fsfs_drafts.specs.Own.{draft_tree}
-use Rattle.fsfs_own.specs.Walks.{HasKind, IsFound}
-use Rattle.fsfs_own.specs.declared.walk.Found.{Found}
-use Rattle.fsfs_own.specs.declared.walk.Found.TheVariants as founds
+use Rattle.fsfs_revision.specs.Told.{Knows}
+use Rattle.fsfs_revision.proofs.Keeping.{keeps_trans}
+use Rattle.fsfs_draft.specs.Own.{draft_tree}
+use Rattle.fsfs_draft.specs.Walks.{HasKind, IsFound}
+use Rattle.fsfs_draft.specs.declared.walk.Found.{Found}
+use Rattle.fsfs_draft.specs.declared.walk.Found.TheVariants as founds
 use Rattle.fsfs_edit.proofs.way.target_at.Goals as goal
 
 pub returns-in_err-depth-clause-draft : goal.returns-in_err-depth-clause-draft

@@ -1,8 +1,8 @@
 use Rattle.std.proofs.Common.{ℕ, sym, ap, subst, ◌∙◌, rules}
 use Rattle.std.specs.Prelude.{Option, Ok}
 use Rattle.std.proofs.lemmas.Result.{err_from_is_err_and}
-use Rattle.fsfs_book.specs.Told.{size_read}
-use Rattle.fsfs_rev_file.specs.RevBytes.{rev_bytes, rev_file, floor_in}
+use Rattle.fsfs_revision.specs.Told.{size_read}
+use Rattle.fsfs_revision.specs.RevBytes.{rev_bytes, rev_file, floor_in}
 use Rattle.fsfs_fetch.specs.Answers.{FromFile, size_of_file}
 use Rattle.fsfs_fetch.specs.ViewLemmas.{later_more}
 use Rattle.fsfs_fetch.proofs.DirectLemmas.{fresh_fault, fresh_floor, fresh_found, fresh_goes, fresh_missing, floor_err_len, bytes_fault, finds_same, finds_read, finds_later, finds_serving, finds_more, gives_at, gone_err, gone_some}

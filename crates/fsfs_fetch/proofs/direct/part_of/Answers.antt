@@ -1,8 +1,8 @@
 use Rattle.std.proofs.Common.{ℕ, List, length, take, sym, subst, rules}
 use Rattle.std.specs.Prelude.{Option, Ok}
 use Rattle.std.proofs.lemmas.Result.{err_from_is_err_and}
-use Rattle.fsfs_book.specs.Told.{part_read}
-use Rattle.fsfs_rev_file.specs.RevBytes.{rev_file}
+use Rattle.fsfs_revision.specs.Told.{part_read}
+use Rattle.fsfs_revision.specs.RevBytes.{rev_file}
 use Rattle.fsfs_fetch.specs.Answers.{FromFile, part_of_file}
 use Rattle.fsfs_fetch.specs.ViewLemmas.{later_more, cause_from}
 use Rattle.fsfs_fetch.proofs.DirectLemmas.{bytes_packed, finds_later, finds_serving, finds_more, gives_at, gone_at, packed_at, own_goes, own_right, own_some, own_err}

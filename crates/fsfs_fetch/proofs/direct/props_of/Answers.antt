@@ -1,8 +1,8 @@
 use Rattle.std.proofs.Common.{ℕ, List, length, take, ap, subst}
 use Rattle.std.specs.Prelude.{Option, Ok}
 use Rattle.std.proofs.lemmas.Result.{err_from_is_err_and}
-use Rattle.fsfs_book.specs.Told.{part_read}
-use Rattle.fsfs_rev_file.specs.RevBytes.{props_file}
+use Rattle.fsfs_revision.specs.Told.{part_read}
+use Rattle.fsfs_revision.specs.RevBytes.{props_file}
 use Rattle.fsfs_fetch.specs.Answers.{FromFile, part_of_file}
 use Rattle.fsfs_fetch.proofs.DirectLemmas.{props_stay, props_gone, props_some, props_err}
 use Rattle.fsfs_fetch.proofs.direct.props_of.Goals as goal

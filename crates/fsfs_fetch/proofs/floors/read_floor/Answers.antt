@@ -1,6 +1,6 @@
 use Rattle.std.proofs.Common.{◌≡◌, take, refl, sym, ap, ◌∙◌}
 use Rattle.std.specs.Prelude.{Ok, Err}
-use Rattle.fsfs_rev_file.proofs.FloorLemmas.{floor_ok, floor_err}
+use Rattle.fsfs_revision.proofs.FloorLemmas.{floor_ok, floor_err}
 use Rattle.fsfs_fetch.proofs.FloorLemmas.{floor_found}
 use Rattle.fsfs_fetch.proofs.floors.read_floor.Goals as goal
 

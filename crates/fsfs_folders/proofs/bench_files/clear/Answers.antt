@@ -1,7 +1,7 @@
 use Rattle.std.proofs.Common.{◌≡◌, rules, List, ℕ, [], ◌∷◌, ◌++◌, ◌+◌, take, length, refl, true, false, sym, ap, subst, ◌∙◌, arith}
 use Rattle.std.specs.Prelude.{IfSome}
-use Rattle.fsfs_calls.specs.Listing.{IsListOf, has_file}
-use Rattle.fsfs_calls.specs.CallRecord.{names_now}
+use Rattle.fsfs_folders.specs.Listing.{IsListOf, has_file}
+use Rattle.fsfs_folders.specs.CallRecord.{names_now}
 use Rattle.fsfs_folders.specs.BenchFiles.{Clears}
 use Rattle.fsfs_folders.proofs.PutLemmas.{on_ok}
 use Rattle.fsfs_folders.proofs.Clearing.{nothing_left, tells_still}

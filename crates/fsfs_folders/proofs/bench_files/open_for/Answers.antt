@@ -1,6 +1,6 @@
 use Rattle.std.proofs.Common.{◌≡◌, rules, sym, subst, ◌∙◌, arith}
 use Rattle.std.specs.Prelude.{length, Some, None, IfSome}
-use Rattle.fsfs_calls.specs.CallRecord.{names_now, contents_now}
+use Rattle.fsfs_folders.specs.CallRecord.{names_now, contents_now}
 use Rattle.fsfs_folders.specs.BenchFiles.{Opens}
 use Rattle.fsfs_folders.proofs.PutLemmas.{if_given}
 use Rattle.fsfs_folders.proofs.BenchWriting.{opened, made_open_ok, made_failed_err}

@@ -1,6 +1,6 @@
 use Rattle.std.proofs.Common.{sym, ◌∙◌}
-use Rattle.fsfs_changes.specs.Items.{HasText}
-use Rattle.fsfs_changes.proofs.Writes.{has_text, all_one}
+use Rattle.fsfs_noderev.specs.Items.{HasText}
+use Rattle.fsfs_noderev.proofs.ChangesWrites.{has_text, all_one}
 use Rattle.fsfs_format_examples.proofs.changed_paths.written.Goals as goal
 
 pub write_changes-requires : goal.write_changes-requires

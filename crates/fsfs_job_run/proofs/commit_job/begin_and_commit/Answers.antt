@@ -7,12 +7,12 @@ use Rattle.fsfs_machine.proofs.Growing.{revisions_length}
 use Rattle.fsfs_turn.specs.Alone.{KnowsAlone}
 use Rattle.fsfs_turn.specs.Bytes.{bytes_of}
 use Rattle.fsfs_turn.specs.Mountings.{RoseBy}
-use Rattle.fsfs_turn_begin.specs.Faults.{IfDisk, bench_faults_in}
+use Rattle.fsfs_begin.specs.Faults.{IfDisk, bench_faults_in}
 use Rattle.fsfs_jobs.specs.declared.answer.JobAnswer.TheVariants.{Stopped}
 use Rattle.fsfs_job_run.specs.Running.{CommitsSo}
-use Rattle.fsfs_job_reads.specs.TextReads.{IfAnswerFails}
+use Rattle.fsfs_job_run.specs.TextReads.{IfAnswerFails}
 use Rattle.fsfs_job_run.proofs.Causes.{fails_on, begin_fails}
-use Rattle.fsfs_serial.specs.Jobs.{bench_told}
+use Rattle.fsfs_job_run.specs.Jobs.{bench_told}
 use Rattle.fsfs_job_run.proofs.BenchCauses.{begin_told}
 use Rattle.fsfs_job_run.proofs.Begun.{unbegun_so}
 use Rattle.fsfs_job_run.proofs.Composed.{begun_so}

@@ -5,10 +5,10 @@ use Rattle.fsfs_machine.specs.Machine.{revisions}
 use Rattle.fsfs_machine.specs.declared.machine.Recorded.{Recorded}
 use Rattle.std.specs.Prelude.{List, option_map}
 use Rattle.fsfs_disk.specs.Trace.{labels_now}
-use Rattle.fsfs_serial.proofs.ListedLemmas.{none_begun}
+use Rattle.fsfs_job_run.proofs.ListedLemmas.{none_begun}
 use Rattle.fsfs_turn.specs.Alone.{KnowsAlone}
 use Rattle.fsfs_turn.specs.Telling.{OwnedState, owned_view}
-use Rattle.fsfs_turn_begin.specs.Steps.{IsPastNumbers}
+use Rattle.fsfs_begin.specs.Steps.{IsPastNumbers}
 use Rattle.fsfs_jobs.specs.Serial.{base_of}
 use Rattle.fsfs_job_run.proofs.Based.{no_base, no_base_outside, no_base_counted}
 use Rattle.fsfs_job_run.proofs.Causes.{fails_on, request_fails}

@@ -1,10 +1,10 @@
 use Rattle.std.proofs.Common.{⊎_elim, inl, inr, sym, subst}
 use Rattle.fsfs_base.specs.Failures.{Rose}
-use Rattle.fsfs_job_lines.specs.declared.job.Job.{Job}
+use Rattle.fsfs_script.specs.declared.job.Job.{Job}
 use Rattle.fsfs_turn.specs.Alone.{KnowsAlone}
 use Rattle.fsfs_job_run.specs.Running.{DoesSo, IfCounted, StopsOver}
-use Rattle.fsfs_serial.proofs.ListedLemmas.{none_begun}
-use Rattle.fsfs_owned_repo.proofs.Crashes.{survives}
+use Rattle.fsfs_job_run.proofs.ListedLemmas.{none_begun}
+use Rattle.fsfs_repo.proofs.Crashes.{survives}
 use Rattle.fsfs_job_run.proofs.job.do_job.Goals as goal
 
 pub returns-in-Commit-clause-does : goal.returns-in-Commit-clause-does

@@ -5,10 +5,10 @@ use Rattle.fsfs_base.specs.Failures.{Rose}
 use Rattle.fsfs_job_run.proofs.Causes.{any_none, any_more}
 use Rattle.fsfs_job_run.proofs.Listing.{lists_within}
 use Rattle.fsfs_job_run.proofs.Going.{runs_none, runs_more, runs_all, none_taken}
-use Rattle.fsfs_serial.specs.Jobs.{bench_faults_in}
-use Rattle.fsfs_serial.proofs.BenchCounts.{benches_more}
-use Rattle.fsfs_serial.proofs.ListedLemmas.{none_begun, lists_on}
-use Rattle.fsfs_owned_repo.proofs.Crashes.{survives}
+use Rattle.fsfs_job_run.specs.Jobs.{bench_faults_in}
+use Rattle.fsfs_job_run.proofs.BenchCounts.{benches_more}
+use Rattle.fsfs_job_run.proofs.ListedLemmas.{none_begun, lists_on}
+use Rattle.fsfs_repo.proofs.Crashes.{survives}
 use Rattle.fsfs_job_run.proofs.run.run_jobs.Goals as goal
 
 pub loop-job-init : goal.loop-job-init

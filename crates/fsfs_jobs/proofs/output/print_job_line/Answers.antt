@@ -1,9 +1,9 @@
 use Rattle.std.proofs.Common.{◌≡◌, ◌++◌, ◌≤◌, ℕ, List, refl, subst, ◌∙◌, arith}
 use Rattle.std.specs.Prelude.{codes, Err}
-use Rattle.fsfs_streams.specs.Streams.{Adds}
-use Rattle.fsfs_streams.proofs.StreamLemmas.{adds_then}
-use Rattle.fsfs_streams.specs.Output.{Prints}
-use Rattle.fsfs_streams.proofs.OutputLemmas.{printed_more, printed_less, passed_on}
+use Rattle.fsfs_base.specs.Streams.{Adds}
+use Rattle.fsfs_base.proofs.StreamLemmas.{adds_then}
+use Rattle.fsfs_base.specs.Output.{Prints}
+use Rattle.fsfs_base.proofs.OutputLemmas.{printed_more, printed_less, passed_on}
 use Rattle.fsfs_jobs.specs.Lines.{job_line}
 use Rattle.fsfs_jobs.specs.Pieces.{line_front, answer_back}
 use Rattle.fsfs_jobs.proofs.LineLemmas.{line_in_pieces}

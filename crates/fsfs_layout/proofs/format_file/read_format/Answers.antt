@@ -1,5 +1,5 @@
 use Rattle.std.proofs.Common.{ap, sym, ◌∙◌, arith, Ok, refl}
-use Rattle.fsfs_grammar.proofs.Readers.{ok_is}
+use Rattle.fsfs_base.proofs.Readers.{ok_is}
 use Rattle.fsfs_layout.proofs.Files.{format_found, format_again, format_exact}
 use Rattle.fsfs_layout.proofs.format_file.read_format.Goals as goal
 

@@ -1,5 +1,5 @@
 use Rattle.std.proofs.Common.{◌≡◌, ◌-◌}
-use Rattle.fsfs_grammar.proofs.Loops.{with_front}
+use Rattle.fsfs_base.proofs.Loops.{with_front}
 use Rattle.fsfs_layout.specs.ManifestReading.{offsets_at, lines_at}
 use Rattle.fsfs_layout.proofs.manifest_file.lines.Given as goal
 

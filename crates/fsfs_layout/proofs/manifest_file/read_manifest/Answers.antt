@@ -1,5 +1,5 @@
 use Rattle.std.proofs.Common.{sym, ◌∙◌, arith, refl}
-use Rattle.fsfs_grammar.proofs.Readers.{all_found, all_again, all_exact, ok_is}
+use Rattle.fsfs_base.proofs.Readers.{all_found, all_again, all_exact, ok_is}
 use Rattle.fsfs_layout.proofs.Files.{never}
 use Rattle.fsfs_layout.proofs.Manifests.{manifest_reads}
 use Rattle.fsfs_layout.proofs.manifest_file.read_manifest.Goals as goal

@@ -1,5 +1,5 @@
 use Rattle.std.proofs.Common.{ℕ, ap, sym, ◌∙◌, arith, refl}
-use Rattle.fsfs_grammar.proofs.Readers.{all_found, all_again, all_exact, ok_is}
+use Rattle.fsfs_base.proofs.Readers.{all_found, all_again, all_exact, ok_is}
 use Rattle.fsfs_layout.proofs.Files.{next_ids_reads, never}
 use Rattle.fsfs_layout.proofs.next_ids_file.read_next_ids.Goals as goal
 

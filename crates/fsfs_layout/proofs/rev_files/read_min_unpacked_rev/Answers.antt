@@ -1,5 +1,5 @@
 use Rattle.std.proofs.Common.{◌≡◌, ◌%◌, ap, sym, ◌∙◌, arith, Ok, refl, ℕ, inl, inr}
-use Rattle.fsfs_grammar.proofs.Readers.{all_found, all_again, all_exact, ok_is}
+use Rattle.fsfs_base.proofs.Readers.{all_found, all_again, all_exact, ok_is}
 use Rattle.fsfs_layout.specs.Layouts.{place_in_shard}
 use Rattle.fsfs_layout.proofs.Files.{rev_line_reads, never}
 use Rattle.fsfs_layout.proofs.rev_files.read_min_unpacked_rev.Goals as goal

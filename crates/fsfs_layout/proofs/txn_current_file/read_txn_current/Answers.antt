@@ -1,5 +1,5 @@
 use Rattle.std.proofs.Common.{sym, ◌∙◌, arith, refl}
-use Rattle.fsfs_grammar.proofs.Readers.{all_found, all_again, all_exact, ok_is}
+use Rattle.fsfs_base.proofs.Readers.{all_found, all_again, all_exact, ok_is}
 use Rattle.fsfs_layout.proofs.Files.{base36_line_reads, never}
 use Rattle.fsfs_layout.proofs.txn_current_file.read_txn_current.Goals as goal
 

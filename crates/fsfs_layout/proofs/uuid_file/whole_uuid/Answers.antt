@@ -1,5 +1,5 @@
 use Rattle.std.proofs.Common.{◌≡◌, ℕ, List, suc, length, sym, subst, arith}
-use Rattle.fsfs_grammar.specs.Cuts.{Lacks}
+use Rattle.fsfs_base.specs.Cuts.{Lacks}
 use Rattle.fsfs_layout.proofs.LineBytes.{line_reads}
 use Rattle.fsfs_layout.proofs.uuid_file.whole_uuid.Goals as goal
 

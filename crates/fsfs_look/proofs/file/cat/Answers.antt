@@ -1,10 +1,10 @@
 use Rattle.std.proofs.Common.{◌≡◌, ◌≤◌, Some, Ok, Err, refl, sym, subst, arith}
 use Rattle.std.proofs.lemmas.Result.{err_from_is_err_and}
-use Rattle.fsfs_rep.specs.Frames.{rev_of}
-use Rattle.fsfs_book.proofs.Keeping.{keeps_trans}
+use Rattle.fsfs_revision.specs.Frames.{rev_of}
+use Rattle.fsfs_revision.proofs.Keeping.{keeps_trans}
 use Rattle.fsfs_dag.specs.Views.{home_of}
 use Rattle.fsfs_dag.proofs.Reps.{rep_le}
-use Rattle.fsfs_printed.specs.FileTexts.{MetFileText, FileText}
+use Rattle.fsfs_stands.specs.FileTexts.{MetFileText, FileText}
 use Rattle.fsfs_look.specs.Written.{Writes}
 use Rattle.fsfs_look.specs.declared.look_error.LookError.{LookError}
 use Rattle.fsfs_look.proofs.NodeTexts.{none_met}

@@ -2,8 +2,8 @@ use Rattle.std.proofs.Common.{Ok, subst}
 use Rattle.std.specs.Prelude.{MatchResult}
 use Rattle.std.proofs.lemmas.Result.{err_from_is_err_and}
 use Rattle.fsfs_noderev.specs.declared.rep.Rep.{Rep}
-use Rattle.fsfs_rep.specs.Frames.{IsWhole, IsFaultOf}
-use Rattle.fsfs_rep.proofs.WholeLemmas.{told_later, fault_for}
+use Rattle.fsfs_revision.specs.Frames.{IsWhole, IsFaultOf}
+use Rattle.fsfs_revision.proofs.WholeLemmas.{told_later, fault_for}
 use Rattle.fsfs_look.proofs.file.check_rep.Goals as goal
 
 pub returns-in_err-next-clause-bytes : goal.returns-in_err-next-clause-bytes

@@ -1,7 +1,7 @@
 use Rattle.std.proofs.Common.{drop, arith}
 use Rattle.std.proofs.lemmas.Result.{err_from_is_err_and}
-use Rattle.fsfs_rep.proofs.FaultLemmas.{none_wrong}
-use Rattle.fsfs_rep.proofs.ReadingLemmas.{at_rev}
+use Rattle.fsfs_revision.proofs.FaultLemmas.{none_wrong}
+use Rattle.fsfs_revision.proofs.ReadingLemmas.{at_rev}
 use Rattle.fsfs_look.proofs.PieceLemmas.{piece_some, piece_next}
 use Rattle.fsfs_look.proofs.file.read_piece.Goals as goal
 

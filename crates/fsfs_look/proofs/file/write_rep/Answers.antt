@@ -2,11 +2,11 @@ use Rattle.std.proofs.Common.{◌≤◌, ◌+◌, Ok, length, take, drop, refl, 
 use Rattle.std.proofs.lemmas.List.{take_all, length-take}
 use Rattle.std.proofs.lemmas.Result.{err_from_is_err_and}
 use Rattle.md5.specs.Md5.{Holds}
-use Rattle.fsfs_streams.specs.Streams.{Adds}
-use Rattle.fsfs_streams.proofs.StreamLemmas.{adds_then}
-use Rattle.fsfs_rep.specs.Frames.{text_of, rev_of}
-use Rattle.fsfs_book.proofs.Keeping.{keeps_trans}
-use Rattle.fsfs_rep.proofs.WholeLemmas.{bytes_more}
+use Rattle.fsfs_base.specs.Streams.{Adds}
+use Rattle.fsfs_base.proofs.StreamLemmas.{adds_then}
+use Rattle.fsfs_revision.specs.Frames.{text_of, rev_of}
+use Rattle.fsfs_revision.proofs.Keeping.{keeps_trans}
+use Rattle.fsfs_revision.proofs.WholeLemmas.{bytes_more}
 use Rattle.fsfs_look.proofs.FileLemmas.{whole_fails, front_of, front_more, checked_whole, wrong_disk, wrong_sink}
 use Rattle.fsfs_look.proofs.file.write_rep.Goals as goal
 

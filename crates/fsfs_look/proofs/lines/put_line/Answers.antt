@@ -1,6 +1,6 @@
 use Rattle.std.proofs.Common.{◌++◌, ap, sym, refl, ◌∙◌, subst, append-nil}
 use Rattle.std.specs.Prelude.{codes, []}
-use Rattle.fsfs_printed.specs.TreeTexts.{IsShownId}
+use Rattle.fsfs_stands.specs.TreeTexts.{IsShownId}
 use Rattle.fsfs_look.proofs.LineLemmas.{put_whole, shown_grouped}
 use Rattle.fsfs_look.proofs.lines.put_line.Goals as goal
 use Rattle.fsfs_look.proofs.lines.put_line.Goals.{then-show_ids+in_ok-put_shown_id, else-show_ids}

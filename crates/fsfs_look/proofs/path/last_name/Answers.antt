@@ -1,6 +1,6 @@
 use Rattle.std.proofs.Common.{ap, ◌∙◌}
 use Rattle.std.specs.String.{string_bytes}
-use Rattle.fsfs_answers.specs.Answers.{last_name}
+use Rattle.fsfs_tree.specs.Answers.{last_name}
 use Rattle.fsfs_look.proofs.LookAnswers.{last_of}
 use Rattle.fsfs_look.proofs.path.last_name.Goals as goal
 

@@ -1,7 +1,7 @@
 use Rattle.std.proofs.Common.{Option, Some, sym, subst, ◌∙◌}
 use Rattle.std.proofs.lemmas.Option.{same_Some}
 use Rattle.std.specs.Prelude.{IfSome}
-use Rattle.fsfs_grammar.proofs.CutLemmas.{cut_found, two_none, two_parts}
+use Rattle.fsfs_base.proofs.CutLemmas.{cut_found, two_none, two_parts}
 use Rattle.fsfs_base.specs.Paths.{Path}
 use Rattle.fsfs_noderev.specs.Reps.{IsRevOrNone}
 use Rattle.fsfs_noderev.specs.Fields.{IsPathText}

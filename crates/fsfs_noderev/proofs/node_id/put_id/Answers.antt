@@ -1,4 +1,4 @@
-use Rattle.fsfs_grammar.proofs.Appending.{appends_cut, appends_as}
+use Rattle.fsfs_base.proofs.Appending.{appends_cut, appends_as}
 use Rattle.fsfs_noderev.specs.Ids.{id_value}
 use Rattle.fsfs_noderev.proofs.node_id.put_id.Goals as goal
 

@@ -1,4 +1,4 @@
-use Rattle.fsfs_grammar.proofs.Spelling.{spelled, spelled_only}
+use Rattle.fsfs_base.proofs.Spelling.{spelled, spelled_only}
 use Rattle.fsfs_noderev.specs.Ids.{id_value}
 use Rattle.fsfs_noderev.proofs.IdTexts.{id_spells}
 use Rattle.fsfs_noderev.proofs.node_id.read_id.Goals as goal

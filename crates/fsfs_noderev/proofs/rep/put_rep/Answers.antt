@@ -1,5 +1,5 @@
 use Rattle.std.proofs.Common.{arith}
-use Rattle.fsfs_grammar.proofs.Appending.{appends_cut, appends_as, appends_plain}
+use Rattle.fsfs_base.proofs.Appending.{appends_cut, appends_as, appends_plain}
 use Rattle.fsfs_noderev.specs.Reps.{rep_value}
 use Rattle.fsfs_noderev.proofs.rep.put_rep.Goals as goal
 

@@ -1,5 +1,5 @@
 use Rattle.std.proofs.Common.{refl, arith}
-use Rattle.fsfs_grammar.proofs.Appending.{appends_cut, appends_as, appends_marked, appends_plain}
+use Rattle.fsfs_base.proofs.Appending.{appends_cut, appends_as, appends_marked, appends_plain}
 use Rattle.fsfs_noderev.specs.Reps.{unique_value, IsMarked}
 use Rattle.fsfs_noderev.proofs.rep.put_unique.Goals as goal
 

@@ -1,4 +1,4 @@
-use Rattle.fsfs_grammar.proofs.Spelling.{spelled, spelled_only}
+use Rattle.fsfs_base.proofs.Spelling.{spelled, spelled_only}
 use Rattle.fsfs_noderev.specs.Reps.{contents_value}
 use Rattle.fsfs_noderev.proofs.RepTexts.{contents_spells}
 use Rattle.fsfs_noderev.proofs.rep.read_contents.Goals as goal

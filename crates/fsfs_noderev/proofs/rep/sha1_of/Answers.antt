@@ -1,4 +1,4 @@
-use Rattle.fsfs_grammar.proofs.Spelling.{spelled_back}
+use Rattle.fsfs_base.proofs.Spelling.{spelled_back}
 use Rattle.fsfs_noderev.proofs.RepTexts.{digest_spells}
 use Rattle.fsfs_noderev.proofs.rep.sha1_of.Goals as goal
 

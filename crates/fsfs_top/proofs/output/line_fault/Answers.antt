@@ -1,7 +1,7 @@
 use Rattle.std.proofs.Common.{inl, inr, refl, subst}
 use Rattle.std.specs.Prelude.{Result}
 use Rattle.fsfs_base.specs.declared.failed.Failed.{Failed}
-use Rattle.fsfs_streams.specs.Output.{Prints}
+use Rattle.fsfs_base.specs.Output.{Prints}
 use Rattle.fsfs_top.proofs.output.line_fault.Goals as goal
 
 pub returns-in-Ok : goal.returns-in-Ok

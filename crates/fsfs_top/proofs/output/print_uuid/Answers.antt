@@ -1,9 +1,9 @@
 use Rattle.std.proofs.Common.{refl, subst}
 use Rattle.std.specs.Prelude.{codes, Err}
-use Rattle.fsfs_streams.specs.Streams.{Adds}
+use Rattle.fsfs_base.specs.Streams.{Adds}
 use Rattle.fsfs_top.specs.Looks.{uuid_line}
-use Rattle.fsfs_streams.specs.Output.{Prints}
-use Rattle.fsfs_streams.proofs.OutputLemmas.{printed_more, printed_less, passed_on}
+use Rattle.fsfs_base.specs.Output.{Prints}
+use Rattle.fsfs_base.proofs.OutputLemmas.{printed_more, printed_less, passed_on}
 use Rattle.fsfs_top.proofs.output.print_uuid.Goals as goal
 
 pub returns-in_err-print : goal.returns-in_err-print

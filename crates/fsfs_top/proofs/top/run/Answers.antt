@@ -8,7 +8,7 @@ use Rattle.fsfs_cli.specs.Readings.{Asks}
 use Rattle.fsfs_cli.proofs.TaskLemmas.{asks_task}
 use Rattle.fsfs_top.specs.Command.{IsNoneOrCreated}
 use Rattle.fsfs_top.proofs.CreationTold.{same_files}
-use Rattle.fsfs_repo.proofs.OpeningLemmas.{firm_same}
+use Rattle.fsfs_create.proofs.OpeningLemmas.{firm_same}
 use Rattle.fsfs_top.specs.Transactions.{LeavesRemoval}
 use Rattle.fsfs_top.proofs.TaskDone.{at_creation, at_removal, looks_alone, others_alone}
 use Rattle.fsfs_top.proofs.TxnsTold.{labels_firm, same_labels}

@@ -1,4 +1,4 @@
-use Rattle.fsfs_faults.specs.Lines.{line_of}
+use Rattle.fsfs_cli.specs.Lines.{line_of}
 use Rattle.fsfs_top.proofs.CommandReplies.{told_line}
 use Rattle.fsfs_top.proofs.top.tell.Goals as goal
 

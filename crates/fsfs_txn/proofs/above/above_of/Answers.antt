@@ -3,8 +3,8 @@ use Rattle.std.specs.Prelude.{Ok, is_some}
 use Rattle.std.proofs.lemmas.Result.{err_from_is_err_and}
 use Rattle.fsfs_base.specs.Paths.{Path}
 use Rattle.fsfs_base.specs.declared.kind.Kind.{Kind}
-use Rattle.fsfs_flat.specs.Edits.{parent}
-use Rattle.fsfs_own.specs.Walks.{HasKind}
+use Rattle.fsfs_model.specs.Edits.{parent}
+use Rattle.fsfs_draft.specs.Walks.{HasKind}
 use Rattle.fsfs_txn.specs.declared.seeing.Seen.{Seen}
 use Rattle.fsfs_txn.specs.Mergeinfo.{Counts}
 use Rattle.fsfs_txn.specs.Seeing.{IsSeen}

@@ -2,8 +2,8 @@ use Rattle.std.proofs.Common.{[], ◌∷◌, ◌++◌, subst}
 use Rattle.std.specs.Prelude.{Option, Ok}
 use Rattle.std.proofs.lemmas.Result.{err_from_is_err_and}
 use Rattle.fsfs_base.specs.declared.kind.Kind.TheVariants.{Dir}
-use Rattle.fsfs_own.specs.Walks.{IsChild}
-use Rattle.fsfs_own.specs.declared.walk.Child.{Child}
+use Rattle.fsfs_draft.specs.Walks.{IsChild}
+use Rattle.fsfs_draft.specs.declared.walk.Child.{Child}
 use Rattle.fsfs_txn.proofs.Looking.{drafted, child_none, child_some}
 use Rattle.fsfs_txn.proofs.above.is_taken.Goals as goal
 

@@ -1,8 +1,8 @@
 use Rattle.std.proofs.Common.{◌≡◌, ◌-◌, ℕ, length, take, ap, ◌∙◌, arith}
 use Rattle.std.specs.Prelude.{Ok, Err}
 use Rattle.std.proofs.lemmas.Result.{err_from_is_err_and}
-use Rattle.fsfs_book.specs.Told.{Knows}
-use Rattle.fsfs_flat.specs.Edits.{parent}
+use Rattle.fsfs_revision.specs.Told.{Knows}
+use Rattle.fsfs_model.specs.Edits.{parent}
 use Rattle.fsfs_txn.proofs.Looking.{same_sees, same_from}
 use Rattle.fsfs_txn.proofs.above.look_above.Goals as goal
 

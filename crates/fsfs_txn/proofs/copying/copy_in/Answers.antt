@@ -2,9 +2,9 @@ use Rattle.std.proofs.Common.{◌≡◌, refl, sym, ap, subst, ◌∙◌}
 use Rattle.std.specs.Prelude.{Ok, Err, is_some}
 use Rattle.std.proofs.lemmas.Result.{err_from_is_err_and}
 use Rattle.fsfs_base.specs.Paths.{Path}
-use Rattle.fsfs_book.specs.Told.{Knows}
-use Rattle.fsfs_flat.specs.Edits.{parent}
-use Rattle.fsfs_own.specs.Errors as errors
+use Rattle.fsfs_revision.specs.Told.{Knows}
+use Rattle.fsfs_model.specs.Edits.{parent}
+use Rattle.fsfs_draft.specs.Errors as errors
 use Rattle.fsfs_edit.specs.Copying.{MeetsCopy}
 use Rattle.fsfs_txn.specs.declared.copying.Copied.{Copied}
 use Rattle.fsfs_txn.specs.Copying.{IsCopying}

@@ -1,13 +1,13 @@
 use Rattle.std.proofs.Common.{Ok, Err, sym, subst}
 use Rattle.std.proofs.lemmas.Result.{err_from_is_err_and}
-use Rattle.fsfs_fields.specs.declared.txn_name.TxnName.{TxnName}
-use Rattle.fsfs_book.specs.Told.{Knows}
-use Rattle.fsfs_book.proofs.Keeping.{keeps_trans}
-use Rattle.fsfs_own.specs.Walks.{IsRootId, IsFound}
-use Rattle.fsfs_own.specs.declared.walk.Found.{Found}
-use Rattle.fsfs_own.specs.declared.walk.Found.TheVariants as founds
+use Rattle.fsfs_base.specs.declared.txn_name.TxnName.{TxnName}
+use Rattle.fsfs_revision.specs.Told.{Knows}
+use Rattle.fsfs_revision.proofs.Keeping.{keeps_trans}
+use Rattle.fsfs_draft.specs.Walks.{IsRootId, IsFound}
+use Rattle.fsfs_draft.specs.declared.walk.Found.{Found}
+use Rattle.fsfs_draft.specs.declared.walk.Found.TheVariants as founds
 use Rattle.fsfs_edit.proofs.Reaching.{found_by_tree}
-use Rattle.fsfs_drafts.specs.Own.{draft_tree}
+use Rattle.fsfs_draft.specs.Own.{draft_tree}
 use Rattle.fsfs_txn.proofs.Viewing.{walked, seen, bare_text}
 use Rattle.fsfs_txn.proofs.getting.got_at.Goals as goal
 

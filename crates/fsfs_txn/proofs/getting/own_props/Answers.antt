@@ -1,11 +1,11 @@
 use Rattle.std.proofs.Common.{◌≡◌, Some, None, Ok, Err, sym, subst, ◌∙◌}
-use Rattle.fsfs_damage.specs.Readings.{Answers}
-use Rattle.fsfs_shows.specs.Reading.{Pairs}
-use Rattle.fsfs_drafts.specs.Drafts.{Kept, kept_of}
-use Rattle.fsfs_drafts.specs.Steps.{kept_at}
-use Rattle.fsfs_own.specs.Entries.{IsWithin}
-use Rattle.fsfs_own.specs.Properties.{OfKeptProps}
-use Rattle.fsfs_own.specs.Views.{kept_value}
+use Rattle.fsfs_revision.specs.Readings.{Answers}
+use Rattle.fsfs_revision.specs.ShowsReading.{Pairs}
+use Rattle.fsfs_draft.specs.Drafts.{Kept, kept_of}
+use Rattle.fsfs_draft.specs.Steps.{kept_at}
+use Rattle.fsfs_draft.specs.Entries.{IsWithin}
+use Rattle.fsfs_draft.specs.Properties.{OfKeptProps}
+use Rattle.fsfs_draft.specs.Views.{kept_value}
 use Rattle.fsfs_edit.proofs.OwnProps.{own_within}
 use Rattle.fsfs_txn.proofs.Viewing.{there, own_props, own_fails}
 use Rattle.fsfs_txn.proofs.getting.own_props.Goals as goal

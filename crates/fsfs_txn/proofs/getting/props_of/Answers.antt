@@ -1,5 +1,5 @@
 use Rattle.std.proofs.Common.{sym, subst}
-use Rattle.fsfs_own.specs.declared.walk.Step.{Step}
+use Rattle.fsfs_draft.specs.declared.walk.Step.{Step}
 use Rattle.fsfs_txn.specs.Getting.{ReadsProps}
 use Rattle.fsfs_txn.proofs.getting.props_of.Goals as goal
 

@@ -1,10 +1,10 @@
 use Rattle.std.proofs.Common.{◌≡◌, sym, subst, ◌∙◌}
 use Rattle.std.specs.Prelude.{Ok, Err}
 use Rattle.std.proofs.lemmas.Result.{err_from_is_err_and}
-use Rattle.fsfs_book.specs.Told.{Knows}
-use Rattle.fsfs_book.proofs.Keeping.{keeps_trans}
-use Rattle.fsfs_flat.specs.Edits.{parent}
-use Rattle.fsfs_own.specs.Errors as errors
+use Rattle.fsfs_revision.specs.Told.{Knows}
+use Rattle.fsfs_revision.proofs.Keeping.{keeps_trans}
+use Rattle.fsfs_model.specs.Edits.{parent}
+use Rattle.fsfs_draft.specs.Errors as errors
 use Rattle.fsfs_txn.specs.declared.above.Above.{Above}
 use Rattle.fsfs_txn.specs.Seeing.{IsAbove}
 use Rattle.fsfs_txn.specs.declared.making.Made.{Made}

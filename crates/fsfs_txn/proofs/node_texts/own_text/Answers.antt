@@ -1,10 +1,10 @@
 use Rattle.std.proofs.Common.{◌≡◌, Some, None, sym, ap, subst, ◌∙◌}
 use Rattle.std.specs.Prelude.{Option}
 use Rattle.fsfs_noderev.specs.declared.rep.Rep.{Rep}
-use Rattle.fsfs_drafts.specs.Own.{draft_tree}
-use Rattle.fsfs_drafts.specs.Drafts.{Kept, kept_of}
-use Rattle.fsfs_drafts.specs.Steps.{kept_at}
-use Rattle.fsfs_own.specs.Views.{kept_value}
+use Rattle.fsfs_draft.specs.Own.{draft_tree}
+use Rattle.fsfs_draft.specs.Drafts.{Kept, kept_of}
+use Rattle.fsfs_draft.specs.Steps.{kept_at}
+use Rattle.fsfs_draft.specs.Views.{kept_value}
 use Rattle.fsfs_txn.specs.GettingTexts.{rep_of, HasText}
 use Rattle.fsfs_txn.proofs.Viewing.{there, own_text}
 use Rattle.fsfs_txn.proofs.node_texts.own_text.Goals as goal

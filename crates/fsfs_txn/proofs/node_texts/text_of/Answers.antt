@@ -1,9 +1,9 @@
 use Rattle.std.proofs.Common.{sym, subst}
 use Rattle.std.specs.Prelude.{Option}
 use Rattle.fsfs_noderev.specs.declared.rep.Rep.{Rep}
-use Rattle.fsfs_own.specs.declared.walk.Step.{Step}
-use Rattle.fsfs_drafts.specs.Own.{draft_tree}
-use Rattle.fsfs_own.specs.Walks.{IsAt}
+use Rattle.fsfs_draft.specs.declared.walk.Step.{Step}
+use Rattle.fsfs_draft.specs.Own.{draft_tree}
+use Rattle.fsfs_draft.specs.Walks.{IsAt}
 use Rattle.fsfs_txn.specs.GettingTexts.{ReadsText, HasText}
 use Rattle.fsfs_txn.proofs.Viewing.{lasting_text}
 use Rattle.fsfs_txn.proofs.node_texts.text_of.Goals as goal

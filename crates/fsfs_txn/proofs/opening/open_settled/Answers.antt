@@ -1,15 +1,15 @@
 use Rattle.std.proofs.Common.{subst}
 use Rattle.std.specs.Prelude.{Ok, Err}
 use Rattle.std.proofs.lemmas.Result.{err_from_is_err_and}
-use Rattle.fsfs_book.specs.Told.{Knows}
-use Rattle.fsfs_book.proofs.Keeping.{keeps_trans}
-use Rattle.fsfs_opened.specs.declared.opening.Opening.{Opening}
-use Rattle.fsfs_opened.specs.Knowing.{AreKnown}
-use Rattle.fsfs_opened.specs.Opening.{IsOpening, IfOpened}
+use Rattle.fsfs_revision.specs.Told.{Knows}
+use Rattle.fsfs_revision.proofs.Keeping.{keeps_trans}
+use Rattle.fsfs_txn.specs.declared.opened_opening.Opening.{Opening}
+use Rattle.fsfs_txn.specs.Knowing.{AreKnown}
+use Rattle.fsfs_txn.specs.OpenedOpening.{IsOpening, IfOpened}
 use Rattle.fsfs_txn.specs.declared.seeing.Seen.{Seen}
 use Rattle.fsfs_txn.specs.Seeing.{IsSeen}
 use Rattle.fsfs_txn.proofs.Looking.{same_sees, same_opens}
-use Rattle.fsfs_opened.specs.Leading.{Leads}
+use Rattle.fsfs_txn.specs.OpenedLeading.{Leads}
 use Rattle.fsfs_txn.proofs.Leading.{same_leading}
 use Rattle.fsfs_txn.proofs.opening.open_settled.Goals as goal
 

@@ -1,7 +1,7 @@
 use Rattle.std.proofs.Common.{subst}
-use Rattle.fsfs_fields.specs.declared.txn_name.TxnName.{TxnName}
-use Rattle.fsfs_drafts.specs.Drafts.{Folder}
-use Rattle.fsfs_opened.specs.Properties.{MeetsPutProp}
+use Rattle.fsfs_base.specs.declared.txn_name.TxnName.{TxnName}
+use Rattle.fsfs_draft.specs.Drafts.{Folder}
+use Rattle.fsfs_txn.specs.OpenedProperties.{MeetsPutProp}
 use Rattle.fsfs_txn.proofs.Leading.{same_all, same_still}
 use Rattle.fsfs_txn.proofs.properties.set_settled.Goals as goal
 

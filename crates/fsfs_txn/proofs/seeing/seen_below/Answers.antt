@@ -5,13 +5,13 @@ use Rattle.std.proofs.lemmas.Result.{err_from_is_err_and}
 use Rattle.fsfs_base.specs.Paths.{PathName, Path}
 use Rattle.fsfs_base.specs.declared.kind.Kind.{Kind}
 use Rattle.fsfs_base.specs.declared.kind.Kind.TheVariants.{File, Dir}
-use Rattle.fsfs_book.specs.Told.{Knows}
-use Rattle.fsfs_book.proofs.Keeping.{keeps_trans}
+use Rattle.fsfs_revision.specs.Told.{Knows}
+use Rattle.fsfs_revision.proofs.Keeping.{keeps_trans}
 use Rattle.fsfs_dag.proofs.WalkLemmas.{names_step, names_end}
-use Rattle.fsfs_drafts.specs.Own.{draft_tree}
-use Rattle.fsfs_own.specs.Walks.{IsAt, HasKind, IsChild}
-use Rattle.fsfs_own.specs.declared.walk.Child.{Child}
-use Rattle.fsfs_own.proofs.Walking.{own_has, lacks_at, blocked_at, pushed}
+use Rattle.fsfs_draft.specs.Own.{draft_tree}
+use Rattle.fsfs_draft.specs.Walks.{IsAt, HasKind, IsChild}
+use Rattle.fsfs_draft.specs.declared.walk.Child.{Child}
+use Rattle.fsfs_draft.proofs.Walking.{own_has, lacks_at, blocked_at, pushed}
 use Rattle.fsfs_txn.specs.Mergeinfo.{CountsTo}
 use Rattle.fsfs_txn.proofs.Counting.{counts_begin, counts_more, take_pushed}
 use Rattle.fsfs_txn.proofs.seeing.seen_below.Goals as goal

@@ -3,10 +3,10 @@ use Rattle.std.specs.String.{string_bytes}
 use Rattle.fsfs_base.specs.Paths.{Path}
 use Rattle.fsfs_tree.specs.Nodes.{TreeFunction}
 use Rattle.fsfs_base.specs.declared.kind.Kind.TheVariants.{Dir}
-use Rattle.fsfs_book.specs.Told.{RevisionBytes, Knows, Keeps}
-use Rattle.fsfs_drafts.specs.Own.{Own as Owns, OwnNode, draft_tree}
-use Rattle.fsfs_drafts.specs.Drafts.{IsDraft, ShowTrees}
-use Rattle.fsfs_own.specs.Walks.{IsAt, HasKind}
+use Rattle.fsfs_revision.specs.Told.{RevisionBytes, Knows, Keeps}
+use Rattle.fsfs_draft.specs.Own.{Own as Owns, OwnNode, draft_tree}
+use Rattle.fsfs_draft.specs.Drafts.{IsDraft, ShowTrees}
+use Rattle.fsfs_draft.specs.Walks.{IsAt, HasKind}
 use Rattle.fsfs_txn.specs.Mergeinfo.{CountsTo}
 use Rattle.fsfs_txn.proofs.seeing.seen_below.Given as goal
 

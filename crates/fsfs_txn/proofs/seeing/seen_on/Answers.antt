@@ -1,6 +1,6 @@
 use Rattle.std.proofs.Common.{subst}
-use Rattle.fsfs_fields.specs.declared.txn_name.TxnName.{TxnName}
-use Rattle.fsfs_own.specs.Walks.{IsRootId}
+use Rattle.fsfs_base.specs.declared.txn_name.TxnName.{TxnName}
+use Rattle.fsfs_draft.specs.Walks.{IsRootId}
 use Rattle.fsfs_edit.proofs.Reaching.{root, root_here, root_same, root_kind}
 use Rattle.fsfs_txn.proofs.Looking.{seen_by_tree}
 use Rattle.fsfs_txn.proofs.seeing.seen_on.Goals as goal

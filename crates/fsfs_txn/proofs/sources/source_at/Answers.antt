@@ -1,11 +1,11 @@
 use Rattle.std.proofs.Common.{◌≡◌, ◌≤◌, ℕ, sym, subst, arith}
 use Rattle.std.specs.Prelude.{Option, Ok, IfSome}
 use Rattle.std.proofs.lemmas.Result.{err_from_is_err_and}
-use Rattle.fsfs_book.specs.Told.{Knows}
-use Rattle.fsfs_book.proofs.Keeping.{keeps_trans}
-use Rattle.fsfs_shows.specs.Reading.{MetAt, StandsAt}
-use Rattle.fsfs_shows.specs.ByTree.{IsMetByTree}
-use Rattle.fsfs_shows.proofs.ByTree.{by_tree}
+use Rattle.fsfs_revision.specs.Told.{Knows}
+use Rattle.fsfs_revision.proofs.Keeping.{keeps_trans}
+use Rattle.fsfs_revision.specs.ShowsReading.{MetAt, StandsAt}
+use Rattle.fsfs_revision.specs.ByTree.{IsMetByTree}
+use Rattle.fsfs_revision.proofs.ByTree.{by_tree}
 use Rattle.fsfs_dag.specs.declared.walk.Met.{Met}
 use Rattle.fsfs_dag.specs.Views.{met_value}
 use Rattle.fsfs_edit.proofs.MakingAt.{kind_some}

@@ -1,8 +1,8 @@
 use Rattle.std.proofs.Common.{◌≡◌, ◌∙◌, sym, ap, subst, length, arith}
 use Rattle.std.specs.Prelude.{is_some, vec_len}
-use Rattle.fsfs_seats.specs.declared.seat_view.SeatView.{SeatView}
-use Rattle.fsfs_seats.specs.Tells.{TellsIt}
-use Rattle.fsfs_beside.specs.Lines.{dealt}
+use Rattle.fsfs_pass.specs.declared.seat_view.SeatView.{SeatView}
+use Rattle.fsfs_pass.specs.Tells.{TellsIt}
+use Rattle.fsfs_job_run.specs.Lines.{dealt}
 use Rattle.fsfs_workers.specs.InTurn.{AreDealt}
 use Rattle.fsfs_workers.specs.Ready.{IsReady}
 use Rattle.fsfs_workers.proofs.Both.{both_did, both_rose, both_benches, each_told}

@@ -1,9 +1,9 @@
 use Rattle.std.proofs.Common.{◌≡◌, ◌∙◌, sym, ap, subst, true, arith}
 use Rattle.fsfs_turn.specs.Views.{View}
 use Rattle.fsfs_pass.specs.Passes.{Seating}
-use Rattle.fsfs_seats.specs.Seats.{view_of}
-use Rattle.fsfs_beside.specs.Lines.{dealt}
-use Rattle.fsfs_beside.specs.Passes.{WorkJobs}
+use Rattle.fsfs_pass.specs.Seats.{view_of}
+use Rattle.fsfs_job_run.specs.Lines.{dealt}
+use Rattle.fsfs_job_run.specs.Passes.{WorkJobs}
 use Rattle.fsfs_workers.proofs.worker.work.Goals as goal
 
 pub new-pass-requires-clause-sitting : goal.new-pass-requires-clause-sitting

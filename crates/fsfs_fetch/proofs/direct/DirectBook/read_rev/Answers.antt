@@ -1,6 +1,6 @@
 use Rattle.std.proofs.Common.{ℕ, List, length, take, refl}
 use Rattle.std.proofs.lemmas.Result.{err_from_is_err_and}
-use Rattle.fsfs_book.specs.Told.{part_read}
+use Rattle.fsfs_revision.specs.Told.{part_read}
 use Rattle.fsfs_fetch.specs.ViewLemmas.{later_more}
 use Rattle.fsfs_fetch.proofs.DirectLemmas.{finds_later, finds_more, gives_at}
 use Rattle.fsfs_fetch.proofs.TellingLemmas.{keeps, revs_above, revs_there, above_gives}

@@ -1,5 +1,5 @@
 use Rattle.std.proofs.Common.{◌≡◌, rules, sym, ap, ◌∙◌}
-use Rattle.fsfs_calls.specs.Paths.{same_text}
+use Rattle.fsfs_folders.specs.Paths.{same_text}
 use Rattle.fsfs_folders.specs.Prototypes.{is_elsewhere}
 use Rattle.fsfs_folders.proofs.TxnEntries.{same_tested}
 use Rattle.fsfs_folders.proofs.bench.FolderBench.is_proto.Goals as goal

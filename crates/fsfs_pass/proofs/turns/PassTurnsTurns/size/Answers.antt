@@ -4,8 +4,8 @@ use Rattle.fsfs_disk.specs.Trace.{IsSize}
 use Rattle.fsfs_machine.specs.declared.machine.Went.{Went}
 use Rattle.fsfs_turn.specs.Views.{View, rev_name, Answers, ReadTurn}
 use Rattle.fsfs_turn.specs.Courses.{ReadOnly}
-use Rattle.fsfs_seats.specs.declared.seat_view.SeatView.{SeatView}
-use Rattle.fsfs_seats.specs.Seats.{view_of}
+use Rattle.fsfs_pass.specs.declared.seat_view.SeatView.{SeatView}
+use Rattle.fsfs_pass.specs.Seats.{view_of}
 use Rattle.fsfs_pass.specs.Passes.{KnowsIt}
 use Rattle.fsfs_pass.proofs.Turning.{Keeps, back_keeps, low_on, knows_now, knows_on, sits_so, stays, mounted_still}
 use Rattle.fsfs_pass.proofs.turns.PassTurnsTurns.size.Goals as goal

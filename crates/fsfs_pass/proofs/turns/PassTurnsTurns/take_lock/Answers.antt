@@ -1,7 +1,7 @@
 use Rattle.std.proofs.Common.{◌≡◌, true, ap}
 use Rattle.fsfs_turn.specs.Views.{View, LockTaken, FoundStuck}
-use Rattle.fsfs_seats.specs.declared.seat_view.SeatView.{SeatView}
-use Rattle.fsfs_seats.specs.Seats.{view_of, stuck_view}
+use Rattle.fsfs_pass.specs.declared.seat_view.SeatView.{SeatView}
+use Rattle.fsfs_pass.specs.Seats.{view_of, stuck_view}
 use Rattle.fsfs_pass.specs.Passes.{pass_store, KnowsIt}
 use Rattle.fsfs_pass.proofs.Turning.{knows_still, on_ok_map, if_err_map, sits_so, mounted_still, on_taken, stays}
 use Rattle.fsfs_pass.proofs.turns.PassTurnsTurns.take_lock.Goals as goal

@@ -1,8 +1,8 @@
 use Rattle.std.proofs.Common.{◌≡◌, sym, subst}
 use Rattle.std.specs.Prelude.{Ok}
-use Rattle.fsfs_drafts.specs.Drafts.{Folder}
+use Rattle.fsfs_draft.specs.Drafts.{Folder}
 use Rattle.fsfs_txn.specs.declared.txn_error.TxnError.{TxnError}
-use Rattle.fsfs_own.specs.Errors as errors
+use Rattle.fsfs_draft.specs.Errors as errors
 use Rattle.fsfs_txn.specs.Spending.{IfStays}
 use Rattle.fsfs_txn.specs.Making.{IsMaking}
 use Rattle.fsfs_txn.proofs.Meeting.{made_over}

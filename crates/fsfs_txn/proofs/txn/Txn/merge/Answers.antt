@@ -1,9 +1,9 @@
 use Rattle.std.proofs.Common.{◌≡◌, sym, subst}
 use Rattle.std.specs.Prelude.{Ok}
-use Rattle.fsfs_drafts.specs.Drafts.{Folder}
-use Rattle.fsfs_land.specs.declared.land.Outcome.{Outcome}
-use Rattle.fsfs_land.specs.declared.land.Outcome.TheVariants as outcomes
-use Rattle.fsfs_own.specs.Errors as errors
+use Rattle.fsfs_draft.specs.Drafts.{Folder}
+use Rattle.fsfs_merge.specs.declared.land.Outcome.{Outcome}
+use Rattle.fsfs_merge.specs.declared.land.Outcome.TheVariants as outcomes
+use Rattle.fsfs_draft.specs.Errors as errors
 use Rattle.fsfs_txn.specs.Spending.{IfStays}
 use Rattle.fsfs_txn.specs.Merging.{IsMerging}
 use Rattle.fsfs_txn.proofs.Landing.{merged_over}

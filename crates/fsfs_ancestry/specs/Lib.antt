@@ -1,3 +1,0 @@
-pub mod CopyRoots
-pub mod Trees
-pub mod Bounded

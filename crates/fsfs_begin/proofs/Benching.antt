@@ -1,0 +1,67 @@
+-- The label and the files of a bench that was made or dropped.
+use Rattle.std.proofs.Common.{◌≡◌, ◌≤◌, ℕ, List, [], ◌∷◌, ◌++◌, Bool, true, false, cond, inl, inr, ⊎_elim, refl, sym, ap, subst, ◌∙◌, arith}
+use Rattle.std.specs.Prelude.{Option, Some, None, IfSome, IfOk, option_map, Result, Ok, Err, OnErr}
+use Rattle.std.specs.FinMap.{empty}
+use Rattle.fsfs_base.specs.Files.{Files}
+use Rattle.fsfs_base.specs.Failures.{Rose}
+use Rattle.fsfs_disk.specs.Labels.{Label, same_label, has_label, with_label, without_label}
+use Rattle.fsfs_disk.proofs.LabelLemmas.{has-without, has-with, same_label-itself}
+use Rattle.fsfs_noderev.specs.declared.node_id.NodeId.{NodeId}
+use Rattle.fsfs_begin.specs.Benches.{first_files, with_first_files}
+use Rattle.fsfs_turn.specs.Labels.{Relabels, Drops}
+use Rattle.fsfs_begin.specs.Faults.{IsDropped}
+use Rattle.fsfs_begin.specs.Labels.{IsUnlisted, ListsNoMore}
+
+pub kept_now : (l : Label) (old new : Option (List Label)) → new ≡ option_map (with_label l) old → IfSome new (λ ls. has_label l ls ≡ true)
+kept_now l None new is = subst (λ o. IfSome o (λ ls. has_label l ls ≡ true)) (sym is) tt
+kept_now l (Some ls) new is = subst (λ o. IfSome o (λ ls. has_label l ls ≡ true)) (sym is) (has-with l ls)
+
+gone_now : (rose : Type 0) (l : Label) (old new : Option (List Label)) → new ≡ option_map (without_label l) old → IsDropped l new rose
+gone_now rose l None new is = subst (λ o. IsDropped l o rose) (sym is) tt
+gone_now rose l (Some ls) new is = subst (λ o. IsDropped l o rose) (sym is) (inl (has-without l ls))
+
+left_now : (rose : Type 0) (l : Label) (new : Option (List Label)) → rose → IsDropped l new rose
+left_now rose l None r = tt
+left_now rose l (Some ls) r = inr r
+
+pub dropped_now : {E : Type 0} (bound : Bool) (l : Label) (old new : Option (List Label)) (first before now : ℕ) (result : Result Bool E) → first ≤ before → IfOk result (λ there. Drops bound l there old new) → OnErr result (Rose before now)
+    → IsDropped l new (Rose first now)
+dropped_now bound l old new first before now (Ok there) later done failed = gone_now (Rose first now) l done.met new done.made
+dropped_now bound l old new first before now (Err e) later done failed = left_now (Rose first now) l new (omega (arith, later, failed))
+
+pub filled_now : (id : NodeId) (root : List ℕ) (new : Option (List Label)) (held left : Option Files) → held ≡ option_map (λ _. empty) new → left ≡ option_map (with_first_files id root) held → left ≡ option_map (λ _. first_files id root) new
+filled_now id root new held left empty_is files = files ∙ ap (λ o. option_map (with_first_files id root) o) empty_is ∙ by_new new
+  where
+    by_new : (o : Option (List Label)) → option_map (with_first_files id root) (option_map (λ _. empty) o) ≡ option_map (λ _. first_files id root) o
+    by_new None = refl
+    by_new (Some ls) = refl
+
+-- ---- of a pass that is alone, in the labels before
+
+-- a label that came and went
+pub without-with : (l : Label) (ls : List Label) → without_label l (with_label l ls) ≡ without_label l ls
+without-with l [] = ap (λ b. cond b [] (l ∷ [])) (same_label-itself l)
+without-with l (k ∷ ls) = by_test (same_label k l) (without-with l ls) refl where
+  by_test : (b : Bool) → without_label l (with_label l ls) ≡ without_label l ls → same_label k l ≡ b
+      → without_label l (cond b (without_label l ls) (k ∷ without_label l ls) ++ l ∷ []) ≡ cond b (without_label l ls) (k ∷ without_label l ls)
+  by_test true rest is = rest
+  by_test false rest is = ap (λ b. cond b (without_label l (with_label l ls)) (k ∷ without_label l (with_label l ls))) is ∙ ap (λ xs. k ∷ xs) rest
+
+pub came_and_went : (l : Label) (old mid new : Option (List Label)) → mid ≡ option_map (with_label l) old → new ≡ option_map (without_label l) mid → new ≡ option_map (without_label l) old
+came_and_went l old mid new came went = went ∙ ap (λ o. option_map (without_label l) o) came ∙ by_old old
+  where
+    by_old : (o : Option (List Label)) → option_map (without_label l) (option_map (with_label l) o) ≡ option_map (without_label l) o
+    by_old None = refl
+    by_old (Some ls) = ap (λ xs. Some xs) (without-with l ls)
+
+pub unlisted_now : {E : Type 0} (bound then : Bool) (l : Label) (old mid new : Option (List Label)) (first before now : ℕ) (result : Result Bool E) → bound ≡ false → then ≡ false → first ≤ before
+    → Relabels bound (with_label l) old mid → IfOk result (λ there. Drops then l there mid new) → OnErr result (Rose before now) → IsUnlisted l (Rose first now) old new
+unlisted_now bound then l old mid new first before now (Ok there) free after later kept done failed =
+    inl (came_and_went l old mid new (kept.made ∙ ap (λ o. option_map (with_label l) o) (kept.is_met free)) (done.made ∙ ap (λ o. option_map (without_label l) o) (done.is_met after)))
+unlisted_now bound then l old mid new first before now (Err e) free after later kept done failed = inr (omega (arith, later, failed))
+
+-- ---- of the whole, by what the first part left
+
+pub no_more_on : (base : ℕ) (P Q : Type 0) (old mid new : Option (List Label)) → mid ≡ old → (P → Q) → ListsNoMore base P mid new → ListsNoMore base Q old new
+no_more_on base P Q old mid new same f w =
+    subst (λ o. ListsNoMore base Q o new) same (⊎_elim (λ stays. inl stays) (λ d. inr (d.0, ⊎_elim (λ gone. inl gone) (λ p. inr (f p)) d.1)) w)

@@ -1,0 +1,11 @@
+//! Why a transaction may be listed still.
+use fsfs_base::DiskPlace;
+use thiserror::Error;
+
+/// Why a transaction may be listed still.
+#[derive(Clone, Copy, Debug, PartialEq, Eq, Error)]
+pub enum PurgeFault {
+    /// The call of the disk at this place failed, and the count of failed turns rose.
+    #[error("the disk failed")]
+    DiskFault(DiskPlace),
+}

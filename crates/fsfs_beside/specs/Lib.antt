@@ -1,4 +1,0 @@
-pub mod Beside
-pub mod Lines
-pub mod Passes
-pub mod Laws

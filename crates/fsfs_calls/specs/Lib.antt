@@ -1,5 +1,0 @@
-pub mod Paths
-pub mod CallRecord
-pub mod Listing
-pub mod Named
-pub mod Remains

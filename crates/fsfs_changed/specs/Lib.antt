@@ -1,3 +1,0 @@
-pub mod Items
-pub mod ChangedTexts
-pub mod Laws

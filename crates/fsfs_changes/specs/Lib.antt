@@ -1,4 +1,0 @@
-pub mod Words
-pub mod Items
-pub mod Changes
-pub mod Reading

@@ -1,4 +1,0 @@
-pub mod Damages
-pub mod Readings
-pub mod Checks
-pub mod Causes

@@ -1,5 +1,0 @@
-use Rattle.fsfs_drafts.proofs.OuterLaw.{edits_keep_marks}
-use Rattle.fsfs_drafts.proofs.laws.edits_keep_marks.Goals as goal
-
-pub returns : goal.returns
-returns c = edits_keep_marks

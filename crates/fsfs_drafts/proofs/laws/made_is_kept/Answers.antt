@@ -1,5 +1,0 @@
-use Rattle.fsfs_drafts.proofs.OuterLaw.{made_is_kept}
-use Rattle.fsfs_drafts.proofs.laws.made_is_kept.Goals as goal
-
-pub returns : goal.returns
-returns c = made_is_kept

@@ -1,0 +1,84 @@
+-- What the parts that were put one after another come to.
+use Rattle.std.proofs.Common.{◌≡◌, ◌∙◌, ◌+◌, ◌≤◌, ℕ, List, [], ◌∷◌, ◌++◌, length, true, Option, Some, None, sym, ap, subst, append_assoc}
+use Rattle.std.specs.Prelude.{codes}
+use Rattle.md5.specs.Md5.{md5}
+use Rattle.fsfs_base.specs.Grammar.{Appends}
+use Rattle.fsfs_base.specs.declared.kind.Kind.{Kind}
+use Rattle.fsfs_noderev.specs.Ids.{IsId, id_value}
+use Rattle.fsfs_noderev.specs.NodeRevs.{IsNodeRev}
+use Rattle.fsfs_noderev.specs.Writing.{HasText, FitsRoot}
+use Rattle.fsfs_noderev.specs.declared.node_id.NodeId.{NodeId}
+use Rattle.fsfs_noderev.specs.declared.rep.Rep.{Rep}
+use Rattle.fsfs_noderev.specs.declared.rep.Contents.{Contents}
+use Rattle.fsfs_noderev.specs.declared.node_rev.CopyRoot.{CopyRoot}
+use Rattle.fsfs_noderev.specs.declared.node_rev.NodeRev.{NodeRev}
+use Rattle.fsfs_noderev.specs.Changes.{AreRevisionChanges}
+use Rattle.fsfs_noderev.specs.declared.item.ChangeItem.{ChangeItem}
+use Rattle.fsfs_layout.specs.Dump.{Entries, IsDump, dump_text}
+use Rattle.fsfs_revision.specs.Nodes.{is_revision_id}
+use Rattle.fsfs_revision.specs.Trailers.{IsOffset, IsTrailer}
+use Rattle.fsfs_revision.proofs.TrailerLemmas.{written}
+use Rattle.fsfs_revision.specs.ShowsReading.{Pairs, kind_word, IsEntryValue}
+use Rattle.fsfs_final.specs.Finishing.{final_root, finish}
+use Rattle.fsfs_final.specs.Lists.{framed_text, IsListPut, AreContentsPut}
+use Rattle.fsfs_final.specs.Nodes.{IsNodePut}
+use Rattle.fsfs_final.specs.Endings.{IsEndPut}
+
+pub list_put : (n start : ℕ) (old a b new text : List ℕ) (pairs : Pairs) (rep : Rep) → rep.rev ≡ Some n → rep.offset ≡ start + length old → rep.length ≡ length text → rep.size ≡ length text → rep.md5.bytes ≡ md5 text → rep.unique ≡ None
+    → text ≡ dump_text pairs → IsDump text pairs → Entries text pairs → a ≡ old ++ codes "PLAIN\n" → b ≡ a ++ text → new ≡ b ++ codes "ENDREP\n" → IsListPut n start old new pairs rep
+list_put n start old a b new text pairs rep r o l s m u t d e first second third = record {
+  rev_is = r;
+  is = record { offset = o; length_is = l ∙ ap length t; size = s ∙ ap length t; md5_is = m ∙ ap md5 t; unique = u };
+  dump = subst (λ (x : List ℕ). IsDump x pairs) t d;
+  in_order = subst (λ (x : List ℕ). Entries x pairs) t e;
+  added = third
+      ∙ ap (λ (x : List ℕ). x ++ codes "ENDREP\n") (second ∙ ap (λ (x : List ℕ). x ++ text) first)
+      ∙ append_assoc (old ++ codes "PLAIN\n") text (codes "ENDREP\n")
+      ∙ append_assoc old (codes "PLAIN\n") (text ++ codes "ENDREP\n")
+      ∙ ap (λ (x : List ℕ). old ++ framed_text x) t;
+}
+
+pub end_put : (start root changes : ℕ) (old a b c new text : List ℕ) (items : List ChangeItem) → changes ≡ start + length old → AreRevisionChanges text items → a ≡ old ++ text → b ≡ a ++ 10 ∷ [] → Appends (IsOffset 32) b c root → Appends (IsOffset 10) c new changes
+    → IsEndPut start old new root items
+end_put start root changes old a b c new text items at is first second third fourth =
+    let w : Appends IsTrailer a new (root, changes) = written a b c new root changes second third fourth in
+    record {
+      text = text;
+      line = w.text;
+      items_are = is;
+      trailer_is = subst (λ (k : ℕ). IsTrailer w.text (root, k)) at w.text_is;
+      added = w.parts ∙ ap (λ (x : List ℕ). x ++ w.text) first ∙ append_assoc old text w.text;
+    }
+
+root_fits : (n : ℕ) (root : Option CopyRoot) → FitsRoot root → FitsRoot (final_root n root)
+root_fits n None h = tt
+root_fits n (Some root) h = h
+
+-- a finished node-revision has the paths that it had
+pub finished_text : (n o : ℕ) (text props : Option Contents) (u v : NodeRev) → v ≡ finish n o text props u → HasText u → HasText v
+finished_text n o text props u v e h = subst HasText (sym e) (record { created_path = h.created_path; copy_from = h.copy_from; copy_root = root_fits n u.copy_root h.copy_root })
+
+pub node_put : (n start o : ℕ) (old mid front new lines : List ℕ) (u v : NodeRev) (entries props : Option Pairs) (text set : Option Contents) → AreContentsPut n start old mid u.text entries text → AreContentsPut n start mid front u.props props set
+    → o ≡ start + length front → v ≡ finish n o text set u → IsNodeRev lines v → length lines ≤ 65536 → new ≡ front ++ lines → IsNodePut n start old new u entries props v
+node_put n start o old mid front new lines u v entries props text set first second at e is short added =
+    let text_is : v.text ≡ text = ap (λ (x : NodeRev). x.text) e in
+    let set_is : v.props ≡ set = ap (λ (x : NodeRev). x.props) e in
+    record {
+      mid = mid;
+      front = front;
+      lines = lines;
+      text_put = subst (λ (x : Option Contents). AreContentsPut n start old mid u.text entries x) (sym text_is) first;
+      props_put = subst (λ (x : Option Contents). AreContentsPut n start mid front u.props props x) (sym set_is) second;
+      finished = e ∙ ap (λ (k : ℕ). finish n k text set u) at ∙ ap (λ (x : Option Contents). finish n (start + length front) x set u) (sym text_is) ∙ ap (λ (x : Option Contents). finish n (start + length front) v.text x u) (sym set_is);
+      is = is;
+      short = short;
+      added = added;
+    }
+
+pub value_put : (kind : Kind) (id : NodeId) (old new : List ℕ) → old ≡ kind_word kind → Appends IsId old new (id_value id) → is_revision_id id ≡ true → IsEntryValue new kind id
+value_put kind id old new first second lasting = record {
+  id_text = second.text;
+  id_is = second.text_is;
+  parts = second.parts ∙ ap (λ (x : List ℕ). x ++ second.text) first;
+  lasting = lasting;
+}

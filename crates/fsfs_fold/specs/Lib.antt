@@ -1,4 +1,0 @@
-pub mod FoldedItems
-pub mod Marks
-pub mod Lasting
-pub mod Views

@@ -1,4 +1,0 @@
-pub mod Dump
-pub mod Children
-pub mod Reading
-pub mod Fault

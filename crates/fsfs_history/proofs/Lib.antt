@@ -1,0 +1,9 @@
+pub mod HistoryLemmas
+pub mod HistoryTexts
+pub mod EndLemmas
+pub mod ItemLemmas
+pub mod TextKeys
+pub mod KindLemmas
+pub mod NameKeys
+pub mod DirLemmas
+pub mod LineLemmas

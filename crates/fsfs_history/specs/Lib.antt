@@ -1,0 +1,4 @@
+pub mod Points
+pub mod Ends
+pub mod Views
+pub mod KeptDirs

@@ -1,6 +1,0 @@
-//! `svnjobs` on a disk: the repository is opened, the script is read to its end, its jobs are done, and what became of them is printed.
-#![tactic(auto)]
-
-mod running;
-
-pub use running::run_script;

@@ -1,0 +1,110 @@
+-- The lines of jobs that are done beside each other hold of the history, however it goes on.
+use Rattle.std.proofs.Common.{◌≡◌, ◌≤◌, ℕ, max, List, [], ◌∷◌, ◌++◌, suc, Bool, true, false, refl, sym, ap, ◌∙◌, append_assoc, append-nil, inl, inr, arith}
+use Rattle.std.specs.Prelude.{is_some}
+use Rattle.fsfs_tree.specs.Revisions.{Revision}
+use Rattle.fsfs_tree.specs.Dated.{last_of}
+use Rattle.fsfs_machine.specs.declared.machine.Recorded.{Recorded}
+use Rattle.fsfs_machine.specs.Machine.{revisions}
+use Rattle.fsfs_turn.specs.Views.{View, Begins}
+use Rattle.fsfs_script.specs.declared.job.Base.{Base}
+use Rattle.fsfs_script.specs.declared.job.Base.TheVariants.{Youngest, Number}
+use Rattle.fsfs_script.specs.declared.job.Job.{Job}
+use Rattle.fsfs_jobs.specs.Serial.{base_of, ReadsText as AloneReads, LacksRead as AloneLacksRead, LacksBase as AloneLacksBase, LacksName, Begins as AloneBegins}
+use Rattle.fsfs_jobs.specs.declared.answer.JobAnswer.{JobAnswer}
+use Rattle.fsfs_job_run.specs.Jobs.{own_of, own_of_all, tells_stuck}
+use Rattle.fsfs_job_run.specs.Beside.{IsBase, RunsBeside, ReadsText, LacksRead, LacksBase, DoesEdits, GoesOnFrom, shown_in}
+use Rattle.fsfs_job_run.specs.Passes.{last_known, IsOnward, End, More}
+use Rattle.fsfs_job_run.specs.BesideLaws.{LinesStay, WorkersLinesStay, AloneIsBeside, WorkGoesOn, WorkersWorked}
+
+-- ---- of a later history, and a worker that knew less
+
+goes_on : (part h later : List Revision) → GoesOnFrom part h → GoesOnFrom h later → GoesOnFrom part later
+goes_on part h later a b = (a.0 ++ b.0, b.1 ∙ ap (λ (l : List Revision). l ++ b.0) a.1 ∙ append_assoc part a.0 b.0)
+
+based : (base : Base) (k less last at : ℕ) → less ≤ k → IsBase base k last at → IsBase base less last at
+based Youngest k less last at few b = (omega (arith, few, b.0), b.1)
+based (Number n) k less last at few b = b
+
+runs_less : (g : List Revision) (date : List ℕ) (k less : ℕ) (job : Job) (answer : JobAnswer) (now : List Revision) → less ≤ k → RunsBeside g date k job answer now → RunsBeside g date less job answer now
+runs_less g date k less _ _ _ few (ReadsText job answer at b reads) = ReadsText job answer at (based job.base k less (last_of g) at few b) reads
+runs_less g date k less _ _ _ few (LacksRead job n is above) = LacksRead job n is above
+runs_less g date k less _ _ _ few (LacksBase job n is above) = LacksBase job n is above
+runs_less g date k less _ _ _ few (DoesEdits job answer now at b does) = DoesEdits job answer now at (based job.base k less (last_of g) at few b) does
+
+pub stay : LinesStay
+stay moment h later k less job answer on few (inl d) = inl (record {
+  before = d.before;
+  behind = d.behind;
+  known = omega (arith, few, d.known);
+  date = d.date;
+  dated = d.dated;
+  runs = runs_less d.before d.date k less job answer d.behind few d.runs;
+  part = goes_on d.behind h later d.part on;
+})
+stay moment h later k less job answer on few (inr fails) = inr fails
+
+pub all_stay : WorkersLinesStay
+all_stay moment h later k less [] [] on few l = tt
+all_stay moment h later k less [] (answer ∷ answers) on few l = absurd l
+all_stay moment h later k less (job ∷ js) [] on few l = absurd l
+all_stay moment h later k less (job ∷ js) (answer ∷ answers) on few l =
+    (stay moment h later k less job answer on few l.0, all_stay moment h later (max k (shown_in answer)) (max less (shown_in answer)) js answers on (omega (arith, few)) l.1)
+
+-- ---- alone
+
+base_alone : (base : Base) (k last : ℕ) → k ≤ last → base_of base last ≤ last → IsBase base k last (base_of base last)
+base_alone Youngest k last few within = (few, within)
+base_alone (Number n) k last few within = (refl, within)
+
+pub alone : AloneIsBeside
+alone h date t k _ _ _ _ room few (AloneReads job answer within reads) = ReadsText job answer (base_of job.base (last_of h)) (base_alone job.base k (last_of h) few within) reads
+alone h date t k _ _ _ _ room few (AloneLacksRead job n is above) = LacksRead job n is above
+alone h date t k _ _ _ _ room few (AloneLacksBase job n is above) = LacksBase job n is above
+alone h date t k _ _ _ _ room few (LacksName job within full) = absurd (omega (arith, room, full))
+alone h date t k _ _ _ _ room few (AloneBegins job answer now within less does) = DoesEdits job answer now (base_of job.base (last_of h)) (base_alone job.base k (last_of h) few within) does
+
+-- ---- a worker's jobs
+
+pub one_more : WorkGoesOn
+one_more moment _ _ job answer _ _ u (End v) last = More job answer [] [] v u u last (End u)
+one_more moment _ _ job answer _ _ u (More j a js answers v n m first rest) last =
+    More j a (js ++ job ∷ []) (answers ++ answer ∷ []) v n u first (one_more moment js answers job answer n m u rest last)
+
+pub begins_on : (h m v : List Recorded) → Begins h m → Begins m v → Begins h v
+begins_on h m v a b = (b.0 ++ a.0, a.1 ∙ ap (λ (l : List Recorded). l ++ a.0) b.1 ∙ append_assoc v b.0 a.0)
+
+-- a history that goes on from what the pass knows behind its jobs goes on from what it knew before them
+pub onward : (h : List Recorded) (m u : View) → Begins u.seen m.seen → last_known m ≤ last_known u → IsOnward u h → IsOnward m h
+onward h m u begins later on = record { begins = begins_on h u.seen m.seen on.begins begins; has = omega (arith, later, on.has) }
+
+same : (h : List Revision) → GoesOnFrom h h
+same h = ([], sym (append-nil h))
+
+not_so : (a b : Bool) → (a ≡ true → b ≡ true) → b ≡ false → a ≡ false
+not_so true b so none = let e : b ≡ true = so refl in absurd cc
+not_so false b so none = refl
+
+pub worked : WorkersWorked
+worked moment _ _ _ _ (End v) = record {
+  each = refl;
+  lines = λ h on. tt;
+  begins = ([], sym (append-nil v.seen));
+  later = omega arith;
+  own = sym (append-nil v.pass.mine);
+  stuck = λ free. tt;
+  still = λ found. found;
+}
+worked moment _ _ _ _ (More job answer js answers v m u first rest) =
+    let w = worked moment js answers m u rest in
+    record {
+      each = ap suc w.each;
+      lines = λ h on. (
+        first.line h (onward h m u w.begins w.later on),
+        all_stay moment (revisions h) (revisions h) (last_known m) (max (last_known v) (shown_in answer)) js answers (same (revisions h)) (omega (arith, first.later, first.shown)) (w.lines h on),
+      );
+      begins = begins_on u.seen m.seen v.seen w.begins first.grows;
+      later = omega (arith, first.later, w.later);
+      own = w.own ∙ ap (λ (l : List ℕ). l ++ own_of_all answers) first.own ∙ append_assoc v.pass.mine (own_of answer) (own_of_all answers);
+      stuck = λ free. (not_so (tells_stuck answer) (is_some u.pass.stuck) (λ told. w.still (first.stuck told)) free, w.stuck free);
+      still = λ found. w.still (first.still found);
+    }

@@ -1,0 +1,179 @@
+-- A run of jobs over what a pass has seen is one over histories.
+use Rattle.std.proofs.Common.{◌≡◌, ◌⊎◌, ◌+◌, ℕ, List, [], ◌∷◌, length, true, refl, sym, ap, subst, ◌∙◌, length-append, inl, inr, arith}
+use Rattle.std.proofs.lemmas.List.{map-append, length-map}
+use Rattle.std.specs.Prelude.{Option, Some, None, IfSome, Result, Err}
+use Rattle.fsfs_base.specs.Failures.{Rose}
+use Rattle.fsfs_layout.specs.declared.layout.Layout.{Layout}
+use Rattle.fsfs_base.specs.declared.place.DiskPlace.{DiskPlace}
+use Rattle.fsfs_base.specs.declared.open_fault.OpenFault.{OpenFault}
+use Rattle.fsfs_base.specs.declared.open_fault.OpenFault.TheVariants.{NotRepo, OtherFormat, Linear, Small, DiskFault, Memory}
+use Rattle.fsfs_create.specs.OpenFaults.{OpensBecause}
+use Rattle.fsfs_stands.specs.Files.{StandsFor}
+use Rattle.fsfs_create.specs.Known.{HasSeenAll}
+use Rattle.fsfs_turn.specs.Opening.{LeftoversAgree}
+use Rattle.fsfs_script.specs.Errors.{IfReadFault}
+use Rattle.fsfs_script.specs.Whole.{ReadsScript}
+use Rattle.fsfs_script.specs.declared.script_error.ScriptError.{ScriptError}
+use Rattle.fsfs_cli.specs.FaultsFaults.{fault_from_open, fault_from_script}
+use Rattle.fsfs_cli.specs.declared.faults_fault.Fault.{Fault}
+use Rattle.fsfs_disk.specs.Trace.{Trace, NameChange, FirmNames, FailsAt, Performs, files_now}
+use Rattle.fsfs_disk.proofs.CrashLemmas.{files_are_image}
+use Rattle.fsfs_machine.specs.declared.machine.Recorded.{Recorded}
+use Rattle.fsfs_machine.specs.declared.machine.Coming.{Coming}
+use Rattle.fsfs_machine.specs.Machine.{recorded, revisions}
+use Rattle.fsfs_tree.specs.Revisions.{Revision}
+use Rattle.fsfs_turn.specs.Views.{View}
+use Rattle.fsfs_turn.specs.Alone.{are_harmless, KnowsAlone}
+use Rattle.fsfs_turn.specs.Telling.{OwnedState}
+use Rattle.fsfs_turn.specs.Past.{IsPart}
+use Rattle.fsfs_turn.specs.Whole.{NamesFrom}
+use Rattle.fsfs_repo.specs.Crashes.{CrashesLeave}
+use Rattle.fsfs_script.specs.declared.job.Job.{Job}
+use Rattle.fsfs_jobs.specs.declared.answer.JobAnswer.{JobAnswer}
+use Rattle.fsfs_job_run.specs.Jobs.{DoesJob, Fails, ByDisk, ByBench, ByStuck, ByMemory, ByNames, ByCounts, AddsBy, RunsJob, RunJobs, End, More, StuckBehindDoubt, bench_faults_in}
+use Rattle.fsfs_job_run.proofs.SerialJobLemmas.{runs_serial, grow}
+use Rattle.fsfs_job_run.proofs.ListedLemmas.{failed_on}
+use Rattle.fsfs_job_run.specs.Running.{DoAll, RunsPast}
+use Rattle.fsfs_job_run.proofs.Causes.{any_on}
+use Rattle.fsfs_job_run.specs.Histories.{EndsJob, EndJobs, DidScript, StopsShort}
+use Rattle.fsfs_job_run.specs.Runs.{AllStandFor, HoldsAll, IsPartOf, Ran, RanIn, RanOver, RunScene, RunsScript, NotOpened, NotRead, NoRoom, Done}
+
+stays : (job : Job) (answer : JobAnswer) (h now : List Recorded) → Fails job answer → AddsBy answer h now → now ≡ h
+stays _ _ h now (ByDisk job line at) same = same
+stays _ _ h now (ByBench job line) same = same
+stays _ _ h now (ByStuck job line at) same = same
+stays _ _ h now (ByMemory job line) same = same
+stays _ _ h now (ByNames job line) same = same
+stays _ _ h now (ByCounts job line path) same = same
+
+ends_job : (moment : ℕ) (job : Job) (answer : JobAnswer) (v u : View) → RunsJob moment job answer v u → EndsJob moment (revisions v.seen) job answer (revisions u.seen)
+ends_job moment job answer v u r = by r.done
+  where
+    by : DoesJob moment (revisions v.seen) job answer (revisions u.seen) ⊎ Fails job answer → EndsJob moment (revisions v.seen) job answer (revisions u.seen)
+    by (inl does) = inl does
+    by (inr fails) = inr (fails, ap revisions (stays job answer v.seen u.seen fails r.leaves.adds))
+
+ends_jobs : (moment : ℕ) (js : List Job) (answers : List JobAnswer) (v u : View) → RunJobs moment js answers v u → EndJobs moment (revisions v.seen) js answers (revisions u.seen)
+ends_jobs moment _ _ _ _ (End v) = refl
+ends_jobs moment _ _ _ _ (More job answer js answers v m u first rest) = (revisions m.seen, ends_job moment job answer v m first, ends_jobs moment js answers m u rest)
+
+pub did_script : (moment : ℕ) (js : List Job) (answers : List JobAnswer) (v u : View) → RunJobs moment js answers v u → DidScript moment js answers (revisions v.seen) (revisions u.seen)
+did_script moment js answers v u runs =
+    let grown = grow moment js answers v u runs in
+    let more = grown.begins.0 in
+    let all : length u.seen ≡ length v.seen + length more = ap (λ (l : List Recorded). length l) grown.begins.1 ∙ length-append v.seen more in
+    record {
+      jobs = ends_jobs moment js answers v u runs;
+      more = revisions more;
+      grew = ap revisions grown.begins.1 ∙ map-append (λ (x : Recorded). x.revision) v.seen more;
+      by = length-map more (λ (x : Recorded). x.revision) ∙ omega (arith, all, grown.count);
+      serial = λ none t room. let serial = runs_serial moment js answers v u t runs none room in (serial.0, serial.2);
+    }
+
+-- ---- what is told of a run
+
+a_part : (h g : List Recorded) (d : Option Coming) → IsPart h d g → IsPartOf (revisions h) (revisions g)
+a_part h g d (inl (more, is)) = inl (revisions more, ap revisions is ∙ map-append (λ (x : Recorded). x.revision) g more)
+a_part h g d (inr (x, is, with)) = inr (x.revision, ap revisions with ∙ map-append (λ (r : Recorded). r.revision) h (recorded x ∷ []))
+
+-- `before` is how many revisions there were at the opening
+held_all : (before : List Revision) (layout : Layout) (told : Option Trace) (u : View) → u.opened ≡ length before → CrashesLeave layout told u → IfSome told (λ t. HoldsAll u.since t before (revisions u.seen))
+held_all before layout None u opened leaves = tt
+held_all before layout (Some t) u opened leaves = record {
+  layout = layout;
+  seen = u.seen;
+  are = refl;
+  moments = λ m image. let w = leaves.moments m image in (w.1, w.4, a_part u.seen w.1 w.0 w.2, omega (arith, w.3, opened), w.5);
+  whole = leaves.whole;
+  stands = λ m image.
+      let w = leaves.stands m image in
+      let a : length (revisions u.seen) ≡ length u.seen = length-map u.seen (λ (x : Recorded). x.revision) in
+      let b : length (revisions w.1) ≡ length w.1 = length-map w.1 (λ (x : Recorded). x.revision) in
+      (revisions w.1, a_part u.seen w.1 w.0 w.2, omega (arith, a, b, w.3), w.4);
+  named = λ m image. subst (NamesFrom m) (sym (length-map u.seen (λ (x : Recorded). x.revision))) (leaves.named m image);
+}
+
+-- where none of the pass's faults left a revision in doubt
+stands_all : (layout : Layout) (told : Option Trace) (u : View) → u.section ≡ None → are_harmless u.pass.faults ≡ true → CrashesLeave layout told u → IfSome told (λ t. AllStandFor t (revisions u.seen))
+stands_all layout None u none few leaves = tt
+stands_all layout (Some t) u none few leaves = record { now = leaves.doubtless none few (files_now t) (files_are_image t.first t.operations); images = leaves.doubtless none few }
+
+pub ran : (moment : ℕ) (js : List Job) (answers : List JobAnswer) (youngest : ℕ) (v u : View) (layout : Layout) (told : Option Trace) → v.opened ≡ length v.seen → are_harmless v.pass.faults ≡ true → u.section ≡ None → StuckBehindDoubt answers → RunJobs moment js answers v u → length u.seen ≡ youngest + 1 → CrashesLeave layout told u
+    → Ran moment v.since js answers youngest (revisions v.seen) told
+ran moment js answers youngest v u layout told opened few none stuck runs last leaves =
+    let grown = grow moment js answers v u runs in
+    record {
+      now = revisions u.seen;
+      did = did_script moment js answers v u runs;
+      last = length-map u.seen (λ (x : Recorded). x.revision) ∙ last;
+      held = subst (λ n. IfSome told (λ t. HoldsAll n t (revisions v.seen) (revisions u.seen))) grown.since
+          (held_all (revisions v.seen) layout told u (grown.opened ∙ (opened ∙ sym (length-map v.seen (λ (x : Recorded). x.revision)))) leaves);
+      stuck = stuck;
+      certain = λ calm. stands_all layout told u none (grown.doubtless calm few) leaves;
+    }
+
+pub stops_short : (start : OwnedState) (moment : ℕ) (js : List Job) (answers : List JobAnswer) (v : View) → RunsPast start moment js answers v → StopsShort moment js answers (revisions v.seen)
+stops_short start moment js answers v past = record {
+  before = past.before;
+  job = past.job;
+  after = past.after;
+  jobs_are = past.jobs_are;
+  told = past.told;
+  more = past.more;
+  answers_are = past.answers_are;
+  between = revisions past.known.seen;
+  did = did_script moment past.before past.told v past.known past.runs;
+}
+
+-- ---- what a run that was not begun left
+
+pub firm_fails : (change : NameChange) (old new : Option Trace) → Performs change old new → FailsAt change old new
+firm_fails change old new done = inr (inr done)
+
+-- ---- what a lone pass knows behind jobs
+
+pub ran_in : (layout : Layout) (young : ℕ) (stuck : Option DiskPlace) (told new : Option Trace) (moment : ℕ) (js : List Job) (answers : List JobAnswer) (youngest : ℕ) (v : View) (start : OwnedState) → new ≡ told → v.opened ≡ length v.seen → are_harmless v.pass.faults ≡ true
+    → ((u : View) → KnowsAlone layout young stuck told u → length u.seen ≡ youngest + 1) → ((u : View) → KnowsAlone layout young stuck told u → CrashesLeave layout told u)
+    → DoAll (KnowsAlone layout young stuck told) moment js answers v ⊎ RunsPast start moment js answers v → RanIn moment v.since js answers youngest (revisions v.seen) new
+ran_in layout young stuck told new moment js answers youngest v start same opened few all leaves (inl (u, known, none, runs, stuck_so)) =
+    inl (subst (Ran moment v.since js answers youngest (revisions v.seen)) (sym same) (ran moment js answers youngest v u layout told opened few none (stuck_so few) runs (all u known) (leaves u known)))
+ran_in layout young stuck told new moment js answers youngest v start same opened few all leaves (inr past) = inr (stops_short start moment js answers v past)
+
+-- ---- a run, told of a count that rose as well
+
+opens_weaker : {D E : Type 0} (told : Option Trace) (why : OpenFault) → (D → E) → OpensBecause D told why → OpensBecause E told why
+opens_weaker told NotRepo f because = because
+opens_weaker told (OtherFormat number) f because = because
+opens_weaker told Linear f because = because
+opens_weaker told (Small fault) f because = because
+opens_weaker told (DiskFault at) f because = (f because.0, because.1)
+opens_weaker told Memory f because = tt
+
+pub runs_weaker : {D E : Type 0} (B C : ℕ → Type 0) (moment : ℕ) (a b : RunScene) (r : Result ℕ Fault) → (D → E) → ((n : ℕ) → B n → C n) → RunsScript moment D B a b r → RunsScript moment E C a b r
+runs_weaker B C moment a b _ f g (NotOpened why because untouched unread) = NotOpened why (opens_weaker a.trace why f because) untouched unread
+runs_weaker B C moment a b _ f g (NotRead error read rose untouched) = NotRead error read rose untouched
+runs_weaker B C moment a b _ f g (NoRoom js read untouched) = NoRoom js read untouched
+runs_weaker {D} {E} B C moment a b _ f g (Done js answers youngest result read ends each failed quiet benches listed ran printed) =
+    Done js answers youngest result read ends each (any_on D E answers f failed) (λ none. quiet (λ d. none (f d))) (g (bench_faults_in answers) benches) (failed_on f listed) ran printed
+
+-- ---- the ends of a run
+
+pub not_opened : {D : Type 0} {B : ℕ → Type 0} (moment : ℕ) (a b : RunScene) (why : OpenFault) (fault : Fault) → fault ≡ fault_from_open why → OpensBecause D a.trace why → FailsAt FirmNames a.trace b.trace → b.written ≡ a.written → b.write_faults ≡ a.write_faults
+    → b.remaining ≡ a.remaining → RunsScript moment D B a b (Err fault)
+not_opened {D} {B} moment a b why fault is because firm written faults unread =
+    subst (λ (f : Fault). RunsScript moment D B a b (Err f)) (sym is) (NotOpened why because (record { disk = firm; output = written; output_faults = faults }) unread)
+
+pub not_read : {D : Type 0} {B : ℕ → Type 0} (moment : ℕ) (a b : RunScene) (error : ScriptError) (fault : Fault) → fault ≡ fault_from_script error → ReadsScript a.remaining (Err error) → IfReadFault error (Rose a.read_faults b.read_faults)
+    → FailsAt FirmNames a.trace b.trace → b.written ≡ a.written → b.write_faults ≡ a.write_faults → RunsScript moment D B a b (Err fault)
+not_read {D} {B} moment a b error fault is read rose firm written faults =
+    subst (λ (f : Fault). RunsScript moment D B a b (Err f)) (sym is) (NotRead error read rose (record { disk = firm; output = written; output_faults = faults }))
+
+-- over what the opening told
+pub ran_over : (knows : View → Type 0) (moment : ℕ) (js : List Job) (answers : List JobAnswer) (youngest : ℕ) (old new : Option Trace) → IfSome old (λ t. (h : List Revision) (stands : StandsFor (files_now t) h) → LeftoversAgree stands → HasSeenAll knows t stands.opened.min_unpacked_rev h)
+    → ((v : View) → knows v → v.section ≡ None → v.opened ≡ length v.seen → are_harmless v.pass.faults ≡ true → RanIn moment v.since js answers youngest (revisions v.seen) new) → RanOver moment js answers youngest old new
+ran_over knows moment js answers youngest None new opened does = tt
+ran_over knows moment js answers youngest (Some t) new opened does = λ h stands agreeing.
+    let s = opened h stands agreeing in
+    let v = s.0 in
+    let before : v.opened ≡ length v.seen = s.6 ∙ (ap (λ (l : List Revision). length l) (sym s.4) ∙ length-map v.seen (λ (x : Recorded). x.revision)) in
+    subst (λ g. RanIn moment (length t.operations + 1) js answers youngest g new) s.4 (subst (λ n. RanIn moment n js answers youngest (revisions v.seen) new) s.5 (does v s.1 s.2 before (ap (λ p. are_harmless p.faults) s.3)))

@@ -1,0 +1,115 @@
+-- What a run of a script does to a disk, its input and its output.
+use Rattle.std.specs.Prelude.{◌≡◌, ◌⊎◌, ◌≤◌, ◌+◌, ◌++◌, ◌∷◌, [], ℕ, List, length, Option, Some, IfSome, option_map, Result, Ok, Err, slice_get}
+use Rattle.fsfs_base.specs.Failures.{Rose}
+use Rattle.fsfs_base.specs.Files.{Files}
+use Rattle.fsfs_layout.specs.declared.layout.Layout.{Layout}
+use Rattle.fsfs_tree.specs.Revisions.{Revision}
+use Rattle.fsfs_disk.specs.Labels.{Label}
+use Rattle.fsfs_disk.specs.Trace.{Trace, FirmNames, FailsAt, ImageSince, IsImage, files_now, labels_now}
+use Rattle.fsfs_base.specs.Streams.{Adds}
+use Rattle.fsfs_base.specs.Output.{AddsFront}
+use Rattle.fsfs_stands.specs.Files.{StandsFor}
+use Rattle.fsfs_create.specs.OpenFaults.{OpensBecause}
+use Rattle.fsfs_base.specs.declared.open_fault.OpenFault.{OpenFault}
+use Rattle.fsfs_machine.specs.declared.machine.Recorded.{Recorded}
+use Rattle.fsfs_machine.specs.Machine.{revisions}
+use Rattle.fsfs_turn.specs.Opening.{LeftoversAgree}
+use Rattle.fsfs_turn.specs.Whole.{HasHistory, HasRevision, NamesFrom}
+use Rattle.fsfs_script.specs.declared.job.Job.{Job}
+use Rattle.fsfs_script.specs.Errors.{IfReadFault}
+use Rattle.fsfs_script.specs.Whole.{ReadsScript, EndsSource}
+use Rattle.fsfs_script.specs.declared.script_error.ScriptError.{ScriptError}
+use Rattle.fsfs_cli.specs.FaultsFaults.{fault_from_open, fault_from_script}
+use Rattle.fsfs_cli.specs.declared.faults_fault.Fault.{Fault}
+use Rattle.fsfs_cli.specs.declared.faults_fault.Fault.TheVariants.{Outside, Memory}
+use Rattle.fsfs_cli.specs.declared.outside_fault.OutsideFault.TheVariants.{Write}
+use Rattle.fsfs_jobs.specs.Lines.{greatest_status, run_text}
+use Rattle.fsfs_jobs.specs.declared.answer.JobAnswer.{JobAnswer}
+use Rattle.fsfs_job_run.specs.Jobs.{StuckBehindDoubt, TellNoDoubt, bench_faults_in}
+use Rattle.fsfs_job_run.specs.Listed.{LeavesListed}
+use Rattle.fsfs_job_run.specs.Running.{IfAnyFails}
+use Rattle.fsfs_job_run.specs.Histories.{DidScript, StopsShort}
+
+-- what a disk, the input and the output tell at one moment: the trace; what remains to be read; what was written; and how often the streams failed
+pub record RunScene : Type 0 where
+  pub trace : Option Trace
+  pub remaining : Option (List ℕ)
+  pub read_faults : ℕ
+  pub written : Option (List ℕ)
+  pub write_faults : ℕ
+
+abbrev pub run_scene : Option Trace → Option (List ℕ) → ℕ → Option (List ℕ) → ℕ → RunScene
+run_scene trace remaining read_faults written write_faults = record { trace = trace; remaining = remaining; read_faults = read_faults; written = written; write_faults = write_faults }
+
+-- the labels that are kept
+abbrev pub labels_in : RunScene → Option (List Label)
+labels_in a = option_map labels_now a.trace
+
+-- a first part of the history, or the history with one revision more
+abbrev pub IsPartOf : List Revision → List Revision → Type 0
+IsPartOf h part = ((rest : List Revision) × (h ≡ part ++ rest)) ⊎ ((next : Revision) × (part ≡ h ++ next ∷ []))
+
+-- What a crash leaves behind, or in the middle of, a run that came from the history h to this one. Now each image has each revision of it whole, and
+-- `current` names the last of them or a later one; it is a repository that stands for this history, or for it with one revision more. At each
+-- moment since the opening (by the number of the disk's operations before it), in the middle of a call too, it is a repository that stands for
+-- a first part of that history with all that was in h, or for the history with one revision more.
+pub record HoldsAll (since : ℕ) (t : Trace) (h now : List Revision) : Type 0 where
+  pub layout : Layout
+  pub seen : List Recorded
+  pub are : revisions seen ≡ now
+  pub whole : (m : Files) → IsImage t.first t.operations m → (r : ℕ) (x : Recorded) → slice_get seen r ≡ Some x → HasRevision layout m r x
+  pub named : (m : Files) → IsImage t.first t.operations m → NamesFrom m (length now)
+  pub stands : (m : Files) → IsImage t.first t.operations m → (g : List Revision) × IsPartOf now g × (length now ≤ length g) × StandsFor m g
+  pub moments : (m : Files) → ImageSince since t.first t.operations m → (g : List Recorded) × HasHistory layout m g × IsPartOf now (revisions g) × (length h ≤ length g) × StandsFor m (revisions g)
+
+-- the files of the disk are a repository that stands for this history and for no more, and so is each image that a crash now may leave
+pub record AllStandFor (t : Trace) (h : List Revision) : Type 0 where
+  pub now : StandsFor (files_now t) h
+  pub images : (m : Files) → IsImage t.first t.operations m → StandsFor m h
+
+-- the jobs were done over the history, the last line names the youngest revision of what they came to, and the disk holds it
+pub record Ran (moment since : ℕ) (js : List Job) (answers : List JobAnswer) (youngest : ℕ) (h : List Revision) (told : Option Trace) : Type 0 where
+  pub now : List Revision
+  pub did : DidScript moment js answers h now
+  pub last : length now ≡ youngest + 1
+  pub held : IfSome told (λ t. HoldsAll since t h now)
+  -- the lock is told to be stuck only behind a line that tells of a fault as `current` was renamed or made firm
+  pub stuck : StuckBehindDoubt answers
+  -- nothing is in doubt where no line tells of a fault as `current` was renamed or made firm
+  pub certain : TellNoDoubt answers → IfSome told (λ t. AllStandFor t now)
+
+-- what is known of them. (Or of a first part: then a number stood in `db/txn-current` that is past those of which anything is known.)
+abbrev pub RanIn : ℕ → ℕ → List Job → List JobAnswer → ℕ → List Revision → Option Trace → Type 0
+RanIn moment since js answers youngest h new = Ran moment since js answers youngest h new ⊎ StopsShort moment js answers h
+
+-- where the files stood for a history, packed or not, and files that are left over of packed revisions have the same bytes
+abbrev pub RanOver : ℕ → List Job → List JobAnswer → ℕ → Option Trace → Option Trace → Type 0
+RanOver moment js answers youngest old new =
+    IfSome old (λ t. (h : List Revision) (stands : StandsFor (files_now t) h) → LeftoversAgree stands → RanIn moment (length t.operations + 1) js answers youngest h new)
+
+-- no job was done and nothing was printed; of the disk no more was done than that its names were made firm
+pub record IsUntouched (a b : RunScene) : Type 0 where
+  pub disk : FailsAt FirmNames a.trace b.trace
+  pub output : b.written ≡ a.written
+  pub output_faults : b.write_faults ≡ a.write_faults
+
+-- the lines of the jobs and the youngest revision were printed, and the status is the greatest that a line asks for; or the output failed, and a first
+-- part was
+abbrev pub PrintsRun : List JobAnswer → ℕ → Option (List ℕ) → Option (List ℕ) → ℕ → ℕ → Result ℕ Fault → Type 0
+PrintsRun answers youngest old new before now (Ok status) = (status ≡ greatest_status answers) × Adds old new (run_text answers youngest)
+PrintsRun answers youngest old new before now (Err fault) = (fault ≡ Outside Write) × Rose before now × AddsFront old new (run_text answers youngest)
+
+-- A RUN OF A SCRIPT, by its status or its fault. `disk` says that the count of the disk's faults rose, and `benches` that so many calls of benches
+-- failed at least.
+pub data RunsScript (moment : ℕ) (disk : Type 0) (benches : ℕ → Type 0) (a b : RunScene) : Result ℕ Fault → Type 0 where
+  -- the repository is not opened, and nothing is read
+  NotOpened : (why : OpenFault) → OpensBecause disk a.trace why → IsUntouched a b → b.remaining ≡ a.remaining → RunsScript moment disk benches a b (Err (fault_from_open why))
+  -- what was read is no script
+  NotRead : (error : ScriptError) → ReadsScript a.remaining (Err error) → IfReadFault error (Rose a.read_faults b.read_faults) → IsUntouched a b → RunsScript moment disk benches a b (Err (fault_from_script error))
+  -- there is no memory for the answers
+  NoRoom : (js : List Job) → ReadsScript a.remaining (Ok js) → IsUntouched a b → RunsScript moment disk benches a b (Err Memory)
+  -- The input was read to its end, and its jobs were done. A line tells that the disk failed only where a call of it did; so where none did,
+  -- no line tells of a fault that leaves a revision in doubt. Nor does a job leave its transaction listed then, whatever its line tells. As many
+  -- calls of benches failed as lines tell of.
+  Done : (js : List Job) (answers : List JobAnswer) (youngest : ℕ) (result : Result ℕ Fault) → ReadsScript a.remaining (Ok js) → EndsSource a.remaining b.remaining → length answers ≡ length js → IfAnyFails answers disk → ((disk → ⊥) → TellNoDoubt answers) → benches (bench_faults_in answers)
+      → LeavesListed (length js) (labels_in a) (labels_in b) ⊎ disk → RanOver moment js answers youngest a.trace b.trace → PrintsRun answers youngest a.written b.written a.write_faults b.write_faults result → RunsScript moment disk benches a b result

@@ -1,0 +1,103 @@
+//! A script is run.
+ghost use Rattle.std.specs.Prelude.{◌≡◌, ◌⊎◌, ◌≤◌, length, true, None, option_map, IfOk, OnErr, IsTrue};
+ghost use Rattle.fsfs_base.specs.Failures.{Rose};
+ghost use Rattle.fsfs_disk.specs.Trace.{labels_now};
+ghost use Rattle.fsfs_machine.specs.Machine.{revisions};
+ghost use Rattle.fsfs_turn.specs.Alone.{are_harmless};
+ghost use Rattle.fsfs_turn.specs.Mountings.{RoseBy};
+ghost use Rattle.fsfs_turn.specs.Views.{View};
+ghost use Rattle.fsfs_job_run.specs.Jobs.{bench_faults_in};
+ghost use Rattle.fsfs_job_run.specs.Listed.{LeavesListed};
+ghost use Rattle.fsfs_job_run.specs.Running.{IfAnyFails};
+ghost use Rattle.fsfs_job_run.specs.Runs.{run_scene, PrintsRun, RanIn, RunsScript};
+
+use crate::{greatest_status, print_run, run_jobs};
+use fsfs_base::{Gate, RevNum, Sink, Source};
+use fsfs_cli::{Fault, OutsideFault};
+use fsfs_disk::Disk;
+use fsfs_jobs::JobAnswer;
+use fsfs_repo::{OpenedRepo, Repo};
+use fsfs_script::{Job, read_script};
+use fsfs_turn::{Owned, Turns};
+use std::alloc::{AllocError, Global};
+
+// What became of jobs, and the youngest revision behind them.
+#[derive(Drop)]
+struct JobsDone {
+    answers: Vec<JobAnswer>,
+    youngest: RevNum,
+}
+
+// Does jobs in a repository, and gives its disk back. An `Err` is for want of memory, and then no job was done.
+fn do_jobs<D: Disk, G: Gate>(
+    alloc: Global,
+    repo: Repo<D>,
+    jobs: &[Job],
+    micros: u64,
+    gate: &G,
+) -> (D, Result<JobsDone, AllocError>)
+    requires moment { micros ≤ 4102444799999999 }
+    // Of a pass that has seen what there was as images began to be spoken of, and met no fault that leaves a revision in doubt.
+    ensures does { (v : View) → ⟦<Owned<D> as Turns<()>>⟧.knows repo.turns v → v.section ≡ None → v.opened ≡ length v.seen → are_harmless v.pass.faults ≡ true
+        → IfOk result.1 (λ done. RanIn micros v.since jobs.now done.answers.items done.youngest (revisions v.seen) (D.trace result.0)) }
+    ensures each { IfOk result.1 (λ done. length done.answers.items ≡ length jobs.now) }
+    ensures none { OnErr result.1 (D.trace result.0 ≡ D.trace repo.turns.disk) }
+    // No transaction of theirs stays listed, unless a call of the disk failed.
+    ensures listed { LeavesListed (length jobs.now) (option_map labels_now (D.trace repo.turns.disk)) (option_map labels_now (D.trace result.0)) ⊎ Rose (D.faults repo.turns.disk) (D.faults result.0) }
+    ensures cause { IfOk result.1 (λ done. IfAnyFails done.answers.items (Rose (D.faults repo.turns.disk) (D.faults result.0))) }
+    ensures benches { IfOk result.1 (λ done. RoseBy (bench_faults_in done.answers.items) (D.bench_faults repo.turns.disk) (D.bench_faults result.0)) }
+    ensures mounted { D.mount_path result.0 ≡ D.mount_path repo.turns.disk }
+    ensures later { D.faults repo.turns.disk ≤ D.faults result.0 }
+{
+    let (mut repo, answers) = run_jobs(repo, &(), alloc, jobs, micros, gate);
+    let youngest = repo.youngest();
+    let disk = repo.close();
+    match answers {
+        Ok(answers) => (disk, Ok(JobsDone { answers, youngest })),
+        Err(error) => (disk, Err(error)),
+    }
+}
+
+// Prints what became of jobs, and gives the greatest status that a line asks for.
+fn tell<O: Sink>(out: &mut O, done: &JobsDone) -> Result<u8, Fault>
+    ensures printed { PrintsRun done.now.answers.items done.now.youngest (O.written out.old) (O.written out.new) (O.faults out.old) (O.faults out.new) result }
+{
+    match print_run(out, &done.answers, done.youngest) {
+        Ok(()) => Ok(greatest_status(&done.answers)),
+        Err(_) => Err(Fault::Outside(OutsideFault::Write)),
+    }
+}
+
+/// Opens the repository on a disk, reads a script to its end, does its jobs one after another, and prints what became of them. A revision
+/// that a job adds has as its date the moment, in microseconds after 1970-01-01T00:00:00 UTC. The answer is the greatest status that a
+/// job's line asks for. Where the repository isn't opened or the script isn't read, no job is done.
+pub fn run_script<D: Disk, I: Source, O: Sink, G: Gate>(
+    alloc: Global,
+    disk: D,
+    input: &mut I,
+    micros: u64,
+    out: &mut O,
+    gate: &G,
+) -> (D, Result<u8, Fault>)
+    requires right { IsTrue (D.may_write disk) }
+    requires moment { micros ≤ 4102444799999999 }
+    // As many calls of benches failed as lines tell of: what was counted before is left out of that.
+    ensures ran { RunsScript micros (Rose (D.faults disk) (D.faults result.0)) (λ n. RoseBy n 0 (D.bench_faults result.0)) (run_scene (D.trace disk) (I.remaining input.old) (I.faults input.old) (O.written out.old) (O.faults out.old))
+        (run_scene (D.trace result.0) (I.remaining input.new) (I.faults input.new) (O.written out.new) (O.faults out.new)) result.1 }
+    ensures mounted { D.mount_path result.0 ≡ D.mount_path disk }
+    ensures later { D.faults disk ≤ D.faults result.0 }
+{
+    let repo = match Repo::open(alloc, disk) {
+        Ok(OpenedRepo { repo, .. }) => repo,
+        Err(unopened) => return (unopened.disk, Err(Fault::from(unopened.why))),
+    };
+    let jobs = match read_script(alloc, input) {
+        Ok(jobs) => jobs,
+        Err(error) => return (repo.close(), Err(Fault::from(error))),
+    };
+    let (disk, done) = do_jobs(alloc, repo, jobs.as_slice(), micros, gate);
+    match done {
+        Ok(done) => (disk, tell(out, &done)),
+        Err(_) => (disk, Err(Fault::Memory)),
+    }
+}

@@ -1,2 +1,0 @@
-pub mod Relinked
-pub mod Landings

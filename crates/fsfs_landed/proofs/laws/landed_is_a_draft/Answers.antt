@@ -1,5 +1,0 @@
-use Rattle.fsfs_landed.proofs.LandedOwnLaw.{landed_is_a_draft}
-use Rattle.fsfs_landed.proofs.laws.landed_is_a_draft.Goals as goal
-
-pub returns : goal.returns
-returns c = landed_is_a_draft

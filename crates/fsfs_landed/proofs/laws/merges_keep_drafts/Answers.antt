@@ -1,5 +1,0 @@
-use Rattle.fsfs_landed.proofs.LandedDraft.{merge_keeps_drafts}
-use Rattle.fsfs_landed.proofs.laws.merges_keep_drafts.Goals as goal
-
-pub returns : goal.returns
-returns c = merge_keeps_drafts

@@ -1,5 +1,0 @@
-use Rattle.fsfs_landed.proofs.LandedTree.{merge_keeps_trees}
-use Rattle.fsfs_landed.proofs.laws.merges_keep_trees.Goals as goal
-
-pub returns : goal.returns
-returns c = merge_keeps_trees

@@ -1,4 +1,0 @@
-pub mod Landed
-pub mod LandedOwn
-pub mod LandedShown
-pub mod LandedWhole

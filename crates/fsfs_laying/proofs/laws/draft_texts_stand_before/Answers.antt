@@ -1,5 +1,0 @@
-use Rattle.fsfs_laying.proofs.TextsLaw.{draft_texts_stand_before}
-use Rattle.fsfs_laying.proofs.laws.draft_texts_stand_before.Goals as goal
-
-pub returns : goal.returns
-returns c = draft_texts_stand_before

@@ -1,5 +1,0 @@
-use Rattle.fsfs_laying.proofs.ListLaws.{put_lists_are_framed}
-use Rattle.fsfs_laying.proofs.laws.put_lists_are_framed.Goals as goal
-
-pub returns : goal.returns
-returns c = put_lists_are_framed

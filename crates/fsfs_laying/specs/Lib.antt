@@ -1,5 +1,0 @@
-pub mod Lists
-pub mod Entries
-pub mod Naming
-pub mod Nodes
-pub mod Endings

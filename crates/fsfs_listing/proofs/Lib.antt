@@ -1,4 +1,0 @@
-pub mod Lists
-pub mod Changing
-pub mod Values
-pub mod Branches

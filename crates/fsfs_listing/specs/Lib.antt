@@ -1,5 +1,0 @@
-pub mod Hashes
-pub mod Lists
-pub mod Targets
-pub mod Trees
-pub mod Views

@@ -1,0 +1,9 @@
+pub mod MemFiles
+pub mod BenchFiles
+pub mod Stored
+pub mod PickedImage
+pub mod MemBench
+pub mod MemDisk
+pub mod MemHost
+pub mod Streams
+pub mod Patience

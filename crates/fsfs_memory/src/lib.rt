@@ -1,0 +1,34 @@
+//! Disks and their benches, kept in memory, and a host that has such disks. They tell all that they have, fail at the calls that
+//! are listed, and leave any image of a crash.
+//! Streams, a clock and dice kept in memory. They tell all that they have, and fail at the calls that are listed.
+//! A gate that holds a caller at a place of a run, until another place was passed.
+//! Bytes as a person writes and reads them in the texts of the example programs: `\n`, `\t`, `\\` and `\xNN` stand for a
+//! byte, and every other character for its own bytes. And what these programs write.
+//! Sample revisions for tests, and books of them.
+#![tactic(auto)]
+
+mod bench;
+mod bench_files;
+mod copying;
+mod crash;
+mod disk;
+mod escapes;
+mod files;
+mod gate;
+mod host;
+mod labels;
+mod operations;
+mod revisions;
+mod streams;
+mod transcript;
+
+pub use bench::MemBench;
+pub use disk::MemDisk;
+pub use escapes::{EscapeError, bytes_of};
+pub use gate::HoldGate;
+pub use host::MemHost;
+pub use revisions::{
+    EMPTY_FILE, FIRST_DIRECTORY, MADE_1, MADE_2, MADE_3, REVISION_0, SHORT_TEXT, book_of,
+};
+pub use streams::{FixedClock, FixedDice, MemSink, MemSource, NoGate};
+pub use transcript::Transcript;

@@ -1,4 +1,0 @@
-pub mod Lists
-pub mod Pushing
-pub mod OwnChildren
-pub mod Walking

@@ -1,5 +1,0 @@
-pub mod Readings
-pub mod OwnEntries
-pub mod Walking
-pub mod Counting
-pub mod HeldLists

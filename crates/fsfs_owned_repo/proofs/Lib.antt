@@ -1,4 +1,0 @@
-pub mod Shown
-mod Readers
-pub mod Crashes
-mod Unlisted

@@ -1,4 +1,0 @@
-pub mod Alone
-pub mod Readers
-pub mod Crashes
-pub mod Labels

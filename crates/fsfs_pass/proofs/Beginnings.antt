@@ -1,0 +1,119 @@
+-- The table at the opening.
+use Rattle.std.proofs.Common.{◌≡◌, ◌≤◌, ◌+◌, ℕ, suc, zero, List, [], ◌∷◌, length, true, false, inl, refl, sym, ap, subst, ◌∙◌, arith}
+use Rattle.std.specs.Prelude.{Option, Some, None, IfSome, is_some}
+use Rattle.std.proofs.lemmas.Option.{slice_get_past}
+use mathlib.Core.Option.{some, some-injective, some-ne-none}
+use lib.ListN.{get_elem?}
+use Rattle.atomic_table.specs.Table.{opening}
+use Rattle.fsfs_base.specs.RevNums.{last_rev}
+use Rattle.fsfs_disk.specs.Benches.{HasShortFiles}
+use Rattle.fsfs_disk.specs.Trace.{Trace, files_now}
+use Rattle.fsfs_layout.specs.declared.layout.Layout.{Layout}
+use Rattle.fsfs_machine.specs.Machine.{World, stuck_place}
+use Rattle.fsfs_machine.proofs.Answering.{seen_of}
+use Rattle.fsfs_turn.specs.Alone.{is_doubtful_at}
+use Rattle.fsfs_turn.specs.Past.{doubt, Safe}
+use Rattle.fsfs_turn.specs.Standing.{IsStore, Knows}
+use Rattle.fsfs_turn.specs.Stands.{OwnFilesLast}
+use Rattle.fsfs_turn.specs.Found.{seen_within}
+use Rattle.fsfs_turn.proofs.Locking.{free}
+use Rattle.fsfs_disk.specs.Seen.{DiskSeen}
+use Rattle.fsfs_pass.specs.declared.seat_view.Hand.TheVariants.{Empty}
+use Rattle.fsfs_pass.specs.declared.seat_view.Kin.{Kin}
+use Rattle.fsfs_pass.specs.declared.seat_view.SeatView.{SeatView}
+use Rattle.fsfs_pass.specs.LockWords.{lock_word}
+use Rattle.fsfs_pass.specs.Seats.{view_of, alone, is_left}
+use Rattle.fsfs_pass.specs.Causes.{IsSound}
+use Rattle.fsfs_pass.specs.Met.{Met}
+use Rattle.fsfs_pass.specs.Rule.{Placed, IsJoined, Store, HandIs, Rule}
+use Rattle.fsfs_pass.proofs.AsMany.{as_many, mines_one}
+use Rattle.fsfs_pass.proofs.Failures.{later_itself, later_as}
+use Rattle.fsfs_pass.proofs.Kinships.{kin_first}
+use Rattle.fsfs_pass.proofs.Following.{met_now}
+use Rattle.fsfs_pass.specs.First.{IsFirst}
+
+first_told : (layout : Layout) (young : ℕ) (told : Option Trace) (v : SeatView) → IsFirst layout young told v → v.told ≡ is_some told
+first_told layout young None v k = k.0
+first_told layout young (Some t) v k = k.0
+
+first_hand : (layout : Layout) (young : ℕ) (told : Option Trace) (v : SeatView) → IsFirst layout young told v → v.hand ≡ Empty
+first_hand layout young None v k = k.1
+first_hand layout young (Some t) v k = k.1
+
+first_unfailed : (layout : Layout) (young : ℕ) (told : Option Trace) (v : SeatView) → IsFirst layout young told v → v.failures ≡ 0
+first_unfailed layout young None v k = k.5
+first_unfailed layout young (Some t) v k = k.9
+
+first_sound : (layout : Layout) (young : ℕ) (told : Option Trace) (v : SeatView) → IsFirst layout young told v → v.bench_failures ≡ 0
+first_sound layout young None v k = k.6
+first_sound layout young (Some t) v k = k.14
+
+first_alone : (layout : Layout) (young : ℕ) (told : Option Trace) (v : SeatView) → IsFirst layout young told v → v.met ≡ told
+first_alone layout young None v k = k.2
+first_alone layout young (Some t) v k = k.4
+
+first_met : (layout : Layout) (young : ℕ) (told : Option Trace) (v : SeatView) → IsFirst layout young told v → is_some v.met ≡ is_some told
+first_met layout young told v k = ap (λ o. is_some o) (first_alone layout young told v k)
+
+one_seat : (P : ℕ → SeatView → Type 0) (first : SeatView) → P 0 first → (j : ℕ) (v : SeatView) → get_elem? (first ∷ []) j ≡ some v → P j v
+one_seat P first p zero v e = subst (λ z. P 0 z) (some-injective first v e) p
+one_seat P first p (suc j) v e = absurd (some-ne-none v (sym e))
+
+store_first : (layout : Layout) (young : ℕ) (t : Trace) (first : SeatView) → HasShortFiles (files_now t) → IsFirst layout young (Some t) first → Store first (first ∷ []) 0 young t
+store_first layout young t first short k = record {
+  world = w;
+  store = here;
+  safe = subst (λ l. Safe l first.since t first.opened w.floor w.history (doubt w.lock)) (sym known.3) known.5;
+  own = subst (λ l. OwnFilesLast l first.since (Some t)) (sym known.3) k.8;
+  up = known.2.up;
+  short = short;
+  opening = (let count = as_many w.opening w.history w.since w.passes known.1.kept.whose in
+      let one = mines_one w.passes first.number first.pass known.6 known.4 known.2.pass in
+      let long : w.young + 1 ≡ length w.history = known.1.kept.young known.2.up in
+      let young_is : w.young ≡ young = known.1.young_is in
+      let all : length first.seen ≡ young + 1 = k.7 in
+      let none : length first.pass.mine ≡ 0 = ap length k.11 in
+      let opened : first.opened ≡ length first.seen = k.10 in omega (arith, count, one, long, young_is, all, none, opened));
+  known = (0, first, refl, ap (λ (c : Kin). is_left c.stage) k.5, (let long : w.young + 1 ≡ length w.history = known.1.kept.young known.2.up in let young_is : w.young ≡ young = known.1.young_is in let all : length first.seen ≡ young + 1 = k.7 in omega (arith, long, young_is, all)));
+  lock_is = sym (ap (λ l. lock_word l) (free layout young None t w (view_of first) known.1 known.2 known.3 known.4 known.5 known.6 k.3 refl));
+  causes = record {
+    sound = λ j v e stays. one_seat (λ j v. IsSound v) first (λ few. ap (λ o. is_doubtful_at o) k.3) j v e;
+    found = λ j v e stays. one_seat (λ j v. is_some v.pass.stuck ≡ true → 2 ≤ 0) first (λ is. let no : false ≡ true = sym (ap (λ o. is_some o) k.13) ∙ is in absurd cc) j v e;
+    cause = inl refl;
+  };
+  seats = one_seat (λ j v. Placed first w t j v v.kin.stage) first (subst (λ (c : Kin). Placed first w t 0 first c.stage) (sym k.5) record { number = known.4; sees = known.2; sure = λ e. (let no : false ≡ true = sym k.2 ∙ e in absurd cc); layout = refl; since = refl; opened = refl; met = (t, k.4, met_first) });
+  no_more = λ j far. slice_get_past w.passes j (omega (arith, far, known.6));
+  kin = kin_first first k.5;
+  joined = one_seat (λ j v. (i : ℕ) (x : ℕ × List ℕ) → get_elem? v.kin.joined i ≡ some x → IsJoined (first ∷ []) w x) first
+      (λ i x e. absurd (some-ne-none x (sym (subst (λ (c : Kin). get_elem? c.joined i ≡ some x) k.5 e))));
+}
+  where
+    known : Knows layout young None (Some t) (view_of first)
+    known = k.6
+
+    w : World
+    w = known.0
+
+    here : IsStore first.layout young (stuck_place w.lock) t w
+    here = subst (λ l. IsStore l young (stuck_place w.lock) t w) (sym known.3) (subst (λ o. IsStore layout young o t w) (sym known.1.stuck_is) known.1)
+
+    met_first : Met first.layout w t first t
+    met_first = met_now first.layout young (stuck_place w.lock) t w first here (seen_within w (view_of first) known.2) (seen_of (length w.history) w.floor w.passes first.number first.pass known.1.kept.seen known.2.pass).least
+
+pub begins : (layout : Layout) (young : ℕ) (d : DiskSeen) (first : SeatView) → young ≤ last_rev → IfSome d.trace (λ t. HasShortFiles (files_now t)) → IsFirst layout young d.trace first → Rule d first (opening (0 ∷ 0 ∷ young ∷ []) (Some d ∷ []) first)
+begins layout young d first fits short k = record {
+  out = 0;
+  lock = 0;
+  young = young;
+  words = refl;
+  bound = fits;
+  disk = d;
+  holder = 0;
+  home = λ _. refl;
+  later = later_as 0 (first.failures + 0) 0 (first.bench_failures + 0) d d (let none = first_unfailed layout young d.trace first k in omega (arith, none)) (let none = first_sound layout young d.trace first k in omega (arith, none)) (later_itself d);
+  hands = one_seat (λ j v. HandIs 0 0 d j v.hand) first (subst (λ h. HandIs 0 0 d 0 h) (sym (first_hand layout young d.trace first k)) tt);
+  told = λ j v e is_there. one_seat (λ j v. v.told ≡ is_some d.trace) first (first_told layout young d.trace first k) j v e;
+  met = λ j v e is_there. one_seat (λ j v. is_some v.met ≡ is_some d.trace) first (first_met layout young d.trace first k) j v e;
+  alone = λ j v e sits all. one_seat (λ j v. v.met ≡ d.trace) first (first_alone layout young d.trace first k) j v e;
+  store = λ t is. store_first layout young t first (subst (λ o. IfSome o (λ z. HasShortFiles (files_now z))) is short) (subst (λ o. IsFirst layout young o first) is k);
+}

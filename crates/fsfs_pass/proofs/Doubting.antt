@@ -1,0 +1,82 @@
+-- Which calls leave a section in doubt, and by which faults.
+use Rattle.std.proofs.Common.{◌≡◌, List, [], ◌∷◌, ◌++◌, true, false, cond, refl, ◌∙◌}
+use Rattle.std.specs.Prelude.{Bool}
+use Rattle.fsfs_base.specs.declared.place.DiskPlace.{DiskPlace}
+use Rattle.fsfs_base.specs.declared.place.DiskPlace.TheVariants.{Read, Begin, Commit}
+use Rattle.fsfs_base.specs.declared.place.BeginPlace.TheVariants as begin
+use Rattle.fsfs_base.specs.declared.place.CommitPlace.TheVariants.{PutProps, FirmRev, PutCurrent, RenameCurrent, FirmCurrent}
+use Rattle.fsfs_machine.specs.declared.machine.Section.{Section}
+use Rattle.fsfs_machine.specs.declared.machine.Section.TheVariants.{Begun, CountRead, CountPut, CountRenamed, RevPut, PropsPut, RevFirm, CurrentPut, CurrentRenamed, CurrentFirm, Doubtful, Over}
+use Rattle.fsfs_machine.specs.declared.machine.Went.{Went}
+use Rattle.fsfs_machine.specs.declared.machine.Went.TheVariants.{Fine, Before, After, Torn}
+use Rattle.fsfs_machine.specs.Machine.{either, after, spoiled}
+use Rattle.fsfs_turn.specs.Alone.{are_harmless, brings_doubt, is_doubtful}
+
+-- the place of the call that is due in a section
+abbrev pub place_due : Section → DiskPlace
+place_due (CountRead x) = Begin begin.Put
+place_due (CountPut x) = Begin begin.Rename
+place_due (CountRenamed x) = Begin begin.Firm
+place_due (RevPut x) = Commit PutProps
+place_due (PropsPut x) = Commit FirmRev
+place_due (RevFirm x) = Commit PutCurrent
+place_due (CurrentPut x) = Commit RenameCurrent
+place_due (CurrentRenamed x) = Commit FirmCurrent
+place_due s = Read
+
+-- none of these faults leaves a revision in doubt, so the last doesn't
+harmless_last : (places : List DiskPlace) (place : DiskPlace) → are_harmless (places ++ place ∷ []) ≡ true → brings_doubt place ≡ false
+harmless_last [] place e = by_test (brings_doubt place) e
+  where
+    by_test : (b : Bool) → cond b false true ≡ true → b ≡ false
+    by_test true e = absurd cc
+    by_test false e = refl
+harmless_last (x ∷ places) place e = by_test (brings_doubt x) e (harmless_last places place)
+  where
+    by_test : (b : Bool) → cond b false (are_harmless (places ++ place ∷ [])) ≡ true → (are_harmless (places ++ place ∷ []) ≡ true → brings_doubt place ≡ false) → brings_doubt place ≡ false
+    by_test true e rest = absurd cc
+    by_test false e rest = rest e
+
+-- a section that went on isn't in doubt
+after_calm : (s : Section) → is_doubtful (after s) ≡ false
+after_calm Begun = refl
+after_calm (CountRead x) = refl
+after_calm (CountPut x) = refl
+after_calm (CountRenamed x) = refl
+after_calm (RevPut x) = refl
+after_calm (PropsPut x) = refl
+after_calm (RevFirm x) = refl
+after_calm (CurrentPut x) = refl
+after_calm (CurrentRenamed x) = refl
+after_calm (CurrentFirm x) = refl
+after_calm (Doubtful place x) = refl
+after_calm Over = refl
+
+-- one is left in doubt just by the faults that leave a revision so
+spoiled_doubtful : (s : Section) → is_doubtful (spoiled s) ≡ brings_doubt (place_due s)
+spoiled_doubtful Begun = refl
+spoiled_doubtful (CountRead x) = refl
+spoiled_doubtful (CountPut x) = refl
+spoiled_doubtful (CountRenamed x) = refl
+spoiled_doubtful (RevPut x) = refl
+spoiled_doubtful (PropsPut x) = refl
+spoiled_doubtful (RevFirm x) = refl
+spoiled_doubtful (CurrentPut x) = refl
+spoiled_doubtful (CurrentRenamed x) = refl
+spoiled_doubtful (CurrentFirm x) = refl
+spoiled_doubtful (Doubtful place x) = refl
+spoiled_doubtful Over = refl
+
+-- where the faults behind the call that was due are harmless, its section isn't in doubt
+pub called_calm : (went : Went) (s : Section) (places : List DiskPlace) → are_harmless (either went places (places ++ place_due s ∷ [])) ≡ true → is_doubtful (either went (after s) (spoiled s)) ≡ false
+called_calm Fine s places e = after_calm s
+called_calm Before s places e = spoiled_doubtful s ∙ harmless_last places (place_due s) e
+called_calm After s places e = spoiled_doubtful s ∙ harmless_last places (place_due s) e
+called_calm (Torn any) s places e = spoiled_doubtful s ∙ harmless_last places (place_due s) e
+
+-- of two sections that aren't
+pub either_calm : (went : Went) (s t : Section) → is_doubtful s ≡ false → is_doubtful t ≡ false → is_doubtful (either went s t) ≡ false
+either_calm Fine s t a b = a
+either_calm Before s t a b = b
+either_calm After s t a b = b
+either_calm (Torn any) s t a b = b

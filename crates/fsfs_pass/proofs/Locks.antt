@@ -1,0 +1,71 @@
+-- The numbers of places, and what the word LOCK says of the lock.
+use Rattle.std.proofs.Common.{◌≡◌, ◌≤◌, true, refl, sym, ap, arith}
+use Rattle.fsfs_base.specs.declared.place.OpenPlace.TheVariants as opening
+use Rattle.fsfs_base.specs.declared.place.CreatePlace.TheVariants as creation
+use Rattle.fsfs_base.specs.declared.place.BeginPlace.TheVariants as begin
+use Rattle.fsfs_base.specs.declared.place.CommitPlace.TheVariants as commit
+use Rattle.fsfs_base.specs.declared.place.DiskPlace.{DiskPlace}
+use Rattle.fsfs_base.specs.declared.place.DiskPlace.TheVariants as place
+use Rattle.fsfs_machine.specs.declared.machine.Coming.{Coming}
+use Rattle.fsfs_machine.specs.declared.machine.Lock.{Lock}
+use Rattle.fsfs_machine.specs.declared.machine.Lock.TheVariants.{Free, Held, Stuck, Down, DownDoubtful}
+use Rattle.fsfs_machine.specs.Machine.{is_up}
+use Rattle.fsfs_pass.specs.LockWords.{place_number, place_at, lock_word}
+
+pub place_back : (p : DiskPlace) → place_at (place_number p) ≡ p
+place_back place.Read = refl
+place_back place.List = refl
+place_back place.MakeBench = refl
+place_back place.Remove = refl
+place_back (place.Open opening.Firm) = refl
+place_back (place.Open opening.Read) = refl
+place_back (place.Create creation.Put) = refl
+place_back (place.Create creation.Firm) = refl
+place_back (place.Create creation.Rename) = refl
+place_back (place.Create creation.Last) = refl
+place_back (place.Begin begin.Read) = refl
+place_back (place.Begin begin.Put) = refl
+place_back (place.Begin begin.Rename) = refl
+place_back (place.Begin begin.Firm) = refl
+place_back (place.Commit commit.PutRev) = refl
+place_back (place.Commit commit.PutProps) = refl
+place_back (place.Commit commit.FirmRev) = refl
+place_back (place.Commit commit.PutCurrent) = refl
+place_back (place.Commit commit.RenameCurrent) = refl
+place_back (place.Commit commit.FirmCurrent) = refl
+
+pub place_above : (p : DiskPlace) → 2 ≤ place_number p
+place_above place.Read = omega arith
+place_above place.List = omega arith
+place_above place.MakeBench = omega arith
+place_above place.Remove = omega arith
+place_above (place.Open opening.Firm) = omega arith
+place_above (place.Open opening.Read) = omega arith
+place_above (place.Create creation.Put) = omega arith
+place_above (place.Create creation.Firm) = omega arith
+place_above (place.Create creation.Rename) = omega arith
+place_above (place.Create creation.Last) = omega arith
+place_above (place.Begin begin.Read) = omega arith
+place_above (place.Begin begin.Put) = omega arith
+place_above (place.Begin begin.Rename) = omega arith
+place_above (place.Begin begin.Firm) = omega arith
+place_above (place.Commit commit.PutRev) = omega arith
+place_above (place.Commit commit.PutProps) = omega arith
+place_above (place.Commit commit.FirmRev) = omega arith
+place_above (place.Commit commit.PutCurrent) = omega arith
+place_above (place.Commit commit.RenameCurrent) = omega arith
+place_above (place.Commit commit.FirmCurrent) = omega arith
+
+pub word_free : (l : Lock) → is_up l ≡ true → lock_word l ≡ 0 → l ≡ Free
+word_free Free up e = refl
+word_free (Held p s) up e = let z : 1 ≡ 0 = e in absurd (omega (arith, z))
+word_free (Stuck at x) up e = let z : place_number at ≡ 0 = e in absurd (omega (arith, z, place_above at))
+word_free Down up e = absurd cc
+word_free (DownDoubtful x) up e = absurd cc
+
+pub word_stuck : (l : Lock) → is_up l ≡ true → 2 ≤ lock_word l → (x : Coming) × (l ≡ Stuck (place_at (lock_word l)) x)
+word_stuck Free up e = let z : 2 ≤ 0 = e in absurd (omega (arith, z))
+word_stuck (Held p s) up e = let z : 2 ≤ 1 = e in absurd (omega (arith, z))
+word_stuck (Stuck at x) up e = (x, ap (λ p. Stuck p x) (sym (place_back at)))
+word_stuck Down up e = absurd cc
+word_stuck (DownDoubtful x) up e = absurd cc

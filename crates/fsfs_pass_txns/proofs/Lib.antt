@@ -1,9 +1,0 @@
-pub mod Shown
-mod Begun
-mod Dropped
-mod Listed
-mod Commits
-mod Limits
-pub mod Unlisted
-pub mod Noted
-mod BenchFaults

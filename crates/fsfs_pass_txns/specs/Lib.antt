@@ -1,8 +1,0 @@
-pub mod Begun
-pub mod Purged
-pub mod Listings
-pub mod Commits
-pub mod Limits
-pub mod Fates
-pub mod Labels
-pub mod Standings

@@ -1,2 +1,0 @@
-pub mod PropTexts
-pub mod Laws

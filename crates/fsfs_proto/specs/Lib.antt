@@ -1,6 +1,0 @@
-pub mod Causes
-pub mod Sources
-pub mod Reps
-pub mod Views
-pub mod Texts
-pub mod Laws

@@ -1,4 +1,0 @@
-pub mod ReadNames
-pub mod NameLemmas
-pub mod Puts
-pub mod Turns

@@ -1,5 +1,0 @@
-pub mod Seen
-pub mod Headers
-pub mod Frames
-pub mod Faults
-pub mod Reading

@@ -1,0 +1,130 @@
+-- What is known of a store that was just opened, and of its first seat.
+use Rattle.std.proofs.Common.{◌≡◌, ℕ, List, [], length, true, false, inr, refl, sym, ap, subst, ◌∙◌, arith}
+use Rattle.std.specs.Prelude.{Option, Some, None, Result, Ok, Err, IfOk, IfErr, IfSome, MatchResult}
+use Rattle.fsfs_tree.specs.Revisions.{Revision}
+use Rattle.fsfs_layout.specs.Opening.{IsOpened, small_texts}
+use Rattle.fsfs_layout.specs.declared.layout.Layout.{Layout}
+use Rattle.fsfs_layout.specs.declared.opened.Opened.{Opened}
+use Rattle.fsfs_disk.specs.Trace.{Trace, Done, FirmNames, files_now, add_operation, FailsAt, Performs}
+use Rattle.fsfs_base.specs.declared.place.DiskPlace.{DiskPlace}
+use Rattle.fsfs_base.specs.declared.open_fault.OpenFault.{OpenFault}
+use Rattle.fsfs_base.specs.declared.open_fault.OpenFault.TheVariants.{Memory}
+use Rattle.fsfs_create.specs.OpenFaults.{OpensBecause}
+use Rattle.fsfs_stands.specs.Files.{StandsFor}
+use Rattle.fsfs_create.specs.Known.{HasSeenAll}
+use Rattle.fsfs_turn.specs.Alone.{are_harmless, KnowsAlone}
+use Rattle.fsfs_turn.specs.Opening.{LeftoversAgree}
+use Rattle.fsfs_turn.specs.Standing.{Knows}
+use Rattle.fsfs_turn.specs.Views.{View}
+use Rattle.fsfs_machine.specs.declared.machine.Pass.{Pass}
+use Rattle.fsfs_machine.specs.Machine.{first_pass}
+use Rattle.fsfs_pass.specs.declared.seat_view.Hand.TheVariants.{Empty}
+use Rattle.fsfs_pass.specs.declared.seat_view.SeatView.{SeatView}
+use Rattle.fsfs_pass.specs.First.{IsFirst}
+use Rattle.fsfs_pass.specs.Seats.{alone, look_view}
+use Rattle.fsfs_repo.specs.FirstPass.{SeesAll, SeesAllOf}
+
+pub if_ok_map : {X E : Type 0} (P Q : X → Type 0) (r : Result X E) → ((x : X) → P x → Q x) → IfOk r P → IfOk r Q
+if_ok_map P Q (Ok x) f p = f x p
+if_ok_map P Q (Err e) f p = tt
+
+-- ---- the first seat
+
+-- where the disk tells, the seat's view of what is known
+abbrev seat_of : Trace → View → SeatView
+seat_of t v = record { layout = v.layout; since = v.since; opened = v.opened; number = v.number; pass = v.pass; seen = v.seen; section = v.section; sure = false; given = v.given; told = true; hand = Empty; met = Some t; failures = 0; bench_failures = 0; kin = alone }
+
+abbrev untold : Layout → SeatView
+untold layout = record { layout = layout; since = 0; opened = 0; number = 0; pass = first_pass 0 0; seen = []; section = None; sure = false; given = []; told = false; hand = Empty; met = None; failures = 0; bench_failures = 0; kin = alone }
+
+-- who isn't sure knows no more
+unsure : (layout : Layout) (young : ℕ) (t : Trace) (v : View) → Knows layout young None (Some t) v → Knows layout young None (Some t) (record v { sure = false })
+unsure layout young t v k = (k.0, k.1, (let s = k.2 in record { pass = s.pass; seen = s.seen; section = s.section; up = s.up; sure = λ e. absurd cc; whole = s.whole; given = s.given; opened = s.opened; shown = s.shown }), k.3, k.4, k.5, k.6)
+
+-- a view of the first seat, of a store that was just opened
+abbrev IsBegun : Layout → ℕ → Option Trace → Option Trace → SeatView → Type 0
+IsBegun layout young before now v = IsFirst layout young now v × SeesAllOf before v
+
+-- nobody holds the lock of such a store, and it isn't stuck
+begun : (layout : Layout) (young : ℕ) (stuck : Option DiskPlace) (before now : Option Trace) → Performs FirmNames before now
+    → IfSome before (λ t. (h : List Revision) × (stands : StandsFor (files_now t) h) × LeftoversAgree stands)
+    → IfSome before (λ t. (h : List Revision) (stands : StandsFor (files_now t) h) → LeftoversAgree stands → HasSeenAll (λ v. KnowsAlone layout young stuck now v) t stands.opened.min_unpacked_rev h)
+    → (v : SeatView) × IsBegun layout young before now v
+begun layout young stuck None now firm stands known = (untold layout, (subst (λ o. IsFirst layout young o (untold layout)) (sym firm) (refl, refl, refl, refl, refl, refl, refl), tt))
+begun layout young stuck (Some t) now firm stands known =
+    let k = known stands.0 stands.1 stands.2 in
+    let new : Trace = add_operation (Done FirmNames) t in
+    let all : KnowsAlone layout young stuck (Some new) k.0 = subst (λ o. KnowsAlone layout young stuck o k.0) firm k.1 in
+    let unstuck : stuck ≡ None = all.1.free (ap (λ (p : Pass). are_harmless p.faults) k.3) in
+    let mine : k.0.pass.mine ≡ [] = ap (λ (p : Pass). p.mine) k.3 in
+    let faults : k.0.pass.faults ≡ [] = ap (λ (p : Pass). p.faults) k.3 in
+    let found : k.0.pass.stuck ≡ None = ap (λ (p : Pass). p.stuck) k.3 in
+    let opened : k.0.opened ≡ length k.0.seen = (let own = all.1.own in let none : length k.0.pass.mine ≡ 0 = ap length mine in omega (arith, own, none)) in (
+      seat_of new k.0,
+      (
+        subst (λ o. IsFirst layout young o (seat_of new k.0)) (sym firm)
+            (refl, refl, refl, k.2, refl, refl, unsure layout young new k.0 (subst (λ o. Knows layout young o (Some new) k.0) unstuck all.0), all.1.all, all.2, refl, opened, mine, faults, found, refl),
+        record { told = refl; outside = k.2; since = k.5; opened = opened; stands = subst (λ l. StandsFor (files_now t) l) (sym k.4) stands.1; mine = mine; faults = faults; stuck = found },
+      ),
+    )
+
+-- as the small files said it is laid out
+pub begun_as : (layout at : Layout) (young last : ℕ) (stuck : Option DiskPlace) (before was now given : Option Trace) → layout ≡ at → young ≡ last → given ≡ now → was ≡ before → Performs FirmNames before now
+    → IfSome before (λ t. (h : List Revision) × (stands : StandsFor (files_now t) h) × LeftoversAgree stands)
+    → IfSome before (λ t. (h : List Revision) (stands : StandsFor (files_now t) h) → LeftoversAgree stands → HasSeenAll (λ v. KnowsAlone layout young stuck now v) t stands.opened.min_unpacked_rev h)
+    → (v : SeatView) × IsBegun at last was given v
+begun_as layout at young last stuck before was now given laid is told first firm stands known =
+    subst (λ o. (v : SeatView) × IsBegun at last o given v) (sym first) (subst (λ o. (v : SeatView) × IsBegun at last before o v) (sym told)
+    (subst (λ n. (v : SeatView) × IsBegun at n before now v) is (subst (λ l. (v : SeatView) × IsBegun l young before now v) laid (begun layout young stuck before now firm stands known))))
+
+pub first_kin : (layout : Layout) (young : ℕ) (told : Option Trace) (v : SeatView) → IsFirst layout young told v → v.kin ≡ alone
+first_kin layout young None v k = k.3
+first_kin layout young (Some t) v k = k.5
+
+pub first_met : (layout : Layout) (young : ℕ) (told : Option Trace) (v : SeatView) → IsFirst layout young told v → v.met ≡ told
+first_met layout young None v k = k.2
+first_met layout young (Some t) v k = k.4
+
+pub first_laid : (layout : Layout) (young : ℕ) (told : Option Trace) (v : SeatView) → IsFirst layout young told v → v.layout ≡ layout
+first_laid layout young None v k = k.4
+first_laid layout young (Some t) v k = k.6.3
+
+pub first_unfailed : (layout : Layout) (young : ℕ) (told : Option Trace) (v : SeatView) → IsFirst layout young told v → v.failures ≡ 0
+first_unfailed layout young None v k = k.5
+first_unfailed layout young (Some t) v k = k.9
+
+pub first_sound : (layout : Layout) (young : ℕ) (told : Option Trace) (v : SeatView) → IsFirst layout young told v → v.bench_failures ≡ 0
+first_sound layout young None v k = k.6
+first_sound layout young (Some t) v k = k.14
+
+-- behind a look the pass has seen what it had
+sees_on : (t : Trace) (young : ℕ) (met : Option Trace) (v : SeatView) → SeesAll t v → SeesAll t (look_view young met v)
+sees_on t young met v s = record { told = s.told; outside = s.outside; since = s.since; opened = s.opened; stands = s.stands; mine = s.mine; faults = s.faults; stuck = s.stuck }
+
+pub all_seen : {X E : Type 0} (r : Result X E) (me : X → SeatView) (young : X → ℕ) (before was : Option Trace) (v : SeatView) → was ≡ before → SeesAllOf was v → IfOk r (λ x. me x ≡ look_view (young x) (me x).met v) → IfSome before (λ t. IfOk r (λ x. SeesAll t (me x)))
+all_seen r me young None was v same sees is = tt
+all_seen r me young (Some t) was v same sees is =
+    let s : SeesAll t v = subst (λ o. SeesAllOf o v) same sees in
+    if_ok_map (λ x. me x ≡ look_view (young x) (me x).met v) (λ x. SeesAll t (me x)) r (λ x e. subst (λ (u : SeatView). SeesAll t u) (sym e) (sees_on t (young x) (me x).met v s)) is
+
+-- ---- the answer
+
+pub both_so : {X E : Type 0} (P : X → Type 0) (Q : E → Type 0) (A : X → Type 0) (B : E → Type 0) (r : Result X E) → ((x : X) → P x → A x) → ((e : E) → Q e → B e) → IfOk r P → IfErr r Q → MatchResult r A B
+both_so P Q A B (Ok x) f h p q = f x p
+both_so P Q A B (Err e) f h p q = h e q
+
+-- what was said is what the small files said
+pub said_on : {X E : Type 0} (r : Result X E) (what : X → Opened) (said : Opened) (before : Option Trace) → IfOk r (λ o. what o ≡ said) → IfSome before (λ t. IsOpened (small_texts (files_now t)) said) → IfSome before (λ t. IfOk r (λ o. IsOpened (small_texts (files_now t)) (what o)))
+said_on r what said None is opened = tt
+said_on r what said (Some t) is opened = if_ok_map (λ o. what o ≡ said) (λ o. IsOpened (small_texts (files_now t)) (what o)) r (λ o e. subst (λ s. IsOpened (small_texts (files_now t)) s) (sym e) opened) is
+
+-- memory was wanting
+
+pub wanting_because : {X E : Type 0} (r : Result X E) (why : E → OpenFault) (rose : E → Type 0) (before : Option Trace) (Q : E → Type 0) → ((e : E) → Q e → why e ≡ Memory) → IfErr r Q → IfErr r (λ e. OpensBecause (rose e) before (why e))
+wanting_because (Ok x) why rose before Q is q = tt
+wanting_because (Err e) why rose before Q is q = subst (λ w. OpensBecause (rose e) before w) (sym (is e q)) tt
+
+-- the names were made firm by then
+pub firm_left : {X E : Type 0} (r : Result X E) (trace : E → Option Trace) (before now : Option Trace) (Q : E → Type 0) → ((e : E) → Q e → trace e ≡ now) → Performs FirmNames before now → IfErr r Q → IfErr r (λ e. FailsAt FirmNames before (trace e))
+firm_left (Ok x) trace before now Q same firm q = tt
+firm_left (Err e) trace before now Q same firm q = inr (inr (same e q ∙ firm))

@@ -1,3 +1,0 @@
-pub mod ManifestLemmas
-pub mod FloorLemmas
-pub mod GrammarLemmas

@@ -1,2 +1,0 @@
-pub mod RevBytes
-pub mod ByGrammar

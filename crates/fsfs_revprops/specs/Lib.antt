@@ -1,2 +1,0 @@
-pub mod RevProps
-pub mod ShownDates

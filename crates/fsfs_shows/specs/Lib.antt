@@ -1,8 +1,0 @@
-pub mod Reading
-pub mod Damaged
-pub mod Chains
-pub mod Shown
-pub mod IdRules
-pub mod FirstRevision
-pub mod ByTree
-pub mod TreeLaw

@@ -1,4 +1,0 @@
-pub mod Mutable
-pub mod Made
-pub mod Copied
-pub mod Taken

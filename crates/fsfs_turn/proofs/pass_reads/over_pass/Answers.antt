@@ -1,0 +1,14 @@
+use Rattle.std.proofs.Common.{refl, ap, ◌∙◌}
+use Rattle.std.specs.Prelude.{Some}
+use Rattle.fsfs_turn.proofs.GoingOn.{begins, tells_up_to, youngest_told}
+use Rattle.fsfs_turn.proofs.pass_reads.over_pass.Goals as goal
+
+pub invariant_of-reads : goal.invariant_of-reads
+invariant_of-reads g c = (c.requires.there, begins g.T.Turns.knows g.T.Turns.mounting g.T.Turns.bound g.T.Turns.labels c.of-first.result.value c.args.turns c.of-first.ensures (λ v known. (g.met.T.Turns.tells c.args.turns v known).shown))
+
+pub returns-clause-told : goal.returns-clause-told
+returns-clause-told g c = λ v known.
+    let seen = g.met.T.Turns.tells c.args.turns v known in
+    let reads = c.new.result.reads in
+    tells_up_to c.args.youngest c.of-first.result.value (g.T.Turns.store c.args.turns) 0 v _ seen refl (c.new.ensures.own seen.files seen.told)
+    (youngest_told reads.2 reads.1 (g.T.Turns.store reads.0) c.new.result.floor c.new.result.kept ∙ ap (λ z. Some z.2) c.new.ensures.reads)

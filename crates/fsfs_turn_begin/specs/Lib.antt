@@ -1,5 +1,0 @@
-pub mod Steps
-pub mod Faults
-pub mod Drawing
-pub mod Begun
-pub mod Labels

@@ -1,0 +1,11 @@
+pub mod FileLemmas
+pub mod ItemLemmas
+pub mod SameLemmas
+pub mod StepLemmas
+pub mod Writing
+pub mod KeyLemmas
+pub mod KeyTest
+pub mod KeySetLemmas
+pub mod HeldStepLemmas
+pub mod TextLemmas
+pub mod WrittenLemmas

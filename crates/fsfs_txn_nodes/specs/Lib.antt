@@ -1,0 +1,10 @@
+pub mod Folders
+pub mod Telling
+pub mod Written
+pub mod Keys
+pub mod Lists
+pub mod KeySets
+pub mod Views
+pub mod HeldWritten
+pub mod Texts
+pub mod Merged

@@ -1,5 +1,0 @@
-pub mod Parts
-pub mod NameOrder
-pub mod Listed
-pub mod OneListing
-pub mod InTurn

@@ -1,3 +1,0 @@
-pub mod Txns
-pub mod Entries
-pub mod Removals

@@ -1,2 +1,0 @@
-pub mod DiskLemmas
-pub mod FirstBytesLemmas

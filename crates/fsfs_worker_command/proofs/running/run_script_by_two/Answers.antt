@@ -1,5 +1,0 @@
-use Rattle.fsfs_worker_command.proofs.Ends.{printed}
-use Rattle.fsfs_worker_command.proofs.running.run_script_by_two.Goals as goal
-
-pub returns-clause-ran : goal.returns-clause-ran
-returns-clause-ran g c = printed c.args.micros c.args.known _ _ _ _ _ _ _ _ _ c.work-disk.result.1 _ _ _ _ c.tell_if.result c.work-disk.ensures.works c.tell_if.ensures

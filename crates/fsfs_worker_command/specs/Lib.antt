@@ -1,2 +1,0 @@
-pub mod ByWorkers
-pub mod Works

@@ -1,0 +1,65 @@
+-- What two workers need of the first pass of a repository that was just opened, and what they come to.
+use Rattle.std.proofs.Common.{◌≡◌, ◌+◌, ℕ, List, [], length, true, false, refl, sym, ap, subst, ◌∙◌}
+use Rattle.std.specs.Prelude.{Option, Some, None, IfSome, is_some}
+use Rattle.fsfs_tree.specs.Revisions.{Revision}
+use Rattle.fsfs_layout.specs.declared.layout.Layout.{Layout}
+use Rattle.fsfs_disk.specs.Trace.{Trace, FirmNames, Performs}
+use Rattle.fsfs_machine.specs.Machine.{revisions}
+use Rattle.fsfs_pass.specs.declared.seat_view.SeatView.{SeatView}
+use Rattle.fsfs_pass.specs.Seats.{IsSitting}
+use Rattle.fsfs_pass.specs.Tells.{TellsIt}
+use Rattle.fsfs_repo.specs.FirstPass.{SeesAll}
+use Rattle.fsfs_script.specs.declared.job.Job.{Job}
+use Rattle.fsfs_jobs.specs.declared.answer.JobAnswer.{JobAnswer}
+use Rattle.fsfs_job_run.specs.Runs.{HoldsAll}
+use Rattle.fsfs_workers.specs.Ready.{IsReady}
+use Rattle.fsfs_workers.specs.Two.{RanTwo}
+use Rattle.fsfs_workers.specs.ByWorkers.{RanBeside, RanBesideOver}
+
+-- ---- the first pass: v is what its seat knows, over a disk that told `before`, and `told` when its names were made firm
+
+module _ (before told : Option Trace) (v : SeatView) (firm : Performs FirmNames before told) (met : v.met ≡ told) (tells : TellsIt v) (seen : IfSome before (λ t. SeesAll t v)) where
+  pub tells_it : v.told ≡ is_some told
+  tells_it = sym tells.0 ∙ ap (λ o. is_some o) met
+
+  pub sees : v.told ≡ true → (t : Trace) × SeesAll t v
+  sees knows = at before firm seen
+    where
+      at : (o : Option Trace) → Performs FirmNames o told → IfSome o (λ t. SeesAll t v) → (t : Trace) × SeesAll t v
+      at None f s = let no : v.told ≡ false = tells_it ∙ ap (λ o. is_some o) f in absurd cc
+      at (Some t) f s = (t, s)
+
+  pub is_ready : (layout : Layout) → IsSitting v → v.layout ≡ layout → IsReady layout (is_some told) v
+  is_ready layout sitting laid = record {
+    sitting = sitting;
+    laid = laid;
+    met = tells.0;
+    short = tells.2;
+    disk = λ knows. sym tells_it ∙ knows;
+    seen = tells.1;
+    outside = λ knows. (sees knows).1.outside;
+  }
+
+  pub has_nothing : v.told ≡ true → (v.opened ≡ length v.seen) × (v.pass.mine ≡ []) × (v.pass.faults ≡ [])
+  has_nothing knows = let s = (sees knows).1 in (s.opened, s.mine, s.faults)
+
+-- ---- what became of them
+
+beside : (moment since later : ℕ) (js : List Job) (answers : List JobAnswer) (youngest : ℕ) (h : List Revision) (t : Trace) → since ≡ later → RanTwo moment since js answers youngest h t → RanBeside moment later 2 js answers youngest h (Some t)
+beside moment since later js answers youngest h t same r = record {
+  now = r.now;
+  lines = r.lines;
+  last = r.last;
+  held = subst (λ n. HoldsAll n t h r.now) same r.held;
+  stuck = r.stuck;
+  certain = r.certain;
+}
+
+pub beside_over : (before left : Option Trace) (v : SeatView) → IfSome before (λ t. SeesAll t v) → is_some left ≡ v.told
+    → (moment : ℕ) (js : List Job) (answers : List JobAnswer) (youngest : ℕ) → ((t : Trace) → left ≡ Some t → RanTwo moment v.since js answers youngest (revisions v.seen) t) → RanBesideOver moment 2 js answers youngest before left
+beside_over None left v seen same moment js answers youngest ran = tt
+beside_over (Some t) left v seen same moment js answers youngest ran = (revisions v.seen, seen.stands, at left same ran)
+  where
+    at : (o : Option Trace) → is_some o ≡ v.told → ((z : Trace) → o ≡ Some z → RanTwo moment v.since js answers youngest (revisions v.seen) z) → RanBeside moment (length t.operations + 1) 2 js answers youngest (revisions v.seen) o
+    at None none did = let tells = seen.told in absurd cc
+    at (Some z) same did = beside moment v.since (length t.operations + 1) js answers youngest (revisions v.seen) z seen.since (did z refl)

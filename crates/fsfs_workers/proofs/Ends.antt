@@ -1,0 +1,75 @@
+-- What a run comes to, by its end.
+use Rattle.std.proofs.Common.{◌≡◌, ◌≤◌, ℕ, List, length, Bool, true, false, refl, sym, subst, arith}
+use Rattle.std.specs.Prelude.{Option, None, Result, Ok, Err, MatchResult}
+use Rattle.fsfs_base.specs.Failures.{Rose}
+use Rattle.fsfs_base.specs.declared.small_fault.SmallFile.TheVariants.{Current}
+use Rattle.fsfs_disk.specs.Trace.{Trace, FirmNames, FailsAt}
+use Rattle.fsfs_base.specs.declared.open_fault.OpenFault.{OpenFault}
+use Rattle.fsfs_create.specs.OpenFaults.{OpensBecause}
+use Rattle.fsfs_script.specs.declared.job.Job.{Job}
+use Rattle.fsfs_script.specs.Errors.{IfReadFault}
+use Rattle.fsfs_script.specs.Whole.{ReadsScript, EndsSource}
+use Rattle.fsfs_script.specs.declared.script_error.ScriptError.{ScriptError}
+use Rattle.fsfs_cli.specs.FaultsFaults.{fault_from_open, fault_from_script}
+use Rattle.fsfs_cli.specs.declared.faults_fault.Fault.{Fault}
+use Rattle.fsfs_cli.specs.declared.faults_fault.Fault.TheVariants.{Repository, Memory}
+use Rattle.fsfs_cli.specs.declared.repository_fault.RepositoryFault.TheVariants.{Small}
+use Rattle.fsfs_job_run.specs.Lines.{disk_faults_in, RoseBy}
+use Rattle.fsfs_job_run.specs.Jobs.{bench_faults_in}
+use Rattle.fsfs_job_run.specs.Runs.{RunScene, run_scene, PrintsRun}
+use Rattle.fsfs_workers.specs.declared.run.WorkDone.{WorkDone}
+use Rattle.fsfs_workers.specs.ByWorkers.{RanBesideOver, RunsBeside, NotOpened, NotRead, NoRoom, Done, Lost, RunsByWorkers}
+use Rattle.fsfs_workers.specs.Works.{Works}
+
+-- a count that rose by so many since later on rose by as many since before
+pub rose_since : (n before first after : ℕ) → before ≤ first → RoseBy n first after → RoseBy n before after
+rose_since n before first after le rose = omega (arith, le, rose)
+
+module _ (moment before after : ℕ) (benches : ℕ → Type 0) (told left : Option Trace) (remaining rest : Option (List ℕ)) (faults more : ℕ) where
+  pub unopened : (why : OpenFault) (fault : Fault) → fault ≡ fault_from_open why → OpensBecause (Rose before after) told why → FailsAt FirmNames told left → Works moment 2 true before after benches told left remaining remaining faults faults (Err fault)
+  unopened why fault is because firm = λ old new count now.
+      subst (λ (f : Fault). RunsByWorkers moment 2 true before after benches (run_scene told remaining faults old count) (run_scene left remaining faults old count) (Err f)) (sym is)
+      (NotOpened why because (record { disk = firm; output = refl; output_faults = refl }) refl)
+
+  pub unread : (error : ScriptError) (fault : Fault) → fault ≡ fault_from_script error → ReadsScript remaining (Err error) → IfReadFault error (Rose faults more) → FailsAt FirmNames told left → Works moment 2 true before after benches told left remaining rest faults more (Err fault)
+  unread error fault is read rose firm = λ old new count now.
+      subst (λ (f : Fault). RunsByWorkers moment 2 true before after benches (run_scene told remaining faults old count) (run_scene left rest more old count) (Err f)) (sym is)
+      (NotRead error read rose (record { disk = firm; output = refl; output_faults = refl }))
+
+  pub unroomed : (js : List Job) → ReadsScript remaining (Ok js) → FailsAt FirmNames told left → Works moment 2 true before after benches told left remaining rest faults more (Err Memory)
+  unroomed js read firm = λ old new count now. NoRoom js read (record { disk = firm; output = refl; output_faults = refl })
+
+  pub worked : (js : List Job) (done : WorkDone) → ReadsScript remaining (Ok js) → EndsSource remaining rest → length done.answers.items ≡ length js → RoseBy (disk_faults_in done.answers.items) before after → benches (bench_faults_in done.answers.items)
+      → RanBesideOver moment 2 js done.answers.items done.youngest told left → Works moment 2 true before after benches told left remaining rest faults more (Ok done)
+  worked js done read ends each rose failed over = λ old new count now ended printed. Done js done.answers.items done.youngest ended read ends each rose failed over printed
+
+  pub lost : Works moment 2 false before after benches told left remaining rest faults more (Err (Repository (Small (record { file = Current; at = 0 }))))
+  lost = λ old new count now. Lost refl refl refl
+
+-- ---- where the files aren't known
+
+forget : (moment before after : ℕ) (benches : ℕ → Type 0) (a b : RunScene) (ended : Result ℕ Fault) → RunsBeside moment 2 true before after benches a b ended → RunsBeside moment 2 false before after benches a b ended
+forget moment before after benches a b _ (NotOpened why because untouched unread) = NotOpened why because untouched unread
+forget moment before after benches a b _ (NotRead error read rose untouched) = NotRead error read rose untouched
+forget moment before after benches a b _ (NoRoom js read untouched) = NoRoom js read untouched
+forget moment before after benches a b _ (Done js answers youngest ended read ends each rose failed over printed) = Done js answers youngest ended read ends each rose failed over printed
+forget moment before after benches a b _ (Lost unknown written failed) = absurd cc
+
+pub unknown : (moment before after : ℕ) (benches : ℕ → Type 0) (told left : Option Trace) (remaining rest : Option (List ℕ)) (faults more : ℕ) (done : Result WorkDone Fault) → Works moment 2 true before after benches None None remaining rest faults more done
+    → Works moment 2 false before after benches told left remaining rest faults more done
+unknown moment before after benches told left remaining rest faults more (Ok d) works = λ old new count now ended printed.
+    forget moment before after benches (run_scene None remaining faults old count) (run_scene None rest more new now) ended (works old new count now ended printed)
+unknown moment before after benches told left remaining rest faults more (Err fault) works = λ old new count now.
+    forget moment before after benches (run_scene None remaining faults old count) (run_scene None rest more old count) (Err fault) (works old new count now)
+
+-- ---- the lines were printed, where there are any
+
+pub printed : (moment : ℕ) (known : Bool) (before after : ℕ) (benches : ℕ → Type 0) (told left : Option Trace) (remaining rest : Option (List ℕ)) (faults more : ℕ) (done : Result WorkDone Fault) (old new : Option (List ℕ)) (count now : ℕ) (ended : Result ℕ Fault)
+    → Works moment 2 known before after benches told left remaining rest faults more done
+    → MatchResult done (λ d. PrintsRun d.answers.items d.youngest old new count now ended) (λ fault. (ended ≡ Err fault) × (new ≡ old) × (now ≡ count))
+    → RunsByWorkers moment 2 known before after benches (run_scene told remaining faults old count) (run_scene left rest more new now) ended
+printed moment known before after benches told left remaining rest faults more (Ok d) old new count now ended works lines = works old new count now ended lines
+printed moment known before after benches told left remaining rest faults more (Err fault) old new count now ended works none =
+    subst (λ (r : Result ℕ Fault). RunsByWorkers moment 2 known before after benches (run_scene told remaining faults old count) (run_scene left rest more new now) r) (sym none.0)
+    (subst (λ w. RunsByWorkers moment 2 known before after benches (run_scene told remaining faults old count) (run_scene left rest more w now) (Err fault)) (sym none.1)
+    (subst (λ n. RunsByWorkers moment 2 known before after benches (run_scene told remaining faults old count) (run_scene left rest more old n) (Err fault)) (sym none.2) (works old new count now)))

@@ -1,0 +1,65 @@
+-- What a run of a script by several workers does to a disk, its input and its output.
+use Rattle.std.specs.Prelude.{◌≡◌, ◌+◌, ℕ, List, length, Bool, true, false, Option, None, IfSome, Result, Ok, Err}
+use Rattle.fsfs_base.specs.Failures.{Rose}
+use Rattle.fsfs_base.specs.declared.small_fault.SmallFile.TheVariants.{Current}
+use Rattle.fsfs_tree.specs.Revisions.{Revision}
+use Rattle.fsfs_disk.specs.Trace.{Trace, files_now}
+use Rattle.fsfs_stands.specs.Files.{StandsFor}
+use Rattle.fsfs_create.specs.OpenFaults.{OpensBecause}
+use Rattle.fsfs_base.specs.declared.open_fault.OpenFault.{OpenFault}
+use Rattle.fsfs_script.specs.declared.job.Job.{Job}
+use Rattle.fsfs_script.specs.Errors.{IfReadFault}
+use Rattle.fsfs_script.specs.Whole.{ReadsScript, EndsSource}
+use Rattle.fsfs_script.specs.declared.script_error.ScriptError.{ScriptError}
+use Rattle.fsfs_cli.specs.FaultsFaults.{fault_from_open, fault_from_script}
+use Rattle.fsfs_cli.specs.declared.faults_fault.Fault.{Fault}
+use Rattle.fsfs_cli.specs.declared.faults_fault.Fault.TheVariants.{Repository, Memory}
+use Rattle.fsfs_cli.specs.declared.repository_fault.RepositoryFault.TheVariants.{Small}
+use Rattle.fsfs_jobs.specs.declared.answer.JobAnswer.{JobAnswer}
+use Rattle.fsfs_job_run.specs.Jobs.{TellNoDoubt, bench_faults_in}
+use Rattle.fsfs_job_run.specs.Lines.{JobLines, StuckByDoubt, disk_faults_in, RoseBy}
+use Rattle.fsfs_job_run.specs.Runs.{RunScene, HoldsAll, AllStandFor, IsUntouched, PrintsRun}
+
+-- what is told of the disk: nothing where its files aren't known to stand for a history
+abbrev pub scene_where : Bool → RunScene → RunScene
+scene_where true a = a
+scene_where false a = record a { trace = None }
+
+-- The jobs were done beside each other over the history h: the lines are those of the one history that came of it, the last names its youngest
+-- revision, and the disk holds it.
+pub record RanBeside (moment since workers : ℕ) (js : List Job) (answers : List JobAnswer) (youngest : ℕ) (h : List Revision) (told : Option Trace) : Type 0 where
+  pub now : List Revision
+  pub lines : JobLines moment workers js answers h now
+  pub last : length now ≡ youngest + 1
+  pub held : IfSome told (λ t. HoldsAll since t h now)
+  -- the lock is told to be stuck only where a line, of whichever worker, tells of a fault as `current` was renamed or made firm
+  pub stuck : StuckByDoubt answers
+  -- nothing is in doubt where no line tells of such a fault
+  pub certain : TellNoDoubt answers → IfSome told (λ t. AllStandFor t now)
+
+-- the files stood for a history, and the jobs were done over it
+abbrev pub RanBesideOver : ℕ → ℕ → List Job → List JobAnswer → ℕ → Option Trace → Option Trace → Type 0
+RanBesideOver moment workers js answers youngest old new =
+    IfSome old (λ t. (h : List Revision) × StandsFor (files_now t) h × RanBeside moment (length t.operations + 1) workers js answers youngest h new)
+
+-- A run by its status or its fault, over what is told of the disk: as of one worker, but for what is told of the jobs.
+pub data RunsBeside (moment workers : ℕ) (known : Bool) (before after : ℕ) (benches : ℕ → Type 0) (a b : RunScene) : Result ℕ Fault → Type 0 where
+  -- the repository is not opened, and nothing is read
+  NotOpened : (why : OpenFault) → OpensBecause (Rose before after) a.trace why → IsUntouched a b → b.remaining ≡ a.remaining → RunsBeside moment workers known before after benches a b (Err (fault_from_open why))
+  -- what was read is no script
+  NotRead : (error : ScriptError) → ReadsScript a.remaining (Err error) → IfReadFault error (Rose a.read_faults b.read_faults) → IsUntouched a b → RunsBeside moment workers known before after benches a b (Err (fault_from_script error))
+  -- there is no memory for the answers
+  NoRoom : (js : List Job) → ReadsScript a.remaining (Ok js) → IsUntouched a b → RunsBeside moment workers known before after benches a b (Err Memory)
+  -- The input was read to its end, and its jobs were done; all workers had ended before the first line was printed. As many calls of the disk
+  -- failed as lines tell of, and as many of benches.
+  Done : (js : List Job) (answers : List JobAnswer) (youngest : ℕ) (result : Result ℕ Fault) → ReadsScript a.remaining (Ok js) → EndsSource a.remaining b.remaining → length answers ≡ length js
+      → RoseBy (disk_faults_in answers) before after → benches (bench_faults_in answers) → RanBesideOver moment workers js answers youngest a.trace b.trace → PrintsRun answers youngest a.written b.written a.write_faults b.write_faults result
+      → RunsBeside moment workers known before after benches a b result
+  -- A file was gone as it was to get its name, and no line is printed. It is so only where the files weren't known.
+  Lost : known ≡ false → b.written ≡ a.written → b.write_faults ≡ a.write_faults → RunsBeside moment workers known before after benches a b (Err (Repository (Small (record { file = Current; at = 0 }))))
+
+-- A RUN OF A SCRIPT BY SO MANY WORKERS, by its status or its fault. `known` says that the files, where the disk tells them, were known to stand
+-- for a history; else nothing is told of the disk but its counts of faults: the one of its own went from `before` to `after`, and `benches` says that so many
+-- calls of benches failed at least.
+abbrev pub RunsByWorkers : ℕ → ℕ → Bool → ℕ → ℕ → (ℕ → Type 0) → RunScene → RunScene → Result ℕ Fault → Type 0
+RunsByWorkers moment workers known before after benches a b ended = RunsBeside moment workers known before after benches (scene_where known a) (scene_where known b) ended

@@ -1,0 +1,169 @@
+//! A script is run by two workers.
+ghost use Rattle.std.specs.Prelude.{◌≡◌, ◌≤◌, List, true, false, IfSome, IsTrue, MatchResult};
+ghost use Rattle.fsfs_tree.specs.Revisions.{Revision};
+ghost use Rattle.fsfs_disk.specs.Trace.{files_now};
+ghost use Rattle.fsfs_stands.specs.Files.{StandsFor};
+ghost use Rattle.fsfs_turn.specs.Mountings.{RoseBy};
+ghost use Rattle.fsfs_turn.specs.Opening.{LeftoversAgree};
+ghost use Rattle.fsfs_job_run.specs.Runs.{run_scene, PrintsRun};
+ghost use Rattle.fsfs_workers.specs.ByWorkers.{RunsByWorkers};
+ghost use Rattle.fsfs_workers.specs.Works.{Works};
+
+use crate::{WorkDone, run_two};
+use fsfs_base::{Gate, Sink, SmallFault, SmallFile, Source};
+use fsfs_cli::{Fault, OutsideFault, RepositoryFault};
+use fsfs_disk::{Disk, QuietDisk};
+use fsfs_job_run::{greatest_status, print_run};
+use fsfs_repo::{OpenedShared, SharedRepo};
+use fsfs_script::read_script;
+use std::alloc::Global;
+use std::sync::Wait;
+use std::thread::Threads;
+
+// Prints what became of jobs, and gives the greatest status that a line asks for.
+fn tell<O: Sink>(out: &mut O, done: &WorkDone) -> Result<u8, Fault>
+    ensures printed { PrintsRun done.now.answers.items done.now.youngest (O.written out.old) (O.written out.new) (O.faults out.old) (O.faults out.new) result }
+{
+    match print_run(out, &done.answers, done.youngest) {
+        Ok(()) => Ok(greatest_status(&done.answers)),
+        Err(_) => Err(Fault::Outside(OutsideFault::Write)),
+    }
+}
+
+// The same, where there are lines to print.
+fn tell_if<O: Sink>(out: &mut O, done: Result<WorkDone, Fault>) -> Result<u8, Fault>
+    ensures { MatchResult done (λ d. PrintsRun d.answers.items d.youngest (O.written out.old) (O.written out.new) (O.faults out.old) (O.faults out.new) result)
+        (λ fault. (result ≡ Err fault) × (O.written out.new ≡ O.written out.old) × (O.faults out.new ≡ O.faults out.old)) }
+{
+    match done {
+        Ok(done) => tell(out, &done),
+        Err(fault) => Err(fault),
+    }
+}
+
+// Opens the repository on a disk, reads a script to its end, and does its jobs.
+fn work_known<R: Threads + Wait + Sync, D: Disk + Drop + Send, I: Source, G: Gate + Sync>(
+    rt: &R,
+    alloc: Global,
+    disk: D,
+    input: &mut I,
+    micros: u64,
+    gate: &G,
+) -> (D, Result<WorkDone, Fault>)
+where
+    D::Bench: Send,
+    requires right { IsTrue (D.may_write disk) }
+    requires moment { micros ≤ 4102444799999999 }
+    // Passes rest on each other, so where the disk tells its files they stand for a history.
+    requires stands { IfSome (D.trace disk) (λ t. (h : List Revision) × (stands : StandsFor (files_now t) h) × LeftoversAgree stands) }
+    ensures works { Works micros 2 true (D.faults disk) (D.faults result.0) (λ n. RoseBy n 0 (D.bench_faults result.0)) (D.trace disk) (D.trace result.0) (I.remaining input.old) (I.remaining input.new) (I.faults input.old) (I.faults input.new) result.1 }
+    ensures mounted { D.mount_path result.0 ≡ D.mount_path disk }
+    ensures later { D.faults disk ≤ D.faults result.0 }
+{
+    let OpenedShared { repo, seat, .. } = match SharedRepo::open(alloc, disk) {
+        Ok(opened) => opened,
+        Err(unopened) => return (unopened.disk, Err(Fault::from(unopened.why))),
+    };
+    let jobs = match read_script(alloc, input) {
+        Ok(jobs) => jobs,
+        Err(error) => return (repo.close(rt, seat), Err(Fault::from(error))),
+    };
+    let (disk, done) = run_two(rt, alloc, repo, seat, jobs.as_slice(), micros, gate);
+    match done {
+        Ok(done) => (disk, Ok(done)),
+        Err(_) => (disk, Err(Fault::Memory)),
+    }
+}
+
+// What is done where the files aren't known: the passes see a disk that tells nothing.
+fn work_unknown<R: Threads + Wait + Sync, D: Disk + Drop + Send, I: Source, G: Gate + Sync>(
+    rt: &R,
+    alloc: Global,
+    disk: D,
+    input: &mut I,
+    micros: u64,
+    gate: &G,
+) -> (D, Result<WorkDone, Fault>)
+where
+    D::Bench: Send,
+    requires right { IsTrue (D.may_write disk) }
+    requires moment { micros ≤ 4102444799999999 }
+    ensures works { Works micros 2 false (D.faults disk) (D.faults result.0) (λ n. RoseBy n 0 (D.bench_faults result.0)) (D.trace disk) (D.trace result.0) (I.remaining input.old) (I.remaining input.new) (I.faults input.old) (I.faults input.new) result.1 }
+    ensures mounted { D.mount_path result.0 ≡ D.mount_path disk }
+    ensures later { D.faults disk ≤ D.faults result.0 }
+{
+    let (disk, done) = work_known(rt, alloc, QuietDisk::new(disk), input, micros, gate);
+    if disk.has_lost() {
+        let gone = SmallFault {
+            file: SmallFile::Current,
+            at: 0,
+        };
+        return (
+            disk.into_disk(),
+            Err(Fault::Repository(RepositoryFault::Small(gone))),
+        );
+    }
+    (disk.into_disk(), done)
+}
+
+// One of the two.
+fn work<R: Threads + Wait + Sync, D: Disk + Drop + Send, I: Source, G: Gate + Sync>(
+    rt: &R,
+    alloc: Global,
+    disk: D,
+    input: &mut I,
+    micros: u64,
+    gate: &G,
+    known: bool,
+) -> (D, Result<WorkDone, Fault>)
+where
+    D::Bench: Send,
+    requires right { IsTrue (D.may_write disk) }
+    requires moment { micros ≤ 4102444799999999 }
+    requires stands { known ≡ true → IfSome (D.trace disk) (λ t. (h : List Revision) × (stands : StandsFor (files_now t) h) × LeftoversAgree stands) }
+    ensures works { Works micros 2 known (D.faults disk) (D.faults result.0) (λ n. RoseBy n 0 (D.bench_faults result.0)) (D.trace disk) (D.trace result.0) (I.remaining input.old) (I.remaining input.new) (I.faults input.old) (I.faults input.new) result.1 }
+    ensures mounted { D.mount_path result.0 ≡ D.mount_path disk }
+    ensures later { D.faults disk ≤ D.faults result.0 }
+{
+    if known {
+        work_known(rt, alloc, disk, input, micros, gate)
+    } else {
+        work_unknown(rt, alloc, disk, input, micros, gate)
+    }
+}
+
+/// Opens the repository on a disk, reads a script to its end, does its jobs by two workers beside each other, and prints what became of them
+/// when both have ended. A revision that a job adds has as its date the moment, in microseconds after 1970-01-01T00:00:00 UTC. The answer
+/// is the greatest status that a job's line asks for. Where the repository isn't opened or the script isn't read, no job is done.
+///
+/// Passes rest on each other. So where it is `known` that the files stand for a history, if the disk tells them, what came of it is told in
+/// words of that history; where it isn't, the workers see a disk that tells nothing.
+pub fn run_script_by_two<
+    R: Threads + Wait + Sync,
+    D: Disk + Drop + Send,
+    I: Source,
+    O: Sink,
+    G: Gate + Sync,
+>(
+    rt: &R,
+    alloc: Global,
+    disk: D,
+    input: &mut I,
+    micros: u64,
+    out: &mut O,
+    gate: &G,
+    known: bool,
+) -> (D, Result<u8, Fault>)
+where
+    D::Bench: Send,
+    requires right { IsTrue (D.may_write disk) }
+    requires moment { micros ≤ 4102444799999999 }
+    requires stands { known ≡ true → IfSome (D.trace disk) (λ t. (h : List Revision) × (stands : StandsFor (files_now t) h) × LeftoversAgree stands) }
+    ensures ran { RunsByWorkers micros 2 known (D.faults disk) (D.faults result.0) (λ n. RoseBy n 0 (D.bench_faults result.0)) (run_scene (D.trace disk) (I.remaining input.old) (I.faults input.old) (O.written out.old) (O.faults out.old))
+        (run_scene (D.trace result.0) (I.remaining input.new) (I.faults input.new) (O.written out.new) (O.faults out.new)) result.1 }
+    ensures mounted { D.mount_path result.0 ≡ D.mount_path disk }
+    ensures later { D.faults disk ≤ D.faults result.0 }
+{
+    let (disk, done) = work(rt, alloc, disk, input, micros, gate, known);
+    (disk, tell_if(out, done))
+}
