@@ -1,7 +1,7 @@
 //! What a file is read as.
 use anyhow::{Result, bail};
-use fsfs_noderev::{read_changes, read_revision_changes};
 use fsfs_layout::{read_hash, read_hash_in_place};
+use fsfs_noderev::{read_changes, read_revision_changes};
 use std::alloc::Global;
 
 #[derive(Clone, Copy)]

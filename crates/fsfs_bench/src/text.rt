@@ -1,8 +1,7 @@
 //! A text as a plain representation, in a book of one revision.
 use anyhow::{Result, bail};
-use fsfs_revision::{Book, MemBook, MemFile, MemRev};
 use fsfs_noderev::{Rep, read_rep};
-use fsfs_revision::{Digester, RepReader};
+use fsfs_revision::{Book, Digester, MemBook, MemFile, MemRev, RepReader};
 use std::alloc::{AllocError, Global};
 
 // How many bytes are read at a time.

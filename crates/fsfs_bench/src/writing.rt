@@ -4,9 +4,8 @@ ghost use Rattle.fsfs_noderev.specs.Items.{HasText};
 
 use anyhow::{Result, bail};
 use fsfs_base::Pairs;
-use fsfs_noderev::{ChangeItem, read_changes, write_changes};
 use fsfs_layout::{read_hash, write_hash};
-use fsfs_noderev::{check_item, is_told};
+use fsfs_noderev::{ChangeItem, check_item, is_told, read_changes, write_changes};
 use std::alloc::Global;
 
 pub(crate) fn read_pairs(alloc: Global, bytes: &[u8]) -> Result<Pairs> {

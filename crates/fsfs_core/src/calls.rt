@@ -5,14 +5,13 @@ ghost use Rattle.fsfs_machine.specs.Machine.{did, barred, answer, is_there, take
 ghost use Rattle.fsfs_core.specs.State.{world_of};
 
 use crate::state::State;
-use fsfs_base::RevNum;
+use fsfs_base::{BeginPlace, DiskPlace, RevNum};
 use fsfs_machine::files::{change_made, find, find_number, is_fine};
 use fsfs_machine::passes::{find_stuck, learn, reveal_by, see_least};
 use fsfs_machine::section::{
     answer_of, drawn_section, is_due_at, is_lock_up, is_quiet_section, next_section,
 };
 use fsfs_machine::{Contents, Drawn, FileName, Lock, NameChange, Outcome, Section, Went};
-use fsfs_base::{BeginPlace, DiskPlace};
 use std::alloc::AllocError;
 use std::mem;
 

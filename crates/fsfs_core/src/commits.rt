@@ -6,15 +6,13 @@ ghost use Rattle.fsfs_core.specs.Commits.{AddsNext, IsUsed};
 
 use crate::state::State;
 use crate::txns::{edit_of, land_on, next_of, tree_at};
-use fsfs_base::Pairs;
-use fsfs_base::RevNum;
-use fsfs_model::Edit;
+use fsfs_base::{CommitPlace, DiskPlace, Pairs, RevNum};
 use fsfs_machine::files::is_fine;
 use fsfs_machine::section::answer_of;
 use fsfs_machine::{
     Bytes, Coming, Contents, FileName, NameChange, Outcome, Section, Went, set_edited, set_merged,
 };
-use fsfs_base::{CommitPlace, DiskPlace};
+use fsfs_model::Edit;
 use fsfs_tree::Revision;
 use std::alloc::{AllocError, Global};
 

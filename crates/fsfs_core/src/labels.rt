@@ -5,12 +5,12 @@ ghost use Rattle.fsfs_core.specs.State.{world_of};
 
 use crate::state::State;
 use crate::txns::base_tree;
+use fsfs_base::DiskPlace;
 use fsfs_machine::files::is_fine;
 use fsfs_machine::labels::{drop_label, is_labelled, put_label};
 use fsfs_machine::passes::learn;
 use fsfs_machine::section::{answer_of, is_lock_up, is_outside_section};
 use fsfs_machine::{Drawn, Marks, Numbers, Outcome, Txn, Went};
-use fsfs_base::DiskPlace;
 use std::alloc::AllocError;
 use std::collections::VecDeque;
 use std::mem;

@@ -5,10 +5,10 @@ ghost use Rattle.fsfs_machine.specs.Machine.{did, barred, is_there, either, rang
 ghost use Rattle.fsfs_core.specs.State.{world_of};
 
 use crate::state::State;
+use fsfs_base::DiskPlace;
 use fsfs_machine::files::{find, find_number, is_fine};
 use fsfs_machine::passes::{join_to, learn, read_floor_by};
 use fsfs_machine::{Contents, FileName, Outcome, Went};
-use fsfs_base::DiskPlace;
 use std::alloc::AllocError;
 
 fn floor_answer(found: Option<u64>, went: &Went) -> Outcome

@@ -6,12 +6,10 @@ ghost use Rattle.fsfs_machine.specs.Machine.{Happens, Runs, did, created, first_
 ghost use Rattle.fsfs_machine.specs.Kept.{Kept, Keeps, RunKeeps};
 ghost use Rattle.fsfs_core.specs.State.{world_of};
 
-use fsfs_base::{FsPath, Kind, Pairs};
-use fsfs_base::RevNum;
+use fsfs_base::{DiskPlace, FsPath, Kind, Pairs, RevNum};
 use fsfs_machine::{
     Bytes, Contents, Drawn, Entry, FileName, Line, Lock, NameChange, Outcome, Pass, Step, Txn,
 };
-use fsfs_base::DiskPlace;
 use fsfs_tree::{ChangeMap, History, Node, Revision, Text, Tree};
 use std::alloc::{AllocError, Global};
 use std::collections::VecDeque;

@@ -10,11 +10,9 @@ ghost use Rattle.fsfs_model.specs.Transactions.{IsNext};
 ghost use Rattle.fsfs_machine.specs.Machine.{tree_in, entry_of};
 ghost use Rattle.fsfs_core.specs.Commits.{GivesEdit};
 
-use fsfs_base::{FsPath, Pairs};
-use fsfs_base::{RevNum, read_date};
-use fsfs_model::{Edit, Mark};
+use fsfs_base::{FsPath, Pairs, RevNum, read_date};
 use fsfs_machine::Txn;
-use fsfs_model::{flat_apply, flat_clash, flat_fold, flat_land, flat_mark};
+use fsfs_model::{Edit, Mark, flat_apply, flat_clash, flat_fold, flat_land, flat_mark};
 use fsfs_tree::{History, Revision, Tree};
 use std::alloc::{AllocError, Global};
 

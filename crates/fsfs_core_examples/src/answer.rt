@@ -1,8 +1,7 @@
 // What a step answers, and which history stands, as lines write them.
-use fsfs_base::FsPath;
+use fsfs_base::{FsPath, RevNum};
 use fsfs_core::{Numbers, Outcome, State};
 use fsfs_memory::Transcript;
-use fsfs_base::RevNum;
 use fsfs_model::flat_history;
 use fsfs_tree::{History, Revision, Text, Tree};
 use std::alloc::Global;

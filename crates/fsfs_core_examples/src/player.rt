@@ -4,10 +4,9 @@ use crate::line::Line;
 use crate::step::step_of;
 use crate::words::Words;
 use anyhow::{Result, bail};
-use fsfs_base::{FsPath, Pairs};
+use fsfs_base::{FsPath, Pairs, RevNum};
 use fsfs_core::{Bytes, Outcome, State, Step};
 use fsfs_memory::Transcript;
-use fsfs_base::RevNum;
 use std::alloc::{AllocError, Global};
 use std::collections::VecDeque;
 

@@ -1,9 +1,8 @@
 // The steps of the machine as lines write them.
 use crate::words::Words;
 use anyhow::Result;
-use fsfs_base::{FsPath, Pairs};
+use fsfs_base::{FsPath, Pairs, PropName};
 use fsfs_core::{Bytes, Picks, Step, Went};
-use fsfs_base::PropName;
 use fsfs_model::Edit;
 use std::alloc::Global;
 

@@ -1,8 +1,7 @@
 // The words of a line.
 use anyhow::{Result, bail};
-use fsfs_base::FsPath;
+use fsfs_base::{FsPath, RevNum};
 use fsfs_core::{BeginPlace, CommitPlace, Contents, DiskPlace, Went};
-use fsfs_base::RevNum;
 use std::alloc::{AllocError, Global};
 
 /// The words that are left of a line, with a space between each two. Where one is not what it is read as, something stands in

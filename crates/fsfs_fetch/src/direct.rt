@@ -16,11 +16,10 @@ use crate::manifests::KeptManifest;
 use crate::owned::OwnedReads;
 use crate::packs::{packed_len, packed_part};
 use crate::reads::Reads;
-use fsfs_revision::{Book, BookFault};
-use fsfs_revision::Refusal;
-use fsfs_disk::Disk;
 use fsfs_base::RevNum;
+use fsfs_disk::Disk;
 use fsfs_layout::{Layout, RepositoryFile};
+use fsfs_revision::{Book, BookFault, Refusal};
 use std::alloc::Global;
 
 /// A book over a store that is read. It keeps the last floor that it read, the oldest revision that isn't packed, and the

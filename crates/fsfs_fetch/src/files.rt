@@ -10,10 +10,9 @@ ghost use Rattle.fsfs_fetch.specs.Answers.{Stays, MayGo, FromFile, part_of_file,
 
 use crate::parts::StoreParts;
 use crate::reads::Reads;
-use fsfs_base::Name;
-use fsfs_revision::BookFault;
-use fsfs_base::RevNum;
+use fsfs_base::{Name, RevNum};
 use fsfs_disk::{FileFault, read_file};
+use fsfs_revision::BookFault;
 use std::alloc::Global;
 
 pub(crate) fn read_at<R: Reads>(

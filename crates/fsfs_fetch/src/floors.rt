@@ -8,10 +8,9 @@ ghost use Rattle.fsfs_fetch.specs.Answers.{refused};
 use crate::files::read_at;
 use crate::manifests::KeptManifest;
 use crate::reads::Reads;
-use fsfs_revision::BookFault;
-use fsfs_revision::Refusal;
 use fsfs_base::RevNum;
 use fsfs_layout::{OnlyFile, read_min_unpacked_rev};
+use fsfs_revision::{BookFault, Refusal};
 
 // Reads the floor, by one call.
 fn read_floor<R: Reads>(reads: &mut R) -> Result<RevNum, BookFault>

@@ -12,9 +12,8 @@ ghost use Rattle.fsfs_fetch.specs.Answers.{Stays, refused};
 
 use crate::files::load;
 use crate::reads::Reads;
-use fsfs_revision::BookFault;
-use fsfs_revision::Refusal;
 use fsfs_layout::{ManifestError, RepositoryFile, read_manifest};
+use fsfs_revision::{BookFault, Refusal};
 use std::alloc::Global;
 
 /// The manifest of a shard that was read last.

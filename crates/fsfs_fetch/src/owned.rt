@@ -2,9 +2,8 @@
 ghost use Rattle.std.specs.Prelude.{◌≡◌, ◌<◌};
 
 use crate::reads::Reads;
-use fsfs_base::{Failed, Name};
+use fsfs_base::{Failed, Name, RevNum};
 use fsfs_disk::Disk;
-use fsfs_base::RevNum;
 use fsfs_layout::Layout;
 
 /// A disk that nobody else writes to, with the youngest revision of its repository and its layout.

@@ -12,12 +12,9 @@ ghost use Rattle.fsfs_fetch.specs.Answers.{as_book, Stays};
 use crate::files::{read_at, size_at};
 use crate::manifests::{KeptManifest, keep_manifest, offsets_of};
 use crate::reads::Reads;
-use fsfs_base::fitting;
-use fsfs_revision::BookFault;
-use fsfs_revision::Refusal;
-use fsfs_base::RevNum;
+use fsfs_base::{RevNum, fitting};
 use fsfs_layout::RepositoryFile;
-use fsfs_revision::Section;
+use fsfs_revision::{BookFault, Refusal, Section};
 use std::alloc::Global;
 
 // The part of a pack of this size from one offset to the next, no further than the pack goes.

@@ -6,8 +6,7 @@ ghost use Rattle.fsfs_disk.specs.Benches.{HasShortFiles};
 ghost use Rattle.fsfs_disk.specs.Trace.{IsRead, IsSize};
 ghost use Rattle.fsfs_fetch.specs.Views.{View, Later, IsYoungest};
 
-use fsfs_base::{Failed, Name};
-use fsfs_base::RevNum;
+use fsfs_base::{Failed, Name, RevNum};
 use fsfs_layout::Layout;
 
 /// A store of revisions that is read: the files of a repository, of which others may make more, and pack some, between

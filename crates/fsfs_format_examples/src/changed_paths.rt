@@ -2,10 +2,10 @@
 use crate::nodes::{kind_word, put_id};
 use crate::small_files::{put_again, put_place};
 use fsfs_base::Action;
+use fsfs_memory::Transcript;
 use fsfs_noderev::{
     ChangeError, ChangeItem, read_changes, read_item, read_revision_changes, write_changes,
 };
-use fsfs_memory::Transcript;
 use std::alloc::{AllocError, Global};
 
 // The item that the text begins with, written as all changed paths.

@@ -1,8 +1,8 @@
 // Hash dumps and node-revisions: their values, written again, and where they are refused.
 use crate::small_files::{put_again, put_place};
 use fsfs_base::{Kind, Pairs};
-use fsfs_memory::Transcript;
 use fsfs_layout::{HashError, add_entry, drop_entry, read_children, read_hash, write_hash};
+use fsfs_memory::Transcript;
 use fsfs_noderev::{
     Contents, CopyRoot, NodeError, NodeId, NodeRev, Part, Place, Rep, Uniquifier, read_noderev,
     read_rep, write_noderev,

@@ -1,9 +1,9 @@
 // Representations: the bytes that stand under a name in two revisions, and why they are not read.
-use fsfs_revision::{MemBook, MemFile, MemRev};
-use fsfs_revision::{Damage, DamageKind, ReadError, RepWhat, Wrong};
 use fsfs_memory::Transcript;
 use fsfs_noderev::read_rep;
-use fsfs_revision::read_rep_bytes;
+use fsfs_revision::{
+    Damage, DamageKind, MemBook, MemFile, MemRev, ReadError, RepWhat, Wrong, read_rep_bytes,
+};
 use std::alloc::{AllocError, Global};
 
 // A revision whose properties are its own bytes once more.

@@ -1,10 +1,10 @@
 // Small files: their values, written again, and where they are refused.
-use fsfs_memory::Transcript;
 use fsfs_layout::{
     Format, Layout, ManifestError, read_current, read_format, read_manifest, read_min_unpacked_rev,
     read_next_ids, read_txn_current, read_uuid, write_current, write_manifest, write_next_ids,
     write_txn_current, write_uuid,
 };
+use fsfs_memory::Transcript;
 use std::alloc::{AllocError, Global};
 
 /// Writes where bytes are refused: `end` where that is where they end.

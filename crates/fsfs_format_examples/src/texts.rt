@@ -1,10 +1,12 @@
 // What stands in one field: numbers, names of properties, paths, ids, and the name of a transaction.
 use crate::nodes::put_id;
 use crate::small_files::{put_again, put_place};
-use fsfs_base::{FsPath, PathError, next_b36, read_b36, read_dec, write_b36, write_dec};
-use fsfs_memory::Transcript;
-use fsfs_base::{PropName, PropNameError, TxnName, read_txn_name};
+use fsfs_base::{
+    FsPath, PathError, PropName, PropNameError, TxnName, next_b36, read_b36, read_dec,
+    read_txn_name, write_b36, write_dec,
+};
 use fsfs_layout::{PartName, TxnFile};
+use fsfs_memory::Transcript;
 use fsfs_noderev::{read_id, write_id};
 use std::alloc::Global;
 

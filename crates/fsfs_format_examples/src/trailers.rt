@@ -2,8 +2,8 @@
 use crate::nodes::put_node;
 use crate::representations::put_error;
 use crate::small_files::put_again;
-use fsfs_memory::Transcript;
 use fsfs_base::RevNum;
+use fsfs_memory::Transcript;
 use fsfs_revision::{Trailer, put_trailer, read_root, read_tail, read_trailer};
 use std::alloc::{AllocError, Global};
 

@@ -4,13 +4,10 @@ ghost use Rattle.fsfs_base.specs.declared.kind.Kind.TheVariants.{Dir, File};
 
 use crate::nodes::kind_word;
 use crate::representations::{book_of, put_error};
-use fsfs_base::{FsPath, Kind};
-use fsfs_revision::{Book, MemBook};
+use fsfs_base::{FsPath, Kind, RevNum};
 use fsfs_dag::{DirEntry, Met, PlacedNode, TextError, entries, node_at, props, text_to};
-use fsfs_revision::ReadError;
-use fsfs_memory::Transcript;
-use fsfs_base::RevNum;
-use fsfs_memory::MemSink;
+use fsfs_memory::{MemSink, Transcript};
+use fsfs_revision::{Book, MemBook, ReadError};
 use std::alloc::Global;
 
 fn put_names(out: &mut Transcript, entries: &[DirEntry]) {

@@ -3,10 +3,8 @@ ghost use Rattle.std.specs.Prelude.{◌≡◌};
 ghost use Rattle.fsfs_machine.specs.Machine.{entry_of};
 
 use crate::contents::{Bytes, Contents};
-use fsfs_base::{FsPath, Pairs};
-use fsfs_base::RevNum;
+use fsfs_base::{DiskPlace, FsPath, Pairs, RevNum};
 use fsfs_model::{Edit, Mark};
-use fsfs_base::DiskPlace;
 use fsfs_tree::{Revision, Tree};
 use std::marker::Model;
 

@@ -4,8 +4,7 @@ ghost use Rattle.fsfs_machine.specs.Machine.{either, is_due, is_quiet, is_up, is
 
 use crate::files::is_fine;
 use crate::machine::{Drawn, Lock, Outcome, Section, Went};
-use fsfs_base::RevNum;
-use fsfs_base::{BeginPlace, CommitPlace, DiskPlace};
+use fsfs_base::{BeginPlace, CommitPlace, DiskPlace, RevNum};
 
 /// Whether the lock may be given here.
 pub fn is_quiet_section(section: &Section) -> bool
