@@ -3,7 +3,7 @@ use Rattle.std.proofs.Common.{◌≡◌, ◌≤◌, ◌<◌, ℕ, ◌+◌, List,
 use Rattle.std.specs.Prelude.{Option, Some, None}
 use Rattle.std.proofs.lemmas.List.{length-take, length-append, take_all, take-take}
 use Rattle.fsfs_base.specs.Grammar.{GoesOn, IsFaultAt}
-use Rattle.fsfs_disk.proofs.WholeFiles.{IsFrontOf}
+use Rattle.fsfs_disk.specs.Fronts.{IsFrontOf}
 use Rattle.fsfs_disk.specs.FirstBytes.{first_of, IsShorter}
 
 -- as many as were asked for

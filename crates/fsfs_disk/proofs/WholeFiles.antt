@@ -4,12 +4,8 @@ use Rattle.std.specs.Prelude.{Option, Some, None}
 use Rattle.std.proofs.lemmas.Option.{same_Some}
 use Rattle.std.proofs.Math.Seq.{take-add}
 use Rattle.std.proofs.lemmas.List.{length-take, length-drop, take-append-le, take_all, length-append}
+use Rattle.fsfs_disk.specs.Fronts.{IsFrontOf}
 use Rattle.fsfs_disk.specs.Trace.{IsRead}
-
--- the first bytes of a file; nothing of one that isn't there
-abbrev pub IsFrontOf : List ℕ → Option (List ℕ) → Type 0
-IsFrontOf front None = front ≡ []
-IsFrontOf front (Some bytes) = front ≡ take (length front) bytes
 
 -- the bytes that one read puts in front of the buffer
 pub read_bytes : (bytes old : List ℕ) (offset n : ℕ) → n ≤ length bytes - offset → take n (take n (drop offset bytes) ++ drop n old) ≡ take n (drop offset bytes)

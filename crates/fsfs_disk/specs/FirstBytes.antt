@@ -1,6 +1,6 @@
 -- The first bytes of a file.
 use Rattle.std.specs.Prelude.{◌≡◌, ◌<◌, ℕ, List, length, take, Option, Some, None, option_map}
-use Rattle.fsfs_disk.proofs.WholeFiles.{IsFrontOf}
+use Rattle.fsfs_disk.specs.Fronts.{IsFrontOf}
 
 -- no more than so many first bytes of a file
 abbrev pub first_of : ℕ → Option (List ℕ) → Option (List ℕ)

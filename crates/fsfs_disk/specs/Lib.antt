@@ -1,4 +1,5 @@
 pub mod Labels
+pub mod Accesses
 pub mod Benches
 pub mod Trace
 pub mod Crash
@@ -9,6 +10,7 @@ pub mod Seen
 pub mod Codes
 pub mod FileFaults
 pub mod DiskParts
+pub mod Fronts
 pub mod FirstBytes
 pub mod Txns
 pub mod Entries

@@ -1,8 +1,10 @@
 // A host: a disk for each path.
 ghost use Rattle.std.specs.Prelude.{◌≡◌, ◌≢◌, ◌≤◌, ℕ, List, Option, Some, IfOk, OnOk, OnErr, IsTrue};
+ghost use Rattle.fsfs_disk.specs.Accesses.{MayChange};
 ghost use Rattle.fsfs_base.specs.Failures.{HasCause, added_count};
 ghost use Rattle.fsfs_disk.specs.Trace.{Trace};
 
+use crate::access::Access;
 use crate::disk::Disk;
 use thiserror::Error;
 
@@ -30,14 +32,14 @@ pub trait Host {
     /// How often the benches failed that those disks took back.
     ghost bench_faults: { Self → ℕ };
 
-    /// Hands out the disk of a path, with both counts of faults 0. Where `writes` is set its files may be changed, and no other
-    /// writer has it at the same time.
-    fn mount(&mut self, path: &str, writes: bool) -> Result<Self::Mounted, MountFault>
+    /// Hands out the disk of a path, with both counts of faults 0. But for a look its files may be changed, and no other writer has it
+    /// at the same time. Where a repository is to be changed and none stands there, nothing is made ready, and no file can be changed.
+    fn mount(&mut self, path: &str, access: Access) -> Result<Self::Mounted, MountFault>
         ensures disk { IfOk result (λ d. Self.Mounted.trace d ≡ disk_at self.old path.now) }
         ensures path { IfOk result (λ d. Self.Mounted.mount_path d ≡ path.now) }
         ensures new { IfOk result (λ d. Self.Mounted.faults d ≡ 0) }
         ensures new_benches { IfOk result (λ d. Self.Mounted.bench_faults d ≡ 0) }
-        ensures right { IfOk result (λ d. IsTrue writes → IsTrue (Self.Mounted.may_write d)) }
+        ensures right { IfOk result (λ d. MayChange access → IsTrue (Self.Mounted.may_write d)) }
         ensures out { OnOk result (is_mounted self.new path.now) }
         ensures others { (p : List ℕ) → p ≢ path.now → disk_at self.new p ≡ disk_at self.old p }
         ensures err { OnErr result (disk_at self.new path.now ≡ disk_at self.old path.now) }

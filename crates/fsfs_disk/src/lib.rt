@@ -7,6 +7,7 @@
 //! The transactions of a repository: which there are, and their removal.
 #![tactic(auto)]
 
+mod access;
 mod bench;
 mod disk;
 mod disk_parts;
@@ -23,6 +24,7 @@ mod removing;
 mod shared_disk;
 mod whole_file;
 
+pub use access::Access;
 pub use bench::Bench;
 pub use disk::{Disk, ListFault};
 pub use disk_parts::read_disk_file;

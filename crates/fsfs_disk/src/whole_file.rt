@@ -1,7 +1,7 @@
 //! A file read as a whole, as far as its format can go.
 ghost use Rattle.std.specs.Prelude.{◌≡◌, ◌≤◌, ◌<◌, ◌+◌, List, Option, ℕ, length, IfOk, IfErr, IfSome, option_map};
 ghost use Rattle.fsfs_base.specs.Failures.{Rose};
-ghost use Rattle.fsfs_disk.proofs.WholeFiles.{IsFrontOf};
+ghost use Rattle.fsfs_disk.specs.Fronts.{IsFrontOf};
 ghost use Rattle.fsfs_disk.specs.FileFaults.{IfFailed};
 ghost use Rattle.fsfs_disk.specs.FirstBytes.{first_of, IsNextPiece};
 

@@ -7,7 +7,7 @@ ghost use Rattle.std.specs.Str.{bytes_eq};
 ghost use Rattle.fsfs_memory.specs.MemDisk.{disk_in, trace_of};
 
 use crate::disk::MemDisk;
-use fsfs_disk::{Host, MountFault};
+use fsfs_disk::{Access, Host, MountFault};
 use std::alloc::{AllocError, Global};
 use std::collections::BTreeMap;
 
@@ -138,7 +138,7 @@ impl Host for MemHost {
 
     ghost bench_faults = { λ h. h.bench_faults };
 
-    fn mount(&mut self, path: &str, _writes: bool) -> Result<MemDisk, MountFault> {
+    fn mount(&mut self, path: &str, _access: Access) -> Result<MemDisk, MountFault> {
         match take(&mut self.disks, path) {
             Some(disk) => Ok(disk.unfailed()),
             None => {

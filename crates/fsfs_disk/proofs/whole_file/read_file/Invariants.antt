@@ -1,6 +1,6 @@
 use Rattle.std.proofs.Common.{◌≤◌, ◌<◌, ℕ, List, length}
 use Rattle.std.specs.Prelude.{Option}
-use Rattle.fsfs_disk.proofs.WholeFiles.{IsFrontOf}
+use Rattle.fsfs_disk.specs.Fronts.{IsFrontOf}
 use Rattle.fsfs_disk.proofs.whole_file.read_file.Given as goal
 
 -- the bytes so far are the first of the file, and there is room for more

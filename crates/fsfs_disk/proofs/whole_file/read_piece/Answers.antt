@@ -2,7 +2,8 @@ use Rattle.std.proofs.Common.{◌≡◌, ℕ, List, ◌++◌, length, take, sym,
 use Rattle.std.specs.Prelude.{Some}
 use Rattle.std.proofs.lemmas.Grind.{common_steps}
 use Rattle.std.proofs.lemmas.List.{append-nil, length-take}
-use Rattle.fsfs_disk.proofs.WholeFiles.{IsFrontOf, front_more, whole_file}
+use Rattle.fsfs_disk.specs.Fronts.{IsFrontOf}
+use Rattle.fsfs_disk.proofs.WholeFiles.{front_more, whole_file}
 use Rattle.fsfs_disk.proofs.whole_file.read_piece.Goals as goal
 
 pub returns-clause-next : goal.returns-clause-next
