@@ -10,7 +10,8 @@ use Rattle.fsfs_disk.specs.Trace.{IsThere}
 use Rattle.fsfs_folders.specs.Paths.{same_text}
 use Rattle.fsfs_folders.specs.Listing.{is_entry}
 use Rattle.fsfs_folders.specs.CallRecord.{CallRecord, Contents, no_contents, more_bytes, made_firm, made_lost, names_now, contents_now}
-use Rattle.fsfs_folders.proofs.PathLemmas.{text_cases, same_itself}
+use Rattle.fsfs_folders.proofs.PathLemmas.{same_itself}
+use Rattle.fsfs_folders.specs.SameText.{text_cases}
 use Rattle.fsfs_folders.specs.BenchFiles.{file_held, file_or_new, bytes_of, files_held, bench_told, firm_part, firm_held, Follows, Sets, SetsAny, AreShort, AreKept}
 use Rattle.fsfs_folders.specs.Writing.{bytes_there}
 use Rattle.fsfs_folders.proofs.HeldFiles.{get_with, files_told, held_outside}

@@ -9,7 +9,7 @@ use Rattle.fsfs_base.proofs.FileLemmas.{same_files}
 use Rattle.fsfs_folders.specs.Paths.{same_text, has_path}
 use Rattle.fsfs_folders.specs.Listing.{is_entry, has_file, IsListOf}
 use Rattle.fsfs_folders.specs.CallRecord.{CallRecord, Contents, Begins, are_short, first_bytes, names_now}
-use Rattle.fsfs_folders.proofs.PathLemmas.{text_cases}
+use Rattle.fsfs_folders.specs.SameText.{text_cases}
 use Rattle.fsfs_folders.specs.BenchFiles.{file_held, bytes_of, files_held, bench_told, Sets, Clears, HoldsNothing, AreShort, AreKept}
 use Rattle.fsfs_folders.specs.Standing.{told}
 use Rattle.fsfs_folders.proofs.HeldFiles.{held_number, files_told}

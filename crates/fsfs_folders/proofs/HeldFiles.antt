@@ -12,7 +12,7 @@ use Rattle.fsfs_folders.specs.Paths.{same_text, has_path}
 use Rattle.fsfs_folders.specs.Listing.{is_entry}
 use Rattle.fsfs_folders.specs.Named.{named_paths}
 use Rattle.fsfs_folders.specs.CallRecord.{CallRecord, Call, Named, Create, Remove, SyncFile, FailSync, Append, Contents, Standing, no_contents, more_bytes, made_firm, made_lost, given, add_call, names_now, contents_now, new_number, Makes, Does}
-use Rattle.fsfs_folders.proofs.PathLemmas.{text_cases}
+use Rattle.fsfs_folders.specs.SameText.{text_cases}
 use Rattle.fsfs_folders.proofs.NameLemmas.{given_at, given_apart}
 use Rattle.fsfs_folders.proofs.NamedLemmas.{file_is_named}
 use Rattle.fsfs_folders.proofs.LeftLemmas.{now_is_left, number_within}

@@ -9,7 +9,7 @@ use Rattle.fsfs_folders.specs.Paths.{same_text, has_path, is_below}
 use Rattle.fsfs_folders.specs.CallRecord.{Call, Named, DropFolder, Take, Beginning, Standing, Contents, is_reachable, given, names_after, contents_after, file_count}
 use Rattle.fsfs_folders.specs.Named.{named_paths}
 use Rattle.fsfs_folders.specs.Remains.{AreNamesLeft}
-use Rattle.fsfs_folders.proofs.PathLemmas.{text_cases}
+use Rattle.fsfs_folders.specs.SameText.{text_cases}
 use Rattle.fsfs_folders.proofs.NameLemmas.{comes_from, reachable_without}
 use Rattle.fsfs_folders.proofs.NamedLemmas.{file_is_named}
 use Rattle.fsfs_folders.proofs.LeftLemmas.{now_is_left, number_within, folder_is_now, files_are_now}

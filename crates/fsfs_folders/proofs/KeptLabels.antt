@@ -9,7 +9,7 @@ use Rattle.fsfs_disk.proofs.LabelLemmas.{same_label-itself, same_label-same, has
 use Rattle.fsfs_folders.specs.Paths.{same_text, has_path}
 use Rattle.fsfs_folders.specs.CallRecord as system
 use Rattle.fsfs_folders.specs.CallRecord.{Call, Named, MakeFolder, DropFolder, Create, Take, Append, SyncFile, FailSync, SyncFolder, Firmed, Beginning, CallRecord, names_after, names_now}
-use Rattle.fsfs_folders.proofs.PathLemmas.{text_cases}
+use Rattle.fsfs_folders.specs.SameText.{text_cases}
 use Rattle.fsfs_folders.specs.LabelPaths.{bench_folder, label_at}
 use Rattle.fsfs_folders.specs.Told.{is_apart, with_folder, labels_of, on_label, bytes_at, operations_of, trace_of}
 use Rattle.fsfs_folders.proofs.LabelPathLemmas.{label_is}

@@ -1,7 +1,7 @@
 -- What a disk knows and tells where the folder of a bench is made or dropped, or a folder of the repository.
 use Rattle.std.proofs.Common.{◌≡◌, ◌⊎◌, ℕ, List, [], ◌∷◌, ◌++◌, Bool, true, false, cond, inl, inr, ⊎_elim, refl, sym, ap, subst, ◌∙◌, arith}
 use Rattle.std.proofs.lemmas.Bool.{and_from, or_cases, not_from_false}
-use Rattle.std.specs.Prelude.{◌||◌, ◌&&◌, not, is_some, Option, Some, None, option_map, IfSome}
+use Rattle.std.specs.Prelude.{◌||◌, ◌&&◌, not, is_some, Option, Some, None, option_map, IfSome, Result, Ok, Err, IfOk}
 use Rattle.fsfs_disk.specs.Labels.{Label, Txn, Pack, HotCopy, has_label}
 use Rattle.fsfs_disk.specs.Trace.{Trace, Operation, Done, NameChange, KeepLabel, DropLabel, Performs, labels_now}
 use Rattle.fsfs_folders.specs.Paths.{same_text, has_path, folder_of, is_below}
@@ -70,6 +70,13 @@ sound_dropped l (Some r) new changed settled may e =
 pub label_there : (l : Label) → IsFitting l → (old new : Option CallRecord) → Makes (DropFolder (bench_folder l)) old new → IfSome (told old) (λ t. true ≡ has_label l (labels_now t))
 label_there l fits None new makes = tt
 label_there l fits (Some r) new makes = sym (kept_by_folder l (label_again l fits) r.first r.calls ∙ makes.0.0)
+
+-- whether a label is kept, by whether a folder has its path
+pub label_asked : {E : Type 0} (l : Label) (path : List ℕ) → path ≡ bench_folder l → IsFitting l → (result : Result Bool E) (old : Option CallRecord) → IfSome old (λ r. IfOk result (λ is. is ≡ (names_now r).folders path))
+    → IfSome (told old) (λ t. IfOk result (λ is. is ≡ has_label l (labels_now t)))
+label_asked l path same fits result None found = tt
+label_asked l path same fits (Err e) (Some r) found = tt
+label_asked l path same fits (Ok is) (Some r) found = found ∙ ap (names_now r).folders same ∙ sym (kept_by_folder l (label_again l fits) r.first r.calls)
 
 pub label_absent : (l : Label) → IsFitting l → (old : Option CallRecord) → IfSome old (λ r. (names_now r).folders (bench_folder l) ≡ false) → IfSome (told old) (λ t. false ≡ has_label l (labels_now t))
 label_absent l fits None absent = tt

@@ -5,7 +5,8 @@ use Rattle.std.specs.Prelude.{◌||◌, ◌&&◌, not, option_map, Option, Some,
 use Rattle.fsfs_folders.specs.Paths.{same_text, has_path, folder_of}
 use Rattle.fsfs_folders.specs.CallRecord.{NameCall, MakeFolder, DropFolder, Create, Take, Rename, Remove, Call, Named, Append, SyncFile, FailSync, SyncFolder, Firmed, Beginning, CallRecord, Standing, renamed_by, names_after, file_count, add_call, Makes, Does}
 use Rattle.fsfs_folders.specs.Remains.{AreNamesLeft, are_firm, are_synced, folders_of}
-use Rattle.fsfs_folders.proofs.PathLemmas.{text_cases, or_right, has_head}
+use Rattle.fsfs_folders.proofs.PathLemmas.{or_right, has_head}
+use Rattle.fsfs_folders.specs.SameText.{text_cases}
 use Rattle.fsfs_folders.proofs.LeftLemmas.{firm_more}
 use Rattle.fsfs_folders.specs.LabelPaths.{bench_folder, IsFitting}
 use Rattle.fsfs_folders.specs.Told.{is_in_bench}

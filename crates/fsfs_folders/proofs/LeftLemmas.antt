@@ -5,7 +5,8 @@ use Rattle.std.specs.Prelude.{◌<◌, ◌||◌, ◌&&◌, not, Option, Some, No
 use Rattle.fsfs_folders.specs.Paths.{same_text, has_path}
 use Rattle.fsfs_folders.specs.CallRecord.{NameCall, MakeFolder, DropFolder, Create, Take, Rename, Remove, Call, Named, Append, SyncFile, FailSync, SyncFolder, Firmed, Beginning, Standing, given, renamed_by, names_after, file_count}
 use Rattle.fsfs_folders.specs.Remains.{AreNamesLeft, of_names, of_folders, are_firm, AreWithin, are_synced, folders_of}
-use Rattle.fsfs_folders.proofs.PathLemmas.{text_cases, or_right}
+use Rattle.fsfs_folders.proofs.PathLemmas.{or_right}
+use Rattle.fsfs_folders.specs.SameText.{text_cases}
 use Rattle.fsfs_folders.proofs.NameLemmas.{comes_from, comes_within, count_more, first_within}
 
 pub now_is_left : (first : Beginning) (synced : List (List ℕ)) (calls : List Call) → AreNamesLeft first synced calls (names_after first calls)

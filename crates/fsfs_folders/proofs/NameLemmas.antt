@@ -7,7 +7,8 @@ use Rattle.std.specs.Prelude.{◌<◌, ◌≤◌, ◌++◌, ◌==◌, ◌||◌, 
 use Rattle.fsfs_base.specs.Files.{NamedFile}
 use Rattle.fsfs_folders.specs.Paths.{same_text, is_below}
 use Rattle.fsfs_folders.specs.CallRecord.{NameCall, MakeFolder, DropFolder, Create, Take, Rename, Remove, Call, Named, Beginning, Standing, given, first_number, renamed_by, file_count, are_there, is_reachable}
-use Rattle.fsfs_folders.proofs.PathLemmas.{text_cases, same_itself, or_right}
+use Rattle.fsfs_folders.proofs.PathLemmas.{same_itself, or_right}
+use Rattle.fsfs_folders.specs.SameText.{text_cases}
 
 pub given_at : (path : List ℕ) (file : Option ℕ) (files : List ℕ → Option ℕ) → given path file files path ≡ file
 given_at path file files = ap (λ b. cond b file (files path)) (same_itself path)

@@ -6,7 +6,8 @@ use Rattle.fsfs_base.specs.Files.{NamedFile}
 use Rattle.fsfs_folders.specs.Paths.{has_path}
 use Rattle.fsfs_folders.specs.CallRecord.{MakeFolder, DropFolder, Create, Take, Rename, Remove, Call, Named, Append, SyncFile, FailSync, SyncFolder, Firmed, Beginning, first_number, names_after, file_count}
 use Rattle.fsfs_folders.specs.Named.{paths_of, named_paths}
-use Rattle.fsfs_folders.proofs.PathLemmas.{text_cases, has_head, has_tail}
+use Rattle.fsfs_folders.proofs.PathLemmas.{has_head, has_tail}
+use Rattle.fsfs_folders.specs.SameText.{text_cases}
 use Rattle.fsfs_folders.proofs.NameLemmas.{comes_from}
 
 first_named : (files : List NamedFile) (q : List ℕ) (k : ℕ) → first_number files q ≡ Some k → has_path (paths_of files) q ≡ true

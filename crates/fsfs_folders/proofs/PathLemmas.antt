@@ -13,20 +13,10 @@ use Rattle.std.specs.Cmp.Lexicographic.{slice_cmp, nat_list_cmp_total}
 use Rattle.std.specs.FinMap.{slice_cmp-IsAntisymmetric, nat_cmp-IsAntisymmetric}
 use Rattle.fsfs_base.proofs.FileLemmas.{apart_by}
 use Rattle.fsfs_folders.specs.Paths.{same_text, has_path, has_slash, before_slash}
+use Rattle.fsfs_folders.specs.SameText.{same_is, text_cases}
 
 pub same_itself : (p : List ℕ) → same_text p p ≡ true
 same_itself p = ap is_eq (tied_itself nat_list_cmp_total p)
-
-pub same_is : (q p : List ℕ) → same_text q p ≡ true → q ≡ p
-same_is q p alike =
-    elim (slice_cmp nat_cmp q p) as (λ r. slice_cmp nat_cmp q p ≡ r → is_eq r ≡ true → q ≡ p) [
-      | Less ↦ λ e h. cc
-      | Equal ↦ λ e h. slice_cmp-IsAntisymmetric nat_cmp-IsAntisymmetric q p e
-      | Greater ↦ λ e h. cc
-    ] refl alike
-
-pub text_cases : (q p : List ℕ) → ((q ≡ p) × (same_text q p ≡ true)) ⊎ ((q ≡ p → ⊥) × (same_text q p ≡ false))
-text_cases q p = ⊎_elim (λ t. inl (same_is q p t, t)) (λ f. inr (apart_by q p f, f)) (cases_Bool (same_text q p))
 
 pub or_right : (x y : Bool) → y ≡ true → (x || y) ≡ true
 or_right true y e = refl

@@ -6,7 +6,8 @@ use Rattle.std.specs.Prelude.{◌||◌, ◌&&◌, not}
 use Rattle.std.specs.List.Sorted.{IsPermutation}
 use Rattle.fsfs_folders.specs.Paths.{same_text, has_path}
 use Rattle.fsfs_folders.specs.Listing.{are_apart}
-use Rattle.fsfs_folders.proofs.PathLemmas.{text_cases, has_head, has_tail}
+use Rattle.fsfs_folders.proofs.PathLemmas.{has_head, has_tail}
+use Rattle.fsfs_folders.specs.SameText.{text_cases}
 
 -- the list without a text, where it comes first
 abbrev pub erase : List (List ℕ) → List ℕ → List (List ℕ)

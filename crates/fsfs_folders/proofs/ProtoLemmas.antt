@@ -11,7 +11,8 @@ use Rattle.fsfs_disk.specs.Trace.{Trace, Adopt, Performs, FailsToAdopt}
 use Rattle.fsfs_disk.proofs.BenchLemmas.{get-appended}
 use Rattle.fsfs_folders.specs.Paths.{same_text, has_path}
 use Rattle.fsfs_folders.specs.CallRecord.{CallRecord}
-use Rattle.fsfs_folders.proofs.PathLemmas.{text_cases, same_itself, same_is}
+use Rattle.fsfs_folders.proofs.PathLemmas.{same_itself}
+use Rattle.fsfs_folders.specs.SameText.{text_cases, same_is}
 use Rattle.fsfs_folders.specs.BenchFiles.{file_held, bytes_of, bench_told, firm_held}
 use Rattle.fsfs_folders.specs.Prototypes.{proto_name, is_elsewhere, elsewhere, with_proto, firm_with_proto, whole_told, whole_firm}
 use Rattle.fsfs_folders.specs.Standing.{told}

@@ -8,7 +8,7 @@ use Rattle.fsfs_base.specs.Files.{Files, NamedFile}
 use Rattle.fsfs_base.proofs.FileLemmas.{same_files}
 use Rattle.fsfs_folders.specs.Paths.{same_text}
 use Rattle.fsfs_folders.specs.CallRecord.{Standing, given, first_number, first_bytes}
-use Rattle.fsfs_folders.proofs.PathLemmas.{text_cases}
+use Rattle.fsfs_folders.specs.SameText.{text_cases}
 use Rattle.fsfs_folders.proofs.NameLemmas.{given_apart, first_within}
 use Rattle.fsfs_folders.specs.Told.{is_apart, shown, files_of}
 

@@ -26,7 +26,8 @@ use Rattle.fsfs_disk.proofs.LabelLemmas.{same_label-itself, same_label-same, has
 use Rattle.fsfs_folders.specs.Paths.{same_text, has_path, has_slash, within}
 use Rattle.fsfs_folders.specs.Listing.{is_entry, are_apart, IsListOf}
 use Rattle.fsfs_folders.specs.CallRecord.{CallRecord, IsEmptyAt, names_now}
-use Rattle.fsfs_folders.proofs.PathLemmas.{text_cases, same_is, has_head, has_tail, or_right}
+use Rattle.fsfs_folders.proofs.PathLemmas.{has_head, has_tail, or_right}
+use Rattle.fsfs_folders.specs.SameText.{text_cases, same_is}
 use Rattle.fsfs_folders.specs.LabelPaths.{bench_folder, between, txns_of, packs_of, first_of, label_at, IsFitting}
 use Rattle.fsfs_folders.specs.TxnEntries.{is_txn_entry, txns_among}
 use Rattle.fsfs_folders.specs.Told.{labels_of, operations_of, trace_of}

@@ -16,7 +16,7 @@ use Rattle.fsfs_folders.specs.Paths.{same_text, has_path}
 use Rattle.fsfs_folders.specs.Named.{named_paths}
 use Rattle.fsfs_folders.specs.CallRecord as system
 use Rattle.fsfs_folders.specs.CallRecord.{Call, Named, MakeFolder, DropFolder, Create, Take, Append, SyncFile, FailSync, SyncFolder, Firmed, Beginning, CallRecord, Contents, Standing, is_reachable, names_after, contents_after}
-use Rattle.fsfs_folders.proofs.PathLemmas.{text_cases}
+use Rattle.fsfs_folders.specs.SameText.{text_cases}
 use Rattle.fsfs_folders.specs.LabelPaths.{label_at}
 use Rattle.fsfs_folders.specs.Told.{is_apart, files_of, on_label, bytes_at, bytes_after, operations_of}
 use Rattle.fsfs_folders.specs.Keeping.{are_rooted, keeps, may_call, are_names_firm, are_folders_firm, is_place, is_whole, is_whole_file, is_sound}

@@ -1,4 +1,5 @@
 pub mod Paths
+pub mod SameText
 pub mod CallRecord
 pub mod Listing
 pub mod Named

@@ -6,10 +6,9 @@ ghost use Rattle.fsfs_folders.specs.BenchFiles.{file_held, file_or_new, Sets, Se
 
 use crate::folders::LONGEST;
 use crate::texts::has_slash;
-use crate::writing::append_all;
-use crate::{CallError, Calls, Path};
+use crate::writing::{append_all, open_to_sync};
+use crate::{CallError, Calls, Mode, Path};
 use fsfs_base::Name;
-use std::alloc::Global;
 
 /// Whether a name is one of a file right in the folder.
 pub fn is_entry(name: &Name) -> bool
@@ -34,7 +33,7 @@ fn open_for<C: Calls>(calls: &mut C, name: &Name, more: usize) -> Result<C::File
             }
             Ok(file)
         }
-        Err(CallError::NotFound) => calls.create(&path),
+        Err(CallError::NotFound) => calls.create(&path, None),
         Err(error) => Err(error),
     }
 }
@@ -76,7 +75,7 @@ pub fn write_to<C: Calls>(calls: &mut C, name: &Name, bytes: &[u8]) -> Result<()
         return Err(CallError::Failed);
     }
     let _ = remove_from(calls, name)?;
-    let file = calls.create(&Path::of(name))?;
+    let file = calls.create(&Path::of(name), None)?;
     append_all(calls, &file, bytes)
 }
 
@@ -93,22 +92,13 @@ pub fn remove_all<C: Calls>(calls: &mut C, names: &[Name]) -> Result<(), CallErr
     Ok(())
 }
 
-/// Takes away all files right in the folder.
-pub fn clear<C: Calls>(calls: &mut C, alloc: Global) -> Result<(), CallError>
-    ensures none { OnOk result (IfSome (C.history calls.new) HoldsNothing) }
-    ensures tells { OnOk result (is_some (C.history calls.new) ≡ is_some (C.history calls.old)) }
-{
-    let names = calls.files_in(alloc, &Path::new(""))?;
-    remove_all(calls, names.as_slice())
-}
-
-/// Makes the bytes of a file firm, if there is one.
-pub fn sync_in<C: Calls>(calls: &mut C, name: &Name) -> Result<(), CallError>
+/// Makes the bytes of a file firm, if there is one, with this mode.
+pub fn sync_in<C: Calls>(calls: &mut C, name: &Name, mode: Option<Mode>) -> Result<(), CallError>
     requires { entry name.now ≡ true }
     ensures ok { OnOk result (Sets name.now (λ r. option_map made_firm (file_held r name.now)) (C.history calls.old) (C.history calls.new)) }
     ensures err { OnErr result ((C.history calls.new ≡ C.history calls.old) ⊎ Sets name.now (λ r. option_map made_lost (file_held r name.now)) (C.history calls.old) (C.history calls.new)) }
 {
-    match calls.open(&Path::of(name)) {
+    match open_to_sync(calls, &Path::of(name), mode) {
         Ok(file) => calls.sync_file(&file),
         Err(CallError::NotFound) => Ok(()),
         Err(error) => Err(error),

@@ -1,17 +1,25 @@
 // The calls of the system, one for one.
-ghost use Rattle.std.specs.Prelude.{◌≡◌, ◌≤◌, ◌<◌, ◌-◌, ◌⊎◌, ◌++◌, min, ℕ, List, Option, Some, None, true, false, length, take, drop, option_map, is_some, IfOk, IfSome, OnOk, OnErr, IsErrOf};
+ghost use Rattle.std.specs.Prelude.{◌≡◌, ◌≤◌, ◌<◌, ◌-◌, ◌⊎◌, ◌++◌, min, ℕ, List, Option, Some, None, Bool, true, false, length, take, drop, option_map, is_some, IfOk, IfSome, OnOk, OnErr, IsErrOf};
 ghost use Rattle.fsfs_folders.specs.CallRecord.{CallRecord, MakeFolder, DropFolder, Create, Rename, Remove, Append, SyncFile, FailSync, SyncFolder, Firmed, Makes, MayMake, Does, Begins, Takes, MayTake, names_now, contents_now, new_number, IsEmptyAt};
-ghost use Rattle.fsfs_folders.specs.Listing.{IsListOf, has_file};
+ghost use Rattle.fsfs_folders.specs.BenchFiles.{HoldsNothing};
+ghost use Rattle.fsfs_folders.specs.Listing.{IsListOf};
 
 use crate::error::CallError;
+use crate::mode::Mode;
 use crate::path::Path;
 use fsfs_base::Name;
 use std::alloc::Global;
+use std::fs::File;
 
 /// A file that is open. It stays the same file, whatever becomes of its name.
 pub trait OpenFile: Drop {
     /// Its number in the record.
     ghost number: { Self → ℕ };
+}
+
+// A file of the machine: nothing is told of it.
+impl OpenFile for File {
+    ghost number = { λ _. 0 };
 }
 
 /// The calls of the system on files and folders below one folder, as the system has them. A call that a signal interrupts is made
@@ -25,19 +33,35 @@ pub trait Calls {
     /// What stood below the folder and the calls since that did something; none where it doesn't tell.
     ghost history: { Self → Option CallRecord };
 
-    /// Takes the lock of a file or a folder that is there, and holds it until `unlock`, or until these calls are let go. `Locked`:
-    /// another process holds it.
-    fn lock(&mut self, path: &Path) -> Result<(), CallError>
+    /// Whether a link has a path. Below a part's folder, and right in the folder of transactions, a name is looked at itself, never what
+    /// it leads to: there a link is neither a file nor a folder. Elsewhere it goes for what it leads to, and this says nothing of it.
+    ghost is_link: { Self → List ℕ → Bool };
+
+    /// Takes the lock of a folder that is there, and holds it until `unlock`, or until these calls are let go. `Locked`: another process
+    /// holds it.
+    fn lock_folder(&mut self, path: &Path) -> Result<(), CallError>
+        ensures same { history self.new ≡ history self.old };
+
+    /// Takes the lock of a file. Where there is none an empty one is made for it, with this mode, of which the record doesn't tell: what
+    /// stands in such a file is never looked at.
+    fn lock_file(&mut self, path: &Path, mode: Option<Mode>) -> Result<(), CallError>
         ensures same { history self.new ≡ history self.old };
 
     /// Lets all locks go that were taken.
     fn unlock(&mut self)
         ensures same { history self.new ≡ history self.old };
 
-    /// Makes a folder in one that is there, also where it is there itself.
-    fn make_folder(&mut self, path: &Path) -> Result<(), CallError>
+    /// Makes a folder in one that is there, also where it is there itself. One that is made gets this mode.
+    fn make_folder(&mut self, path: &Path, mode: Option<Mode>) -> Result<(), CallError>
         ensures ok { OnOk result (Makes (MakeFolder path.now) (history self.old) (history self.new)) }
-        ensures err { OnErr result (MayMake (MakeFolder path.now) (history self.old) (history self.new)) };
+        ensures err { OnErr result (MayMake (MakeFolder path.now) (history self.old) (history self.new)) }
+        ensures links { (p : List ℕ) → is_link self.new p ≡ is_link self.old p };
+
+    /// Whether a folder itself has a path: a link to one is none.
+    fn is_folder(&mut self, path: &Path) -> Result<bool, CallError>
+        ensures folder { IfSome (history self.old) (λ r. IfOk result (λ is. is ≡ (names_now r).folders path.now)) }
+        ensures link { is_link self.old path.now ≡ true → IfOk result (λ is. is ≡ false) }
+        ensures same { history self.new ≡ history self.old };
 
     /// Drops a folder in which nothing stands.
     fn drop_folder(&mut self, path: &Path) -> Result<(), CallError>
@@ -45,6 +69,21 @@ pub trait Calls {
         ensures absent { IfSome (history self.old) (λ r. IsErrOf result CallError.NotFound → (names_now r).folders path.now ≡ false) }
         ensures same { IsErrOf result CallError.NotFound → history self.new ≡ history self.old }
         ensures err { OnErr result (MayMake (DropFolder path.now) (history self.old) (history self.new)) };
+
+    /// Drops a folder with all that stands below it, whatever it is and whatever name it has. No link is followed.
+    fn drop_tree(&mut self, path: &Path) -> Result<(), CallError>
+        ensures ok { OnOk result (Makes (DropFolder path.now) (history self.old) (history self.new)) }
+        ensures absent { IfSome (history self.old) (λ r. IsErrOf result CallError.NotFound → (names_now r).folders path.now ≡ false) }
+        ensures same { IsErrOf result CallError.NotFound → history self.new ≡ history self.old }
+        ensures err { OnErr result (MayMake (DropFolder path.now) (history self.old) (history self.new)) };
+
+    /// The mode of what has a path. `None`: nothing has it.
+    fn mode(&mut self, path: &Path) -> Result<Option<Mode>, CallError>
+        ensures same { history self.new ≡ history self.old };
+
+    /// Gives a file that is open a mode.
+    fn set_mode(&mut self, file: &Self::File, mode: Mode) -> Result<(), CallError>
+        ensures same { history self.new ≡ history self.old };
 
     /// The names of the folders next below a folder, in no order. Names of more than 128 bytes, or that aren't UTF-8, are passed over.
     /// `NotFound`: there is no such folder, and so nothing below it.
@@ -54,16 +93,8 @@ pub trait Calls {
         ensures bare { IfSome (history self.old) (λ r. IsErrOf result CallError.NotFound → IsEmptyAt (names_now r) folder.now) }
         ensures same { history self.new ≡ history self.old };
 
-    /// The names of the files next below a folder, in no order. Names of more than 128 bytes, or that aren't UTF-8, are passed over.
-    /// `NotFound`: there is no such folder, and so nothing below it.
-    fn files_in(&mut self, alloc: Global, folder: &Path) -> Result<Vec<Name>, CallError>
-        ensures names { IfSome (history self.old) (λ r. IfOk result (λ found. IsListOf (has_file (names_now r)) folder.now found.items)) }
-        ensures absent { IfSome (history self.old) (λ r. IsErrOf result CallError.NotFound → (names_now r).folders folder.now ≡ false) }
-        ensures bare { IfSome (history self.old) (λ r. IsErrOf result CallError.NotFound → IsEmptyAt (names_now r) folder.now) }
-        ensures same { history self.new ≡ history self.old };
-
-    /// Makes an empty file where nothing has the name, and opens it to read and to write.
-    fn create(&mut self, path: &Path) -> Result<Self::File, CallError>
+    /// Makes an empty file with this mode where nothing has the name, and opens it to read and to write.
+    fn create(&mut self, path: &Path, mode: Option<Mode>) -> Result<Self::File, CallError>
         ensures ok { OnOk result (Makes (Create path.now) (history self.old) (history self.new)) }
         ensures number { IfSome (history self.old) (λ r. IfOk result (λ file. Self.File.number file ≡ new_number r)) }
         ensures err { OnErr result (MayMake (Create path.now) (history self.old) (history self.new)) };
@@ -137,6 +168,11 @@ pub trait Calls {
     /// asked for is theirs alone.
     fn part(&mut self, folder: &Path) -> Result<Self, CallError>
         ensures begins { IfOk result (λ part. Begins (history self.old) (history part)) }
+        ensures same { history self.new ≡ history self.old };
+
+    /// The same, of a folder from which all is taken away first that stands below it, whatever it is. No link is followed.
+    fn empty_part(&mut self, folder: &Path) -> Result<Self, CallError>
+        ensures empty { IfOk result (λ part. IfSome (history part) HoldsNothing) }
         ensures same { history self.new ≡ history self.old };
 
     /// Gives a file of a part a name here by one change, in place of the file that had that name. The part has it no more.

@@ -19,6 +19,9 @@ pub enum CallError {
     /// Another process holds the lock.
     #[error("another process holds the lock")]
     Locked,
+    /// The system doesn't let this user do it.
+    #[error("permission denied")]
+    Denied,
     /// There was no memory for the answer.
     #[error("out of memory")]
     Memory,

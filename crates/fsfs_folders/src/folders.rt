@@ -1,5 +1,5 @@
 // The files of a repository, over the calls of the system.
-ghost use Rattle.std.specs.Prelude.{◌≡◌, ◌⊎◌, ◌≤◌, ◌^◌, ℕ, List, [], Some, None, true, false, codes, length, is_some, option_map, IfOk, IfSome, MatchOption, OnOk, OnErr};
+ghost use Rattle.std.specs.Prelude.{◌≡◌, ◌⊎◌, ◌≤◌, ◌^◌, ℕ, List, [], Some, None, true, false, codes, length, is_some, option_map, IfOk, IfSome, IsErr, MatchOption, OnOk, OnErr};
 ghost use Rattle.std.specs.FinMap.{empty};
 ghost use Rattle.fsfs_disk.specs.Labels.{label_of, has_label, IsListing};
 ghost use Rattle.fsfs_disk.specs.Benches.{IsFirmFile};
@@ -13,11 +13,12 @@ ghost use Rattle.fsfs_folders.specs.LabelsLeft.{KeepsDropsFirm};
 ghost use Rattle.fsfs_folders.specs.OpenFiles.{is_file_of, is_still};
 ghost use Rattle.fsfs_folders.specs.Quiet.{IsQuiet};
 ghost use Rattle.fsfs_folders.specs.Standing.{told, IsNoted, IsWritten, IsWholeAt, bytes_under, Adopts, FailsToTake};
+ghost use Rattle.fsfs_folders.specs.LabelPaths.{bench_folder};
 ghost use Rattle.fsfs_folders.specs.BenchFiles.{bench_told, firm_held, file_held, AreShort, AreKept, HoldsNothing};
 ghost use Rattle.fsfs_folders.specs.Prototypes.{whole_told};
 
 use crate::bench::{FolderBench, Proto};
-use crate::bench_files::{clear, remove_all};
+use crate::bench_files::remove_all;
 use crate::label_paths::{bench_path, proto_entry};
 use crate::listing::txns_among;
 use crate::noted::Noted;
@@ -26,11 +27,14 @@ use crate::part::BenchPart;
 use crate::reading::{file_size, fill, open_file, read_file};
 use crate::texts::{BESIDE, is_apart, is_in_bench, is_inner_folder};
 use crate::writing::{sync_folders, write_new};
-use crate::{CallError, Calls, Path};
+use crate::{CallError, Calls, Mode, Modes, Path};
 use fsfs_base::Name;
 use fsfs_disk::Label;
 use fsfs_layout::{OnlyFile, TxnFile};
 use std::alloc::Global;
+
+// A file that is to take another's place has that one's name with this ending.
+const NEXT: &str = "-next";
 
 // No file grows longer than this.
 pub const LONGEST: usize = 1 << 62;
@@ -44,6 +48,8 @@ pub struct Folders<C: Calls + Drop> {
     changed: Noted,
     // The folders themselves have firm names.
     is_settled: bool,
+    // What new files and folders get.
+    modes: Modes,
     ghost sound: { is_sound (C.Calls.history calls) changed is_settled ≡ true },
 }
 
@@ -57,6 +63,7 @@ impl<C: Calls + Drop> Folders<C> {
             calls,
             changed: Noted::new(alloc),
             is_settled: true,
+            modes: Modes::unknown(),
         }
     }
 
@@ -67,11 +74,32 @@ impl<C: Calls + Drop> Folders<C> {
         &self.calls
     }
 
-    /// Takes the lock of a file or a folder that is there, and holds it until `unlock`. `Locked`: another process holds it.
-    pub fn lock(&mut self, path: &Path) -> Result<(), CallError>
+    /// Takes the lock of a folder that is there, and holds it until `unlock`. `Locked`: another process holds it.
+    pub fn lock_folder(&mut self, path: &Path) -> Result<(), CallError>
         ensures { C.history self.new.calls ≡ C.history self.old.calls }
     {
-        self.calls.lock(path)
+        self.calls.lock_folder(path)
+    }
+
+    /// Takes the lock of a file, and holds it until `unlock`. Where there is none an empty one is made for it, with this mode.
+    pub fn lock_file(&mut self, name: &Name, mode: Option<Mode>) -> Result<(), CallError>
+        ensures { C.history self.new.calls ≡ C.history self.old.calls }
+    {
+        self.calls.lock_file(&Path::of(name), mode)
+    }
+
+    /// The mode of the file or folder with a name. `None`: there is none.
+    pub fn mode(&mut self, name: &Name) -> Result<Option<Mode>, CallError>
+        ensures { C.history self.new.calls ≡ C.history self.old.calls }
+    {
+        self.calls.mode(&Path::of(name))
+    }
+
+    /// Lets what is new from now on get these modes.
+    pub fn set_modes(&mut self, modes: Modes)
+        ensures { C.history self.new.calls ≡ C.history self.old.calls }
+    {
+        self.modes = modes;
     }
 
     /// Lets all locks go that were taken.
@@ -149,8 +177,19 @@ impl<C: Calls + Drop> Folders<C> {
         }
     }
 
+    // The mode of a file that is to get a name: that of the file that has it, or had it last by another name; else what is new gets.
+    fn mode_for(&mut self, path: &Path) -> Result<Option<Mode>, CallError>
+        ensures { C.history self.new.calls ≡ C.history self.old.calls }
+    {
+        let kept = match path.as_str().strip_suffix(NEXT) {
+            Some(final_name) => self.calls.mode(&Path::new(final_name))?,
+            None => self.calls.mode(path)?,
+        };
+        Ok(kept.or(self.modes.of_file(path.as_str())))
+    }
+
     // Makes a new file of these bytes beside, firm.
-    fn write(&mut self, beside: &Path, bytes: &[u8]) -> Result<(), CallError>
+    fn write(&mut self, beside: &Path, bytes: &[u8], mode: Option<Mode>) -> Result<(), CallError>
         requires beside { apart beside.now ≡ true }
         requires noted { has_path self.old.changed (folder_of beside.now) ≡ true }
         ensures told { told (C.history self.new.calls) ≡ told (C.history self.old.calls) }
@@ -158,7 +197,7 @@ impl<C: Calls + Drop> Folders<C> {
         ensures settled { self.new.is_settled ≡ self.old.is_settled }
         ensures written { OnOk result (IfSome (C.history self.new.calls) (λ r. IsWritten r beside.now bytes.now)) }
     {
-        write_new(&mut self.calls, beside, bytes)
+        write_new(&mut self.calls, beside, bytes, mode)
     }
 
     // Gives what was written beside its name.
@@ -188,12 +227,47 @@ impl<C: Calls + Drop> Folders<C> {
         }
         let beside = Path::with_ending(name, BESIDE);
         let path = Path::of(name);
+        let mode = self.mode_for(&path)?;
         self.settle()?;
         self.note(&beside)?;
         self.note(&path)?;
         self.clear(&beside)?;
-        self.write(&beside, bytes)?;
+        self.write(&beside, bytes, mode)?;
         self.give(&beside, &path)
+    }
+
+    /// Makes the names in a folder firm now.
+    pub fn firm_folder(&mut self, folder: Path) -> Result<(), CallError>
+        ensures quiet { IsQuiet (C.history self.old.calls) (C.history self.new.calls) }
+        ensures told { told (C.history self.new.calls) ≡ told (C.history self.old.calls) }
+    {
+        sync_folders(&mut self.calls, &[folder])
+    }
+
+    /// Puts an empty file, firm, under a name that is none of the repository's.
+    pub fn mark(&mut self, name: &Name) -> Result<(), CallError>
+        ensures { told (C.history self.new.calls) ≡ told (C.history self.old.calls) }
+    {
+        if !is_apart(name) {
+            return Err(CallError::OtherKind);
+        }
+        let path = Path::of(name);
+        self.note(&path)?;
+        self.clear(&path)?;
+        self.write(&path, b"", None)?;
+        self.firm_folder(path.folder())
+    }
+
+    /// Takes such a file away, if it is there.
+    pub fn unmark(&mut self, name: &Name) -> Result<(), CallError>
+        ensures { told (C.history self.new.calls) ≡ told (C.history self.old.calls) }
+    {
+        if !is_apart(name) {
+            return Err(CallError::OtherKind);
+        }
+        let path = Path::of(name);
+        self.note(&path)?;
+        self.clear(&path)
     }
 
     /// Gives a file another name, by one change, in place of the file that had that name.
@@ -247,7 +321,8 @@ impl<C: Calls + Drop> Folders<C> {
         }
         self.note(path)?;
         self.is_settled = false;
-        self.calls.make_folder(path)
+        let mode = self.modes.of_folder(path.as_str());
+        self.calls.make_folder(path, mode)
     }
 
     /// Makes a folder and those above it, also where they are there. None is made where benches stand.
@@ -283,11 +358,33 @@ impl<C: Calls + Drop> Folders<C> {
     pub fn keep_label(&mut self, label: &Label) -> Result<(), CallError>
         ensures ok { OnOk result (Performs (KeepLabel (label_of label.now)) (told (C.history self.old.calls)) (told (C.history self.new.calls))) }
         ensures err { OnErr result ((told (C.history self.new.calls) ≡ told (C.history self.old.calls)) ⊎ Performs (KeepLabel (label_of label.now)) (told (C.history self.old.calls)) (told (C.history self.new.calls))) }
+        ensures links { (p : List ℕ) → C.is_link self.new.calls p ≡ C.is_link self.old.calls p }
     {
-        self.calls.make_folder(&bench_path(label))
+        self.calls.make_folder(&bench_path(label), None)
     }
 
-    /// Drops the folder of a label's bench, in which nothing stands, and makes that firm: else a crash could bring the label back.
+    // Whether the folder of a label's bench is there, itself: a link is none.
+    fn has_label(&mut self, label: &Label) -> Result<bool, CallError>
+        ensures there { IfSome (told (C.history self.old.calls)) (λ t. IfOk result (λ there. there ≡ has_label (label_of label.now) (labels_now t))) }
+        ensures link { C.is_link self.old.calls (bench_folder (label_of label.now)) ≡ true → IfOk result (λ there. there ≡ false) }
+        ensures same { C.history self.new.calls ≡ C.history self.old.calls }
+    {
+        self.calls.is_folder(&bench_path(label))
+    }
+
+    // Refuses a label in whose folder's place a link stands, where the folder has been made or was there.
+    fn refuse_link(&mut self, label: &Label) -> Result<(), CallError>
+        ensures link { C.is_link self.old.calls (bench_folder (label_of label.now)) ≡ true → IsErr result }
+        ensures same { C.history self.new.calls ≡ C.history self.old.calls }
+    {
+        if self.has_label(label)? {
+            Ok(())
+        } else {
+            Err(CallError::OtherKind)
+        }
+    }
+
+    /// Drops the folder of a label's bench with all that stands in it, and makes that firm: else a crash could bring the label back.
     /// `false`: it isn't there.
     pub fn drop_label(&mut self, label: &Label) -> Result<bool, CallError>
         ensures there { IfOk result (λ there. IfSome (told (C.history self.old.calls)) (λ t. there ≡ has_label (label_of label.now) (labels_now t))) }
@@ -296,7 +393,7 @@ impl<C: Calls + Drop> Folders<C> {
         ensures firm { OnOk result (KeepsDropsFirm (C.history self.old.calls) (C.history self.new.calls)) }
     {
         let path = bench_path(label);
-        match self.calls.drop_folder(&path) {
+        match self.calls.drop_tree(&path) {
             Ok(()) => {
                 self.calls.sync_folder(&path.folder())?;
                 Ok(true)
@@ -324,14 +421,11 @@ impl<C: Calls + Drop> Folders<C> {
     }
 
     // The calls on the folder of a label's bench, with nothing in it.
-    fn cleared(&mut self, alloc: Global, label: &Label) -> Result<C, CallError>
+    fn cleared(&mut self, label: &Label) -> Result<C, CallError>
         ensures none { IfOk result (λ part. IfSome (C.history part) HoldsNothing) }
-        ensures tells { IfOk result (λ part. is_some (C.history part) ≡ is_some (C.history self.old.calls)) }
         ensures same { C.history self.new.calls ≡ C.history self.old.calls }
     {
-        let mut part = self.calls.part(&bench_path(label))?;
-        clear(&mut part, alloc)?;
-        Ok(part)
+        self.calls.empty_part(&bench_path(label))
     }
 
     // The calls on the folder of prototype revision files, in which none has these names.
@@ -359,33 +453,34 @@ impl<C: Calls + Drop> Folders<C> {
         let name = proto_entry(txn, &TxnFile::ProtoRevision)?;
         let lock = proto_entry(txn, &TxnFile::ProtoRevisionLock)?;
         let part = self.protos_without(&[name.copy(), lock])?;
-        Ok(Some(Proto::new(BenchPart::new(part), name)))
+        Ok(Some(Proto::new(BenchPart::new(part, self.modes.revision), name)))
     }
 
-    /// Makes an empty bench for a label.
-    pub fn bench(&mut self, alloc: Global, label: &Label) -> Result<FolderBench<C>, CallError>
+    /// Makes an empty bench for a label. A link in the place of its folder is refused, and nothing is changed behind it.
+    pub fn bench(&mut self, label: &Label) -> Result<FolderBench<C>, CallError>
         ensures ok { OnOk result (Performs (KeepLabel (label_of label.now)) (told (C.history self.old.calls)) (told (C.history self.new.calls))) }
         ensures err { OnErr result (FailsAt (KeepLabel (label_of label.now)) (told (C.history self.old.calls)) (told (C.history self.new.calls))) }
         ensures empty { IfOk result (λ bench. whole_told bench.proto (λ p. C.history p.part.calls) (λ p. p.name) (C.history bench.files.calls) ≡ option_map (λ _. empty) (told (C.history self.old.calls))) }
         ensures new { IfOk result (λ bench. bench.faults ≡ 0) }
+        ensures link { C.is_link self.old.calls (bench_folder (label_of label.now)) ≡ true → IsErr result }
     {
         self.keep_label(label)?;
-        let files = self.cleared(alloc, label)?;
+        self.refuse_link(label)?;
+        let files = self.cleared(label)?;
         let proto = self.proto(label)?;
-        Ok(FolderBench::new(BenchPart::new(files), proto))
+        Ok(FolderBench::new(BenchPart::new(files, None), proto))
     }
 
     /// Drops the bench of a label with all that is in it, a transaction's prototype revision file too, and then the label. `false`:
-    /// the label isn't kept.
-    pub fn drop_bench(&mut self, alloc: Global, label: &Label) -> Result<bool, CallError>
+    /// the label isn't kept; then nothing is removed. A link in the place of its folder is no label.
+    pub fn drop_bench(&mut self, label: &Label) -> Result<bool, CallError>
         ensures there { IfOk result (λ there. IfSome (told (C.history self.old.calls)) (λ t. there ≡ has_label (label_of label.now) (labels_now t))) }
         ensures ok { IfOk result (λ there. PerformsIfThere there (DropLabel (label_of label.now)) (told (C.history self.old.calls)) (told (C.history self.new.calls))) }
         ensures err { OnErr result (FailsAt (DropLabel (label_of label.now)) (told (C.history self.old.calls)) (told (C.history self.new.calls))) }
+        ensures link { C.is_link self.old.calls (bench_folder (label_of label.now)) ≡ true → IfOk result (λ there. there ≡ false) }
     {
-        match self.cleared(alloc, label) {
-            Ok(_) => {}
-            Err(CallError::NotFound) => {}
-            Err(error) => return Err(error),
+        if !self.has_label(label)? {
+            return Ok(false);
         }
         match self.proto(label) {
             Ok(_) => {}

@@ -10,13 +10,15 @@ ghost use Rattle.fsfs_folders.specs.Standing.{told};
 use crate::bench_files::{append_to, is_entry, remove_from, sync_in, write_to};
 use crate::folders::Folders;
 use crate::reading::{file_size, read_file};
-use crate::{CallError, Calls, Path};
+use crate::{CallError, Calls, Mode, Path};
 use fsfs_base::Name;
 
 /// Files right in a folder, over calls on it. A name with a slash is refused.
 #[derive(Drop)]
 pub struct BenchPart<C: Calls + Drop> {
     calls: C,
+    // What a file gets before it is firm.
+    mode: Option<Mode>,
     // The sync of a file has failed, so no later one says that its bytes are firm.
     is_lost: bool,
     ghost short: { (r : CallRecord) → C.Calls.history calls ≡ Some r → (name : List ℕ) (file : Contents) → file_held r name ≡ Some file → length file.bytes ≤ 2 ^ 62 },
@@ -24,14 +26,15 @@ pub struct BenchPart<C: Calls + Drop> {
 }
 
 impl<C: Calls + Drop> BenchPart<C> {
-    /// The files that calls on a folder find.
-    pub fn new(calls: C) -> BenchPart<C>
+    /// The files that calls on a folder find. They get this mode as they are made firm.
+    pub fn new(calls: C, mode: Option<Mode>) -> BenchPart<C>
         requires short { AreShort (C.history calls) }
         requires kept { AreKept (C.history calls) }
         ensures { result.calls ≡ calls }
     {
         BenchPart {
             calls,
+            mode,
             is_lost: false,
         }
     }
@@ -119,7 +122,7 @@ impl<C: Calls + Drop> BenchPart<C> {
         if self.is_lost || !is_entry(file) {
             return Err(CallError::Failed);
         }
-        let synced = sync_in(&mut self.calls, file);
+        let synced = sync_in(&mut self.calls, file, self.mode);
         self.is_lost = synced.is_err();
         synced
     }

@@ -10,6 +10,7 @@ pub fn error_of(error: &io::Error) -> CallError {
         ErrorKind::AlreadyExists => CallError::Exists,
         ErrorKind::IsADirectory => CallError::OtherKind,
         ErrorKind::WouldBlock => CallError::Locked,
+        ErrorKind::PermissionDenied => CallError::Denied,
         ErrorKind::OutOfMemory => CallError::Memory,
         _ => CallError::Failed,
     }

@@ -2,7 +2,7 @@
 ghost use Rattle.std.specs.Prelude.{None};
 
 use crate::errors::finished;
-use crate::host::{HostCalls, LONGEST_NAME};
+use crate::host::{HostCalls, names_in};
 use fsfs_base::Name;
 use fsfs_folders::CallError;
 use fsfs_mount::{FileId, FileSystem};
@@ -65,15 +65,6 @@ impl<R: Files<File = File> + AllocGlobal + Env + Clone + Drop> FileSystem for Ho
     }
 
     fn entries(&self, alloc: Global, folder: &str) -> Result<Vec<Name>, CallError> {
-        let mut found = Vec::new(alloc);
-        for entry in finished(|| fs::read_dir(&self.rt, folder))? {
-            match entry {
-                Ok(entry) if entry.file_name().len() <= LONGEST_NAME => {
-                    found.push(Name::new(entry.file_name()))?;
-                }
-                _ => return Err(CallError::Failed),
-            }
-        }
-        Ok(found)
+        finished(|| names_in(&self.rt, alloc, folder, true))
     }
 }

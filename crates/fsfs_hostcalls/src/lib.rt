@@ -7,4 +7,4 @@ mod file_system;
 mod host;
 
 pub use file_system::HostFileSystem;
-pub use host::{HostCalls, HostFile};
+pub use host::HostCalls;

@@ -6,7 +6,8 @@ use Rattle.std.specs.Prelude.{◌||◌, ◌==◌, if◌then◌else◌, drop, Opt
 use Rattle.fsfs_base.specs.Files.{NamedFile}
 use Rattle.fsfs_folders.specs.Paths.{same_text, has_path}
 use Rattle.fsfs_folders.specs.CallRecord.{Call, Named, Append, SyncFile, FailSync, SyncFolder, Firmed, Beginning, Standing, first_number, first_bytes, file_count, renamed_by, names_after, is_reachable}
-use Rattle.fsfs_folders.proofs.PathLemmas.{or_right, same_is, text_cases}
+use Rattle.fsfs_folders.proofs.PathLemmas.{or_right}
+use Rattle.fsfs_folders.specs.SameText.{same_is, text_cases}
 use Rattle.fsfs_folders.proofs.NameLemmas.{first_within, comes_from}
 use Rattle.fsfs_memcalls.specs.Places.{places_in, file_paths, paths_of}
 use Rattle.fsfs_memcalls.specs.Recorded.{of_beginning, record_at}

@@ -5,3 +5,4 @@ pub mod ListLemmas
 pub mod EmptyLemmas
 pub mod LeftLemmas
 pub mod FoundLemmas
+pub mod NewParts

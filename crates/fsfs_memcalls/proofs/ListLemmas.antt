@@ -5,7 +5,8 @@ use Rattle.std.specs.Prelude.{◌||◌, not, is_some, Option, Some, None}
 use Rattle.fsfs_folders.specs.Paths.{same_text, has_path, within}
 use Rattle.fsfs_folders.specs.CallRecord.{Beginning, Call, names_after}
 use Rattle.fsfs_folders.specs.Listing.{IsListOf, is_entry, are_apart}
-use Rattle.fsfs_folders.proofs.PathLemmas.{or_right, same_is, same_itself}
+use Rattle.fsfs_folders.proofs.PathLemmas.{or_right, same_itself}
+use Rattle.fsfs_folders.specs.SameText.{same_is}
 use Rattle.fsfs_memcalls.specs.Entries.{IsNoEntry, IsEntryAt, IsListSoFar, Lists}
 use Rattle.fsfs_memcalls.specs.Places.{paths_of}
 use Rattle.fsfs_memcalls.specs.Standing.{stands_as}

@@ -6,7 +6,8 @@ use Rattle.std.specs.Prelude.{◌||◌, not, length, Option, Some, None}
 use Rattle.fsfs_base.specs.Files.{NamedFile}
 use Rattle.fsfs_folders.specs.Paths.{same_text, has_path, is_below}
 use Rattle.fsfs_folders.specs.CallRecord.{NameCall, MakeFolder, DropFolder, Create, Take, Rename, Remove, Call, Named, Append, SyncFile, FailSync, SyncFolder, Firmed, Beginning, Standing, first_number, file_count, renamed_by, names_after, IsEmptyAt}
-use Rattle.fsfs_folders.proofs.PathLemmas.{or_right, has_head, has_tail, text_cases}
+use Rattle.fsfs_folders.proofs.PathLemmas.{or_right, has_head, has_tail}
+use Rattle.fsfs_folders.specs.SameText.{text_cases}
 use Rattle.fsfs_folders.proofs.NameLemmas.{comes_from, Comes}
 use Rattle.fsfs_memcalls.specs.Places.{place_of, with_place, places_in, file_paths, paths_of}
 

@@ -3,7 +3,8 @@ use Rattle.std.proofs.Common.{◌≡◌, ℕ, List, [], ◌∷◌, ◌++◌, tak
 use Rattle.std.specs.Prelude.{◌&&◌, ◌==◌, if◌then◌else◌}
 use Rattle.fsfs_folders.specs.Paths.{same_text}
 use Rattle.fsfs_folders.specs.CallRecord.{are_there}
-use Rattle.fsfs_folders.proofs.PathLemmas.{text_cases, same_itself}
+use Rattle.fsfs_folders.proofs.PathLemmas.{same_itself}
+use Rattle.fsfs_folders.specs.SameText.{text_cases}
 
 -- a test of equal texts is that of the paths
 pub same_by : (r : Bool) (text path : List ℕ) → (r ≡ true → path ≡ text) → (path ≡ text → r ≡ true) → r ≡ same_text text path

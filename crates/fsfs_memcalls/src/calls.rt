@@ -1,5 +1,6 @@
 // The calls of the system, made in memory.
-ghost use Rattle.std.specs.Prelude.{◌≡◌, ◌⊎◌, ◌≤◌, ◌<◌, ◌-◌, ◌^◌, [], ◌∷◌, ◌++◌, true, min, length, take, drop, OnOk, OnErr, IfOk, IsErrOf};
+ghost use Rattle.std.specs.Prelude.{◌≡◌, ◌⊎◌, ◌≤◌, ◌<◌, ◌-◌, ◌^◌, [], ◌∷◌, ◌++◌, ℕ, List, true, false, min, length, take, drop, OnOk, OnErr, IfOk, IsErrOf};
+ghost use Rattle.fsfs_folders.specs.Paths.{has_path};
 ghost use Rattle.fsfs_folders.specs.CallRecord.{file_count, add_call, new_number, names_now, contents_now, is_reachable, IsEmptyAt};
 ghost use Rattle.fsfs_folders.specs.Listing.{IsListOf};
 ghost use Rattle.fsfs_folders.specs.Remains.{IsLeft};
@@ -11,10 +12,12 @@ use crate::emptiness::is_empty_at;
 use crate::listing::{Kind, names_in};
 use crate::made::{MemBeginning, MemCall, MemChange, MemContents};
 use crate::paths::paths;
-use crate::standing::{contents, count, file_at, has_folder, is_reached, text_of};
+use crate::standing::{
+    contents, count, file_at, has_first_folder, has_folder, is_reached, text_of,
+};
 use crate::telling::tell;
 use fsfs_base::{Faults, Name};
-use fsfs_folders::{CallError, Calls, OpenFile, Path};
+use fsfs_folders::{CallError, Calls, Mode, OpenFile, Path};
 use std::alloc::{AllocError, Global};
 use std::mem::replace;
 
@@ -37,6 +40,8 @@ const AT_ONCE: usize = 1000;
 pub struct MemCalls {
     alloc: Global,
     first: MemBeginning,
+    // Where links stand. They lead to what these calls know nothing of.
+    links: Vec<Path>,
     // The calls that did something, the newest first.
     made: Vec<MemCall>,
     faults: Faults,
@@ -58,6 +63,7 @@ impl MemCalls {
         MemCalls {
             alloc,
             first,
+            links: Vec::new(alloc),
             made: Vec::new(alloc),
             faults: Faults::new(Vec::new(alloc)),
             makes_failing: false,
@@ -86,6 +92,14 @@ impl MemCalls {
         let mut folders = Vec::new(alloc);
         folders.push(Path::new(""))?;
         Ok(MemCalls::with_folders(alloc, folders))
+    }
+
+    /// The same with links at these paths, at which nothing else stands.
+    pub fn with_links(mut self, links: Vec<Path>) -> MemCalls
+        ensures { record_of result ≡ record_of self }
+    {
+        self.links = links;
+        self
     }
 
     /// The same, of whose calls from now on these fail; the first is 1. Calls that the system refuses, as the removal of a file that
@@ -141,6 +155,7 @@ impl MemCalls {
         requires { file_count (beginning_of self.old.first) (call_of call ∷ calls_of self.old.made.items) < 2 ^ 64 }
         ensures ok { OnOk result (record_of self.new ≡ add_call (call_of call) (record_of self.old)) }
         ensures err { OnErr result (record_of self.new ≡ record_of self.old) }
+        ensures links { self.new.links ≡ self.old.links }
     {
         match self.made.insert(0, call) {
             Ok(()) => Ok(()),
@@ -154,6 +169,7 @@ impl MemCalls {
         ensures ok { OnOk result (record_of self.new ≡ add_call (call_of call) (record_of self.old)) }
         ensures err { OnErr result ((record_of self.new ≡ record_of self.old) ⊎ (record_of self.new ≡ add_call (call_of call) (record_of self.old))) }
         ensures told { IsErrOf result CallError.NotFound → ⊥ }
+        ensures links { self.new.links ≡ self.old.links }
     {
         let passes = self.faults.call().is_ok();
         if !passes && !self.makes_failing {
@@ -171,9 +187,48 @@ impl MemCalls {
 
     // A call that changes nothing: whether it passes.
     fn look(&mut self) -> bool
-        ensures { record_of self.new ≡ record_of self.old }
+        ensures same { record_of self.new ≡ record_of self.old }
+        ensures links { self.new.links ≡ self.old.links }
     {
         self.faults.call().is_ok()
+    }
+
+    fn is_link(&self, path: &Path) -> bool
+        ensures { result ≡ has_path self.now.links.items path.now }
+    {
+        has_first_folder(self.links.as_slice(), text_of(path))
+    }
+
+    // A link has the path, and so no folder.
+    fn no_folder(&self, path: &Path) -> Result<bool, CallError>
+        ensures { IfOk result (λ is. (is ≡ false) × ((names_now (record_of self.now)).folders path.now ≡ false)) }
+    {
+        if self.folder(path) {
+            return Err(CallError::OtherKind);
+        }
+        Ok(false)
+    }
+
+    // The links next below a folder, by their paths there.
+    fn links_below(&self, folder: &Path) -> Result<Vec<Path>, AllocError> {
+        let mut found = Vec::new(self.alloc);
+        for link in &self.links {
+            if let Some(rest) = link.as_str().strip_prefix(folder.as_str())
+                && let Some(name) = rest.strip_prefix("/")
+            {
+                found.push(Path::new(name))?;
+            }
+        }
+        Ok(found)
+    }
+
+    // No link has the path from now on.
+    fn drop_link(&mut self, path: &Path)
+        ensures { record_of self.new ≡ record_of self.old }
+    {
+        if let Some(at) = self.links.iter().position(|link| link.is(path)) {
+            let _ = self.links.remove(at);
+        }
     }
 
     fn file(&self, path: &Path) -> Option<usize>
@@ -233,6 +288,24 @@ impl MemCalls {
         }
     }
 
+    // The calls on a folder that is there. Nothing stands in it at their beginning.
+    fn new_part(&mut self, folder: &Path) -> Result<MemCalls, CallError>
+        ensures empty { IfOk result (λ part. record_of part ≡ of_folders ([] ∷ [])) }
+        ensures same { record_of self.new ≡ record_of self.old }
+    {
+        if !self.folder(folder) {
+            return Err(CallError::NotFound);
+        }
+        if !self.look() {
+            return Err(CallError::Failed);
+        }
+        let Ok(part) = MemCalls::new(self.alloc) else {
+            return Err(CallError::Memory);
+        };
+        let failing = replace(&mut self.failing_in_part, Vec::new(self.alloc));
+        Ok(part.failing(failing, self.makes_failing))
+    }
+
     fn contents(&self, number: usize) -> Result<MemContents, CallError>
         ensures { IfOk result (λ file. contents_of file ≡ contents_now (record_of self.now) number) }
     {
@@ -262,16 +335,30 @@ fn copy_from(bytes: &[u8], offset: u64, buffer: &mut [u8]) -> usize
 
 impl Calls for MemCalls {
     ghost use Rattle.std.specs.Prelude.{Some, refl};
+    ghost use Rattle.fsfs_folders.specs.Paths.{has_path};
     ghost use Rattle.fsfs_memcalls.specs.Recorded.{record_of};
 
     type File = MemOpenFile;
 
     ghost history = { λ calls. Some (record_of calls) };
 
+    ghost is_link = { λ calls path. has_path calls.links.items path };
+
     // Nobody else holds a lock in memory.
-    fn lock(&mut self, path: &Path) -> Result<(), CallError> {
-        if !self.folder(path) && self.file(path).is_none() {
+    fn lock_folder(&mut self, path: &Path) -> Result<(), CallError> {
+        if !self.folder(path) {
             return Err(CallError::NotFound);
+        }
+        if !self.look() {
+            return Err(CallError::Failed);
+        }
+        Ok(())
+    }
+
+    // The file of a lock that isn't there is made, and nothing is told of it.
+    fn lock_file(&mut self, path: &Path, _mode: Option<Mode>) -> Result<(), CallError> {
+        if self.folder(path) || self.is_link(path) {
+            return Err(CallError::OtherKind);
         }
         if !self.look() {
             return Err(CallError::Failed);
@@ -281,14 +368,24 @@ impl Calls for MemCalls {
 
     fn unlock(&mut self) {}
 
-    fn make_folder(&mut self, path: &Path) -> Result<(), CallError> {
-        if self.file(path).is_some() {
+    fn make_folder(&mut self, path: &Path, _mode: Option<Mode>) -> Result<(), CallError> {
+        if self.file(path).is_some() || self.is_link(path) {
             return Err(CallError::Exists);
         }
         if !self.reaches(path) {
             return Err(CallError::NotFound);
         }
         self.make(MemCall::Named(MemChange::MakeFolder(path.copy())))
+    }
+
+    fn is_folder(&mut self, path: &Path) -> Result<bool, CallError> {
+        if !self.look() {
+            return Err(CallError::Failed);
+        }
+        if self.is_link(path) {
+            return self.no_folder(path);
+        }
+        Ok(self.folder(path))
     }
 
     fn drop_folder(&mut self, path: &Path) -> Result<(), CallError> {
@@ -304,6 +401,19 @@ impl Calls for MemCalls {
         self.make(MemCall::Named(MemChange::DropFolder(path.copy())))
     }
 
+    // What stands in a bench stands in a part's calls, and nothing below a bench's folder here.
+    fn drop_tree(&mut self, path: &Path) -> Result<(), CallError> {
+        self.drop_folder(path)
+    }
+
+    fn mode(&mut self, _path: &Path) -> Result<Option<Mode>, CallError> {
+        Ok(None)
+    }
+
+    fn set_mode(&mut self, _file: &MemOpenFile, _mode: Mode) -> Result<(), CallError> {
+        Ok(())
+    }
+
     fn folders_in(&mut self, alloc: Global, folder: &Path) -> Result<Vec<Name>, CallError> {
         if !self.folder(folder) {
             return Err(self.fault_of_absent(folder));
@@ -317,21 +427,8 @@ impl Calls for MemCalls {
         }
     }
 
-    fn files_in(&mut self, alloc: Global, folder: &Path) -> Result<Vec<Name>, CallError> {
-        if !self.folder(folder) {
-            return Err(self.fault_of_absent(folder));
-        }
-        if !self.look() {
-            return Err(CallError::Failed);
-        }
-        match self.list(alloc, folder, Kind::File) {
-            Ok(found) => Ok(found),
-            Err(_) => Err(CallError::Memory),
-        }
-    }
-
-    fn create(&mut self, path: &Path) -> Result<MemOpenFile, CallError> {
-        if self.file(path).is_some() || self.folder(path) {
+    fn create(&mut self, path: &Path, _mode: Option<Mode>) -> Result<MemOpenFile, CallError> {
+        if self.file(path).is_some() || self.folder(path) || self.is_link(path) {
             return Err(CallError::Exists);
         }
         if !self.reaches(path) {
@@ -346,7 +443,7 @@ impl Calls for MemCalls {
     }
 
     fn open(&mut self, path: &Path) -> Result<MemOpenFile, CallError> {
-        if self.folder(path) {
+        if self.folder(path) || self.is_link(path) {
             return Err(CallError::OtherKind);
         }
         let Some(number) = self.file(path) else {
@@ -414,14 +511,18 @@ impl Calls for MemCalls {
         if self.folder(to) {
             return Err(CallError::OtherKind);
         }
-        self.make(MemCall::Named(MemChange::Rename(from.copy(), to.copy())))
+        self.make(MemCall::Named(MemChange::Rename(from.copy(), to.copy())))?;
+        self.drop_link(to);
+        Ok(())
     }
 
     fn remove(&mut self, path: &Path) -> Result<(), CallError> {
         if self.folder(path) {
             return Err(CallError::OtherKind);
         }
+        // A link goes too. It is no file, and nothing is told of it.
         if self.file(path).is_none() {
+            self.drop_link(path);
             return Err(CallError::NotFound);
         }
         self.make(MemCall::Named(MemChange::Remove(path.copy())))
@@ -431,19 +532,13 @@ impl Calls for MemCalls {
         self.add(MemCall::Firmed)
     }
 
-    // Nothing stands in a part at its beginning.
     fn part(&mut self, folder: &Path) -> Result<MemCalls, CallError> {
-        if !self.folder(folder) {
-            return Err(CallError::NotFound);
-        }
-        if !self.look() {
-            return Err(CallError::Failed);
-        }
-        let Ok(part) = MemCalls::new(self.alloc) else {
-            return Err(CallError::Memory);
-        };
-        let failing = replace(&mut self.failing_in_part, Vec::new(self.alloc));
-        Ok(part.failing(failing, self.makes_failing))
+        let links = self.links_below(folder)?;
+        Ok(self.new_part(folder)?.with_links(links))
+    }
+
+    fn empty_part(&mut self, folder: &Path) -> Result<MemCalls, CallError> {
+        self.new_part(folder)
     }
 
     fn take(&mut self, part: &mut MemCalls, from: &Path, to: &Path) -> Result<(), CallError> {

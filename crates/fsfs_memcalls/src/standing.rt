@@ -29,7 +29,8 @@ pub fn text_of(path: &Path) -> &[u8]
     path.as_str().as_bytes()
 }
 
-fn has_first_folder(folders: &[Path], text: &[u8]) -> bool
+/// Whether a text is that of one of these paths.
+pub fn has_first_folder(folders: &[Path], text: &[u8]) -> bool
     ensures { result ≡ has_path folders.now text.now }
 {
     match folders {
