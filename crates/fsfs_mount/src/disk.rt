@@ -1,5 +1,5 @@
 // The files of a repository in a folder, over the calls of the system, as a disk.
-ghost use Rattle.std.specs.Prelude.{◌≡◌, [], IfOk, IfSome, OnErr, MatchOption, string_bytes, true};
+ghost use Rattle.std.specs.Prelude.{◌≡◌, [], IfOk, IfSome, IsErr, OnErr, MatchOption, string_bytes, true};
 ghost use Rattle.fsfs_base.specs.Failures.{HasCause, added_count};
 ghost use Rattle.fsfs_disk.specs.Labels.{label_of, has_label};
 ghost use Rattle.fsfs_disk.specs.Trace.{DropLabel, labels_now, PerformsIfThere, FailsAt};
@@ -11,9 +11,8 @@ ghost use Rattle.fsfs_folders.specs.OpenFiles.{is_still};
 use crate::found::Found;
 use crate::last_read::{read_last, size_last};
 use fsfs_base::{Failed, Name};
-use fsfs_folders::{CallError, Calls};
 use fsfs_disk::{Disk, Label, ListFault};
-use fsfs_folders::{FolderBench, Folders, Opened, counted};
+use fsfs_folders::{CallError, Calls, FolderBench, Folders, Opened, counted};
 use std::alloc::Global;
 
 /// The files of a repository below a folder, over the calls of the system. It tells the operations that its calls come to.
@@ -21,6 +20,8 @@ use std::alloc::Global;
 /// `put` writes a file beside the name, makes it firm and renames it. `firm_names` syncs each folder in which a name changed since
 /// the last one. A bench is the folder of its label, with calls of its own, and a transaction's its prototype revision file too; its
 /// label is that the folder is there.
+///
+/// Where a mount was to change a repository and found none, each change fails: nothing is locked there.
 ///
 /// The file that was read last stays open: a read of it that doesn't begin at its beginning costs no call but the read. Each call but
 /// reads and sizes closes it.
@@ -116,6 +117,19 @@ impl<C: Calls + Drop> FolderDisk<C> {
         self.bench_faults
     }
 
+    // Refuses a change.
+    fn refuse<T>(&mut self) -> Result<T, Failed>
+        ensures cause { HasCause self.old.faults self.new.faults result }
+        ensures folders { self.new.folders ≡ self.old.folders }
+        ensures path { self.new.path ≡ self.old.path }
+        ensures writes { self.new.writes ≡ self.old.writes }
+        ensures benches { self.new.bench_faults ≡ self.old.bench_faults }
+        ensures refused { IsErr result }
+    {
+        self.faults = self.faults.saturating_add(1);
+        Err(Failed)
+    }
+
     /// Whatever a crash may leave now of names and of bytes shows one of the images that the disk tells.
     pub fn leaves_images(&self)
         ensures { IfSome (C.history self.now.folders.calls) LeavesImages }
@@ -158,18 +172,27 @@ impl<C: Calls + Drop> Disk for FolderDisk<C> {
 
     fn put(&mut self, name: &Name, bytes: &[u8]) -> Result<(), Failed> {
         self.last_read = None;
+        if self.found.is_barred {
+            return self.refuse();
+        }
         let done = self.folders.put(name, bytes);
         counted(&mut self.faults, done)
     }
 
     fn rename(&mut self, from: &Name, to: &Name) -> Result<(), Failed> {
         self.last_read = None;
+        if self.found.is_barred {
+            return self.refuse();
+        }
         let done = self.folders.rename(from, to);
         counted(&mut self.faults, done)
     }
 
     fn remove(&mut self, name: &Name) -> Result<bool, Failed> {
         self.last_read = None;
+        if self.found.is_barred {
+            return self.refuse();
+        }
         let was_there = self.folders.remove(name);
         counted(&mut self.faults, was_there)
     }
@@ -182,12 +205,18 @@ impl<C: Calls + Drop> Disk for FolderDisk<C> {
 
     fn make_folder(&mut self, name: &Name) -> Result<(), Failed> {
         self.last_read = None;
+        if self.found.is_barred {
+            return self.refuse();
+        }
         let done = self.folders.make_folder(name);
         counted(&mut self.faults, done)
     }
 
     fn drop_folder(&mut self, name: &Name) -> Result<(), Failed> {
         self.last_read = None;
+        if self.found.is_barred {
+            return self.refuse();
+        }
         let done = self.folders.drop_folder(name);
         counted(&mut self.faults, done)
     }
@@ -206,7 +235,10 @@ impl<C: Calls + Drop> Disk for FolderDisk<C> {
 
     fn bench(&mut self, label: &Label) -> Result<FolderBench<C>, Failed> {
         self.last_read = None;
-        let made = self.folders.bench(self.alloc, label);
+        if self.found.is_barred {
+            return self.refuse();
+        }
+        let made = self.folders.bench(label);
         counted(&mut self.faults, made)
     }
 
@@ -223,12 +255,18 @@ impl<C: Calls + Drop> Disk for FolderDisk<C> {
             self.bench_faults = self.bench_faults.saturating_add(bench.faults());
         }
         self.last_read = None;
-        let was_there = self.folders.drop_bench(self.alloc, label);
+        if self.found.is_barred {
+            return self.refuse();
+        }
+        let was_there = self.folders.drop_bench(label);
         counted(&mut self.faults, was_there)
     }
 
     fn adopt(&mut self, bench: &mut FolderBench<C>, file: &Name, to: &Name) -> Result<(), Failed> {
         self.last_read = None;
+        if self.found.is_barred {
+            return self.refuse();
+        }
         let done = bench.give(&mut self.folders, file, to);
         counted(&mut self.faults, done)
     }

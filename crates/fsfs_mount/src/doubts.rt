@@ -2,9 +2,8 @@
 ghost use Rattle.std.specs.Prelude.{◌≡◌};
 ghost use Rattle.fsfs_folders.specs.Standing.{told};
 
-use fsfs_base::Name;
-use fsfs_folders::{CallError, Calls, Path};
-use fsfs_folders::Folders;
+use fsfs_base::{Name, RevNum};
+use fsfs_folders::{CallError, Calls, Folders, Modes, Path};
 use fsfs_layout::{
     Format, Layout, OnlyFile, RepositoryFile, read_current, read_format, read_min_unpacked_rev,
 };
@@ -47,12 +46,43 @@ fn read_layout<C: Calls + Drop>(
     }
 }
 
-// The folders of the files of the youngest revision, as far as the small files tell it.
-fn youngest_folders<C: Calls + Drop>(
+// The names on which the youngest revision stands.
+#[derive(Drop)]
+struct Youngest {
+    folder: Name,
+    file: Name,
+    props_folder: Name,
+}
+
+impl Youngest {
+    // Of this revision, whose own file is packed or not.
+    fn of(layout: Layout, revision: RevNum, is_packed: bool) -> Youngest {
+        let shard = layout.shard_of(revision);
+        let (folder, file) = if is_packed {
+            (
+                RepositoryFile::PackFolder(shard),
+                RepositoryFile::Pack(shard),
+            )
+        } else {
+            (
+                RepositoryFile::Shard(shard),
+                RepositoryFile::Revision(revision),
+            )
+        };
+        Youngest {
+            folder: folder.name(layout),
+            file: file.name(layout),
+            props_folder: RepositoryFile::PropsShard(shard).name(layout),
+        }
+    }
+}
+
+// The youngest revision's names, as far as the small files tell them.
+fn youngest_in<C: Calls + Drop>(
     alloc: Global,
     folders: &mut Folders<C>,
     layout: Layout,
-) -> Result<Option<[Name; 2]>, CallError>
+) -> Result<Option<Youngest>, CallError>
     ensures { told (C.history folders.new.calls) ≡ told (C.history folders.old.calls) }
 {
     let floor = read_small(alloc, folders, OnlyFile::MinUnpackedRev)?;
@@ -63,14 +93,8 @@ fn youngest_folders<C: Calls + Drop>(
     let Ok(youngest) = read_current(&current) else {
         return Ok(None);
     };
-    let shard = layout.shard_of(youngest);
-    let revisions = if youngest.get() < floor.get() {
-        RepositoryFile::PackFolder(shard)
-    } else {
-        RepositoryFile::Shard(shard)
-    };
-    let props = RepositoryFile::PropsShard(shard);
-    Ok(Some([revisions.name(layout), props.name(layout)]))
+    let is_packed = youngest.get() < floor.get();
+    Ok(Some(Youngest::of(layout, youngest, is_packed)))
 }
 
 // Notes these folders.
@@ -83,22 +107,58 @@ fn doubt_all<C: Calls + Drop>(folders: &mut Folders<C>, names: &[Name]) -> Resul
     Ok(())
 }
 
-/// Notes the folders whose names may not be firm: the one that holds the repository's, its own, and, where there is a repository,
-/// those of its small files and of its youngest revision. So the first `firm_names` makes firm whatever the repository stands on.
+// What new files and folders are to have: what the youngest revision's file has, and the folders of shards.
+fn learn_modes<C: Calls + Drop>(
+    folders: &mut Folders<C>,
+    youngest: &Youngest,
+) -> Result<(), CallError>
+    ensures { told (C.history folders.new.calls) ≡ told (C.history folders.old.calls) }
+{
+    let revision = folders.mode(&youngest.file)?;
+    let shard = folders.mode(&OnlyFile::Revisions.name())?;
+    let props_shard = folders.mode(&OnlyFile::RevisionProps.name())?;
+    folders.set_modes(Modes {
+        revision,
+        shard,
+        props_shard,
+    });
+    Ok(())
+}
+
+// Makes the names in a folder firm, where this user may open it: else others keep it, as of a folder above that can only be entered.
+fn firm_outside<C: Calls + Drop>(folders: &mut Folders<C>, name: &Name) -> Result<(), CallError>
+    ensures { told (C.history folders.new.calls) ≡ told (C.history folders.old.calls) }
+{
+    match folders.firm_folder(Path::of(name)) {
+        Err(CallError::Denied) => Ok(()),
+        done => done,
+    }
+}
+
+/// Makes firm the name of a repository's folder and the names in it, as far as this user may, and notes the folders of its small files
+/// and of its youngest revision, whose names may not be firm. So the first `firm_names` makes firm whatever the repository stands on.
+/// And learns what new files and folders are to have.
 pub fn doubt_names<C: Calls + Drop>(
     alloc: Global,
     folders: &mut Folders<C>,
 ) -> Result<(), CallError>
     ensures { told (C.history folders.new.calls) ≡ told (C.history folders.old.calls) }
 {
-    doubt_all(folders, &[Name::new(".."), Name::new("")])?;
+    firm_outside(folders, &Name::new(".."))?;
+    firm_outside(folders, &Name::new(""))?;
+    let (revs, props) = (OnlyFile::Revisions.name(), OnlyFile::RevisionProps.name());
     let Some(layout) = read_layout(alloc, folders)? else {
         return Ok(());
     };
-    let (revs, props) = (OnlyFile::Revisions.name(), OnlyFile::RevisionProps.name());
     doubt_all(folders, &[Name::new("db"), revs, props])?;
-    match youngest_folders(alloc, folders, layout)? {
-        Some(names) => doubt_all(folders, &names),
+    match youngest_in(alloc, folders, layout)? {
+        Some(youngest) => {
+            doubt_all(
+                folders,
+                &[youngest.folder.copy(), youngest.props_folder.copy()],
+            )?;
+            learn_modes(folders, &youngest)
+        }
         None => Ok(()),
     }
 }

@@ -5,7 +5,7 @@ ghost use Rattle.std.specs.BTreeMap.{get_by_text};
 use crate::disk::FolderDisk;
 use crate::file_system::FileSystem;
 use crate::mounting::{give_back, open_disk};
-use fsfs_disk::{Host, MountFault};
+use fsfs_disk::{Access, Host, MountFault};
 use fsfs_folders::{Folders, counted};
 use std::alloc::Global;
 use std::collections::BTreeMap;
@@ -15,7 +15,7 @@ use std::collections::BTreeMap;
 /// What stands at a path is kept from one mount to the next, with what isn't firm there. Only the locks go as a disk is given back.
 ///
 /// A path that is mounted can't be mounted again, nor can one without a letter. A path where nothing is can be mounted: no file is
-/// found there. To write there its folder and `db` are made, and where no repository comes to stand they go again as the disk is
+/// found there. For a creation its folder and `db` are made, and where no repository comes to stand they go again as the disk is
 /// given back.
 #[derive(Drop)]
 pub struct FolderHost<F: FileSystem + Drop> {
@@ -65,8 +65,8 @@ impl<F: FileSystem + Drop> Host for FolderHost<F> {
 
     ghost bench_faults = { λ host. host.bench_faults };
 
-    fn mount(&mut self, path: &str, writes: bool) -> Result<FolderDisk<F::Root>, MountFault> {
-        let opened = open_disk(self.alloc, &mut self.files, &mut self.places, path, writes);
+    fn mount(&mut self, path: &str, access: Access) -> Result<FolderDisk<F::Root>, MountFault> {
+        let opened = open_disk(self.alloc, &mut self.files, &mut self.places, path, access);
         match counted(&mut self.mount_faults, opened) {
             Ok(disk) => Ok(disk),
             Err(_) => Err(MountFault),

@@ -5,8 +5,7 @@ ghost use Rattle.fsfs_folders.specs.Standing.{told};
 ghost use Rattle.fsfs_folders.specs.OpenFiles.{is_still};
 
 use fsfs_base::Name;
-use fsfs_folders::{CallError, Calls};
-use fsfs_folders::{Folders, Opened};
+use fsfs_folders::{CallError, Calls, Folders, Opened};
 
 // Whether the file that is open was opened by this name.
 fn is_of<C: Calls + Drop>(last_read: &Option<Opened<C>>, name: &Name) -> bool

@@ -1,5 +1,6 @@
 // What a mount makes ready, and what it takes away again.
-ghost use Rattle.std.specs.Prelude.{◌≡◌, ◌≢◌, ℕ, List, Some, None, IfOk, OnOk, OnErr, string_bytes};
+ghost use Rattle.std.specs.Prelude.{◌≡◌, ◌≢◌, ℕ, List, Some, None, IfOk, IsTrue, OnOk, OnErr, string_bytes};
+ghost use Rattle.fsfs_disk.specs.Accesses.{MayChange};
 ghost use Rattle.std.specs.BTreeMap.{get_by_text};
 ghost use Rattle.fsfs_folders.specs.Standing.{told};
 ghost use Rattle.fsfs_mount.specs.Places.{told_at};
@@ -8,35 +9,55 @@ use crate::disk::FolderDisk;
 use crate::doubts::doubt_names;
 use crate::file_system::FileSystem;
 use crate::found::Found;
-use crate::ground::{absent_folders, is_there, refuse_below_repository};
+use crate::ground::{
+    MARK, absent_folders, holds_only_mark, is_there, refuse_below_repository, refuse_other_disks,
+};
 use crate::places::{add, put_back, take};
 use fsfs_base::Name;
-use fsfs_folders::{CallError, Calls, Path};
-use fsfs_folders::Folders;
+use fsfs_disk::Access;
+use fsfs_folders::{CallError, Calls, Folders, Path};
 use fsfs_layout::OnlyFile;
 use std::alloc::Global;
 use std::collections::BTreeMap;
 
-// A lock that Subversion's own writers take, where its file is there.
-fn lock_file<C: Calls + Drop>(folders: &mut Folders<C>, file: OnlyFile) -> Result<(), CallError>
-    ensures { told (C.history folders.new.calls) ≡ told (C.history folders.old.calls) }
+// What a writer does to a repository that is there: takes the locks that Subversion's own writers take, their commits the one and their
+// transactions the other as they begin, and learns what it has to know of its folders. A lock's file that isn't there is made, as they
+// make it, with the mode of `db/current`, since whoever writes the one takes the other.
+fn make_writable<F: FileSystem>(
+    alloc: Global,
+    files: &F,
+    folders: &mut Folders<F::Root>,
+    path: &str,
+) -> Result<(), CallError>
+    ensures { told (F.Root.history folders.new.calls) ≡ told (F.Root.history folders.old.calls) }
 {
-    match folders.lock(&Path::of(&file.name())) {
-        Err(CallError::NotFound) => Ok(()),
-        taken => taken,
+    let mode = folders.mode(&OnlyFile::Current.name())?;
+    folders.lock_file(&OnlyFile::WriteLock.name(), mode)?;
+    folders.lock_file(&OnlyFile::TxnCurrentLock.name(), mode)?;
+    refuse_other_disks(files, alloc, path)?;
+    // A creation may have been cut off as it took its mark away, the last that it does.
+    let _ = folders.unmark(&Name::new(MARK));
+    doubt_names(alloc, folders)
+}
+
+// Makes a repository that is there ready to be changed. Where there is none nothing is made, and nothing may be changed.
+fn prepare_to_write<F: FileSystem>(
+    alloc: Global,
+    files: &F,
+    folders: &mut Folders<F::Root>,
+    path: &str,
+) -> Result<Found, CallError>
+    ensures { told (F.Root.history folders.new.calls) ≡ told (F.Root.history folders.old.calls) }
+{
+    if folders.size(&OnlyFile::Format.name())?.is_none() {
+        return Ok(Found::barred(alloc));
     }
+    make_writable(alloc, files, folders, path)?;
+    Ok(Found::nothing(alloc))
 }
 
-// Their commits take the one, and their transactions the other, as they begin.
-fn lock_files<C: Calls + Drop>(folders: &mut Folders<C>) -> Result<(), CallError>
-    ensures { told (C.history folders.new.calls) ≡ told (C.history folders.old.calls) }
-{
-    lock_file(folders, OnlyFile::WriteLock)?;
-    lock_file(folders, OnlyFile::TxnCurrentLock)
-}
-
-// Where there is no repository yet, refuses a folder with anything but what a creation leaves that was cut off, and makes `db`. The
-// folders of a creation that aren't there.
+// Makes a folder ready for a creation, while its lock is held: refuses one with anything but what a creation leaves that was cut off,
+// makes `db`, and marks that a creation has begun. The folders of a creation that weren't there.
 fn make_room<F: FileSystem>(
     alloc: Global,
     files: &F,
@@ -45,27 +66,11 @@ fn make_room<F: FileSystem>(
 ) -> Result<Vec<Name>, CallError>
     ensures { told (F.Root.history folders.new.calls) ≡ told (F.Root.history folders.old.calls) }
 {
-    if folders.size(&OnlyFile::Format.name())?.is_some() {
-        return Ok(Vec::new(alloc));
-    }
+    refuse_below_repository(files, alloc, path)?;
     let absent = absent_folders(files, alloc, path)?;
     folders.make_folder(&Name::new("db"))?;
-    Ok(absent)
-}
-
-// Makes a folder ready to be written, while its lock is held. The folders of a creation that aren't there.
-fn make_ready<F: FileSystem>(
-    alloc: Global,
-    files: &F,
-    folders: &mut Folders<F::Root>,
-    path: &str,
-) -> Result<Vec<Name>, CallError>
-    ensures { told (F.Root.history folders.new.calls) ≡ told (F.Root.history folders.old.calls) }
-{
-    refuse_below_repository(files, alloc, path)?;
-    let absent = make_room(alloc, files, folders, path)?;
-    lock_files(folders)?;
-    doubt_names(alloc, folders)?;
+    folders.mark(&Name::new(MARK))?;
+    folders.doubt(Path::new(".."))?;
     Ok(absent)
 }
 
@@ -88,9 +93,8 @@ fn drop_new<F: FileSystem>(files: &mut F, path: &str, is_new: bool)
     }
 }
 
-// Takes the lock of the folder, which is made where it isn't there, and makes it ready. Where it can't be made there is nothing to
-// lock, and every change fails.
-fn prepare<F: FileSystem>(
+// Takes the lock of the folder, which is made where it isn't there, and makes room in it, where there is no repository yet.
+fn prepare_new<F: FileSystem>(
     alloc: Global,
     files: &mut F,
     folders: &mut Folders<F::Root>,
@@ -101,11 +105,14 @@ fn prepare<F: FileSystem>(
 {
     let is_new = !is_there(files, alloc, path, "");
     if make_new(folders, is_new).is_err() {
-        return Ok(Found::nothing(alloc));
+        return Ok(Found::barred(alloc));
     }
-    folders.lock(&Path::new(""))?;
-    match make_ready(alloc, files, folders, path) {
-        Ok(absent) => Ok(Found { is_new, absent }),
+    folders.lock_folder(&Path::new(""))?;
+    if folders.size(&OnlyFile::Format.name())?.is_some() {
+        return Ok(Found::barred(alloc));
+    }
+    match make_room(alloc, files, folders, path) {
+        Ok(absent) => Ok(Found::room(is_new, absent)),
         Err(error) => {
             drop_new(files, path, is_new);
             Err(error)
@@ -113,21 +120,38 @@ fn prepare<F: FileSystem>(
     }
 }
 
-// The same, if there is something to be written.
-fn prepare_if<F: FileSystem>(
+// Makes ready a folder in which a repository is to be made. One that is there stays as it is: the creation refuses it.
+fn prepare_to_create<F: FileSystem>(
     alloc: Global,
     files: &mut F,
     folders: &mut Folders<F::Root>,
     path: &str,
-    writes: bool,
 ) -> Result<Found, CallError>
     ensures told { told (F.Root.history folders.new.calls) ≡ told (F.Root.history folders.old.calls) }
     ensures same { (p : List ℕ) → F.record_at files.new p ≡ F.record_at files.old p }
 {
-    if !writes {
-        return Ok(Found::nothing(alloc));
+    if folders.size(&OnlyFile::Format.name())?.is_some() {
+        return Ok(Found::barred(alloc));
     }
-    prepare(alloc, files, folders, path)
+    prepare_new(alloc, files, folders, path)
+}
+
+// Makes ready what stands at a path, for what it is mounted for.
+fn prepare<F: FileSystem>(
+    alloc: Global,
+    files: &mut F,
+    folders: &mut Folders<F::Root>,
+    path: &str,
+    access: Access,
+) -> Result<Found, CallError>
+    ensures told { told (F.Root.history folders.new.calls) ≡ told (F.Root.history folders.old.calls) }
+    ensures same { (p : List ℕ) → F.record_at files.new p ≡ F.record_at files.old p }
+{
+    match access {
+        Access::Read => Ok(Found::nothing(alloc)),
+        Access::Write => prepare_to_write(alloc, files, folders, path),
+        Access::Create => prepare_to_create(alloc, files, folders, path),
+    }
 }
 
 // Makes the place of a path, where there is none.
@@ -166,20 +190,20 @@ fn take_out<F: FileSystem>(
     }
 }
 
-/// The disk of a path that isn't mounted, made ready if it is to be written.
+/// The disk of a path that isn't mounted, made ready for what it is mounted for.
 pub fn open_disk<F: FileSystem>(
     alloc: Global,
     files: &mut F,
     places: &mut BTreeMap<String, Option<Folders<F::Root>>>,
     path: &str,
-    writes: bool,
+    access: Access,
 ) -> Result<FolderDisk<F::Root>, CallError>
     ensures told { IfOk result (λ disk. told (F.Root.history disk.folders.calls) ≡ told_at (λ folders. F.Root.history folders.calls) (get_by_text places.old path.now) (F.record_at files.old path.now)) }
     ensures out { OnOk result (get_by_text places.new path.now ≡ Some None) }
     ensures others { (p : List ℕ) → p ≢ path.now → told_at (λ folders. F.Root.history folders.calls) (get_by_text places.new p) (F.record_at files.new p) ≡ told_at (λ folders. F.Root.history folders.calls) (get_by_text places.old p) (F.record_at files.old p) }
     ensures err { OnErr result (told_at (λ folders. F.Root.history folders.calls) (get_by_text places.new path.now) (F.record_at files.new path.now) ≡ told_at (λ folders. F.Root.history folders.calls) (get_by_text places.old path.now) (F.record_at files.old path.now)) }
     ensures path { IfOk result (λ disk. string_bytes disk.path ≡ path.now) }
-    ensures writes { IfOk result (λ disk. disk.writes ≡ writes) }
+    ensures writes { IfOk result (λ disk. MayChange access → IsTrue disk.writes) }
     ensures faults { IfOk result (λ disk. disk.faults ≡ 0) }
     ensures benches { IfOk result (λ disk. disk.bench_faults ≡ 0) }
 {
@@ -188,8 +212,11 @@ pub fn open_disk<F: FileSystem>(
     }
     let owned = String::from_str(alloc, path)?;
     let mut folders = take_out(alloc, files, places, path)?;
-    match prepare_if(alloc, files, &mut folders, path, writes) {
-        Ok(found) => Ok(FolderDisk::over(alloc, folders, found, owned, writes)),
+    match prepare(alloc, files, &mut folders, path, access) {
+        Ok(found) => {
+            let writes = access.may_change();
+            Ok(FolderDisk::over(alloc, folders, found, owned, writes))
+        }
         Err(error) => {
             folders.unlock();
             put_back(places, path, folders);
@@ -215,7 +242,22 @@ fn drop_all<F: FileSystem>(
     }
 }
 
-// Where no repository came to stand, what was made for one goes again, as far as it is empty.
+// The creation is over: its mark goes, where a repository came to stand or nothing is left of it.
+fn take_mark_away<F: FileSystem>(
+    alloc: Global,
+    files: &F,
+    folders: &mut Folders<F::Root>,
+    path: &str,
+    is_made: bool,
+)
+    ensures { told (F.Root.history folders.new.calls) ≡ told (F.Root.history folders.old.calls) }
+{
+    if is_made || holds_only_mark(files, alloc, path) {
+        let _ = folders.unmark(&Name::new(MARK));
+    }
+}
+
+// Behind a creation its mark goes; and where no repository came to stand, what was made for one, as far as it is empty.
 fn take_away<F: FileSystem>(
     alloc: Global,
     files: &mut F,
@@ -226,12 +268,18 @@ fn take_away<F: FileSystem>(
     ensures told { told (F.Root.history folders.new.calls) ≡ told (F.Root.history folders.old.calls) }
     ensures same { (p : List ℕ) → F.record_at files.new p ≡ F.record_at files.old p }
 {
-    if found.absent.is_empty() && !found.is_new {
+    if !found.is_marked {
         return;
     }
-    if let Ok(None) = folders.size(&OnlyFile::Format.name()) {
-        drop_all(alloc, files, folders, path, found.absent.as_slice());
-        drop_new(files, path, found.is_new);
+    match folders.size(&OnlyFile::Format.name()) {
+        Ok(None) => {
+            drop_all(alloc, files, folders, path, found.inner());
+            take_mark_away(alloc, files, folders, path, false);
+            drop_all(alloc, files, folders, path, found.outer());
+            drop_new(files, path, found.is_new);
+        }
+        Ok(Some(_)) => take_mark_away(alloc, files, folders, path, true),
+        Err(_) => {}
     }
 }
 
