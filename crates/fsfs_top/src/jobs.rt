@@ -8,11 +8,10 @@ ghost use Rattle.fsfs_job_run.specs.Runs.{run_scene};
 ghost use Rattle.fsfs_top.specs.Scenes.{scene, source_scene};
 ghost use Rattle.fsfs_top.specs.Scripts.{DidJobs, HasHistory, RunsAt, RunsBy};
 
-use fsfs_cli::{Task, Tool, read_words};
-use fsfs_disk::{Disk, Host};
-use fsfs_cli::{Fault, OutsideFault};
-use fsfs_job_run::run_script;
 use fsfs_base::{Clock, Gate, Sink, Source};
+use fsfs_cli::{Fault, OutsideFault, Task, Tool, read_words};
+use fsfs_disk::{Access, Disk, Host};
+use fsfs_job_run::run_script;
 use fsfs_workers::run_script_by_two;
 use std::alloc::Global;
 use std::sync::Wait;
@@ -68,7 +67,7 @@ where
     ensures ran { RunsAt repos.now workers known (C.next clock.old) (scene H.Host O.Sink host.old out.old) (source_scene I.Source input.old) (scene H.Host O.Sink host.new out.new) (source_scene I.Source input.new) result }
     ensures others { (path : List ℕ) → path ≢ repos.now → H.disk_at host.new path ≡ H.disk_at host.old path }
 {
-    let disk = match host.mount(repos, true) {
+    let disk = match host.mount(repos, Access::Write) {
         Ok(disk) => disk,
         Err(_) => return Err(Fault::Outside(OutsideFault::Mount)),
     };

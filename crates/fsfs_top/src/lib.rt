@@ -7,7 +7,6 @@ mod output;
 mod top;
 mod txns;
 
-pub use fsfs_cli::Tool;
-pub use fsfs_cli::Fault;
+pub use fsfs_cli::{Fault, Tool};
 pub use output::{print_revision, print_uuid};
 pub use top::command;

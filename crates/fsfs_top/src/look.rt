@@ -15,22 +15,16 @@ ghost use Rattle.fsfs_top.specs.Looks.{AllBytes, KnowsAll, TextOf, LacksRevision
 ghost use Rattle.fsfs_top.specs.Scenes.{scene, sink_scene};
 
 use crate::output::{line_fault, print_revision, print_uuid};
-use fsfs_base::FsPath;
-use fsfs_revision::Book;
-use fsfs_history::changed_text;
-use fsfs_cli::{Look, Printed, RevisionLook};
-use fsfs_disk::{Disk, Host};
-use fsfs_cli::{Fault, OutsideFault, RequestFault};
-use fsfs_fetch::{disk_of, over_disk};
-use fsfs_base::RevNum;
-use fsfs_history::history_text;
-use fsfs_layout::Opened;
-use fsfs_look::{LookError, cat, tree_text};
-use fsfs_base::DiskPlace;
-use fsfs_stands::LookFault;
-use fsfs_look::{author, date, info, log};
+use fsfs_base::{DiskPlace, FsPath, RevNum, Sink};
+use fsfs_cli::{Fault, Look, OutsideFault, Printed, RequestFault, RevisionLook};
 use fsfs_create::open;
-use fsfs_base::Sink;
+use fsfs_disk::{Access, Disk, Host};
+use fsfs_fetch::{disk_of, over_disk};
+use fsfs_history::{changed_text, history_text};
+use fsfs_layout::Opened;
+use fsfs_look::{LookError, author, cat, date, info, log, tree_text};
+use fsfs_revision::Book;
+use fsfs_stands::LookFault;
 use std::alloc::Global;
 
 // The revision of this number, if there is one.
@@ -177,7 +171,7 @@ pub(crate) fn look_at<H: Host, O: Sink>(
     ensures ended { FailsAt FirmNames (H.disk_at host.old repos.now) (H.disk_at host.new repos.now) }
     ensures others { (path : List ℕ) → path ≢ repos.now → H.disk_at host.new path ≡ H.disk_at host.old path }
 {
-    let mut disk = match host.mount(repos, false) {
+    let mut disk = match host.mount(repos, Access::Read) {
         Ok(disk) => disk,
         Err(_) => return Err(Fault::Outside(OutsideFault::Mount)),
     };

@@ -8,11 +8,9 @@ ghost use Rattle.fsfs_top.specs.TxnAnswers.{names_text};
 ghost use Rattle.fsfs_disk.specs.Txns.{text_of};
 
 use arrayvec::ArrayString;
-use fsfs_base::Failed;
+use fsfs_base::{Failed, RevNum, Sink, TxnName, print};
 use fsfs_cli::{Fault, OutsideFault, txn_text};
-use fsfs_base::{RevNum, TxnName};
 use fsfs_layout::Uuid;
-use fsfs_base::{Sink, print};
 use itoa::Buffer;
 
 /// Writes a revision's number and the end of the line.

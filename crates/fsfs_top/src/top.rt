@@ -18,12 +18,11 @@ ghost use Rattle.fsfs_cli.specs.declared.faults_fault.Fault.{Fault};
 use crate::jobs::run_jobs;
 use crate::look::look_at;
 use crate::txns::{list_at, remove_at};
-use fsfs_cli::{Task, Tool, read_words};
-use fsfs_create::create;
-use fsfs_disk::{Disk, Host};
-use fsfs_cli::{Fault, OutsideFault, print_fault, status};
-use fsfs_layout::Layout;
 use fsfs_base::{Clock, Dice, Gate, Sink, Source};
+use fsfs_cli::{Fault, OutsideFault, Task, Tool, print_fault, read_words, status};
+use fsfs_create::create;
+use fsfs_disk::{Access, Disk, Host};
+use fsfs_layout::Layout;
 use std::alloc::Global;
 use std::sync::Wait;
 use std::thread::Threads;
@@ -46,7 +45,7 @@ fn create_at<H: Host, C: Clock, R: Dice>(
     ensures firm { OnOk result (IsFirm (H.disk_at host.new repos.now)) }
     ensures others { (path : List ℕ) → path ≢ repos.now → H.disk_at host.new path ≡ H.disk_at host.old path }
 {
-    let mut disk = match host.mount(repos, true) {
+    let mut disk = match host.mount(repos, Access::Create) {
         Ok(disk) => disk,
         Err(_) => return Err(Fault::Outside(OutsideFault::Mount)),
     };

@@ -9,13 +9,10 @@ ghost use Rattle.fsfs_top.specs.Scenes.{host_scene, scene, sink_scene};
 ghost use Rattle.fsfs_top.specs.Transactions.{Lists, ListsOpened, ListsTxns, OpeningIsDecided, RemovesOpened, RemovesTxns, removal_fault};
 
 use crate::output::{line_fault, print_txns};
-use fsfs_cli::TxnNames;
-use fsfs_disk::{Disk, Host, ListFault};
-use fsfs_cli::{Fault, OutsideFault, RequestFault};
-use fsfs_base::DiskPlace;
+use fsfs_base::{DiskPlace, Sink};
+use fsfs_cli::{Fault, OutsideFault, RequestFault, TxnNames};
 use fsfs_create::open;
-use fsfs_base::Sink;
-use fsfs_disk::{RemovalFault, rmtxns, txns};
+use fsfs_disk::{Access, Disk, Host, ListFault, RemovalFault, rmtxns, txns};
 use std::alloc::Global;
 
 // Prints the names of an opened repository's transactions.
@@ -59,7 +56,7 @@ pub(crate) fn list_at<H: Host, O: Sink>(
     ensures ended { FailsAt FirmNames (H.disk_at host.old repos.now) (H.disk_at host.new repos.now) }
     ensures others { (path : List ℕ) → path ≢ repos.now → H.disk_at host.new path ≡ H.disk_at host.old path }
 {
-    let mut disk = match host.mount(repos, false) {
+    let mut disk = match host.mount(repos, Access::Read) {
         Ok(disk) => disk,
         Err(_) => return Err(Fault::Outside(OutsideFault::Mount)),
     };
@@ -110,7 +107,7 @@ pub(crate) fn remove_at<H: Host>(
     ensures labels { LeavesBoth (H.disk_at host.old repos.now) (H.disk_at host.new repos.now) (λ m ls. AreAll (WasKept (H.disk_at host.old repos.now)) ls) }
     ensures others { (path : List ℕ) → path ≢ repos.now → H.disk_at host.new path ≡ H.disk_at host.old path }
 {
-    let mut disk = match host.mount(repos, true) {
+    let mut disk = match host.mount(repos, Access::Write) {
         Ok(disk) => disk,
         Err(_) => return Err(Fault::Outside(OutsideFault::Mount)),
     };

@@ -9,7 +9,7 @@ use Rattle.fsfs_top.proofs.WorkersTold.{by_host, run_by_host}
 use Rattle.fsfs_top.proofs.jobs.run_at.Goals as goal
 
 pub run_on-disk-requires-clause-right : goal.run_on-disk-requires-clause-right
-run_on-disk-requires-clause-right g c = λ κs within. c.in-Ok.ensures.right refl
+run_on-disk-requires-clause-right g c = λ κs within. c.in-Ok.ensures.right tt
 
 pub run_on-disk-requires-clause-knows : goal.run_on-disk-requires-clause-knows
 run_on-disk-requires-clause-knows g c = λ κs within known. subst HasHistory (sym c.in-Ok.ensures.disk) (c.requires.knows known)

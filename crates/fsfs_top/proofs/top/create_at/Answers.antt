@@ -64,4 +64,4 @@ pub sharded-layout-requires-clause-most : goal.sharded-layout-requires-clause-mo
 sharded-layout-requires-clause-most g c = omega (arith, c.requires.1)
 
 pub create-made-requires-clause-right : goal.create-made-requires-clause-right
-create-made-requires-clause-right g c = c.in-Ok.ensures.right refl
+create-made-requires-clause-right g c = c.in-Ok.ensures.right tt

@@ -9,7 +9,7 @@ use Rattle.fsfs_top.proofs.TxnsTold.{removes_told, removal_unmounted}
 use Rattle.fsfs_top.proofs.txns.remove_at.Goals as goal
 
 pub remove_opened-removed-requires : goal.remove_opened-removed-requires
-remove_opened-removed-requires g c = c.in-Ok.ensures.right refl
+remove_opened-removed-requires g c = c.in-Ok.ensures.right tt
 
 pub returns-clause-removed : goal.returns-clause-removed
 returns-clause-removed g c =
