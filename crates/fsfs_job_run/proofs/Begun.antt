@@ -16,7 +16,7 @@ use Rattle.fsfs_turn.specs.Views.{View}
 use Rattle.fsfs_cli.specs.FaultsFaults.{fault_from_wrong}
 use Rattle.fsfs_cli.specs.declared.faults_fault.Fault.{Fault}
 use Rattle.fsfs_begin.specs.Steps.{Moved}
-use Rattle.fsfs_begin.specs.Faults.{Cause, IfDisk}
+use Rattle.fsfs_begin.specs.Faults.{Cause, IfDisk, LacksNumber}
 use Rattle.fsfs_begin.specs.declared.turn_begin_begin_fault.BeginFault.{BeginFault}
 use Rattle.fsfs_begin.specs.declared.turn_begin_begin_fault.BeginFault.TheVariants as begin
 use Rattle.fsfs_repo.specs.Begun.{BeginsTxn}
@@ -110,6 +110,43 @@ unbegun_so knows rose moment base job why v u known all after told there moved w
       leaves = bare_leaves (Stopped job.line (fault_of_begin why)) v u tt (unbegun_stays v u moved all after) (λ calm. moved.doubtless);
     },
     begin_outside base job.line job v u told there moved whole rose why cause disk,
+  ),
+  begin_counted job job.line why (StopsOver v.seen),
+)
+
+-- or the machine has no reading of the number that stood in `db/txn-current`
+module _ (line : ℕ) (job : CommitJob) where
+  pub lacking_fails : (why : BeginFault) → LacksNumber why → Fails (jobs.Commit job) (Stopped line (fault_of_begin why))
+  lacking_fails (begin.NoRev asked youngest) lacks = absurd lacks
+  lacking_fails (begin.Stuck at) lacks = absurd lacks
+  lacking_fails (begin.Small fault) lacks = absurd lacks
+  lacking_fails begin.NamesFull lacks = ByNames job line
+  lacking_fails (begin.Wrong wrong) lacks = absurd lacks
+  lacking_fails (begin.DiskFault at) lacks = ByDisk (jobs.Commit job) line at
+  lacking_fails begin.BenchFault lacks = absurd lacks
+  lacking_fails begin.Memory lacks = absurd lacks
+
+  pub lacking_outside : (rose : Type 0) (u : View) (why : BeginFault) → LacksNumber why → IfDisk why rose → HasOutsideCause rose u (Stopped line (fault_of_begin why))
+  lacking_outside rose u (begin.NoRev asked youngest) lacks disk = tt
+  lacking_outside rose u (begin.Stuck at) lacks disk = absurd lacks
+  lacking_outside rose u (begin.Small fault) lacks disk = tt
+  lacking_outside rose u begin.NamesFull lacks disk = tt
+  lacking_outside rose u (begin.Wrong wrong) lacks disk = absurd lacks
+  lacking_outside rose u (begin.DiskFault at) lacks disk = disk
+  lacking_outside rose u begin.BenchFault lacks disk = tt
+  lacking_outside rose u begin.Memory lacks disk = tt
+
+-- so the job failed as well
+pub lacking_so : (knows : View → Type 0) (rose : Type 0) (moment : ℕ) (job : CommitJob) (why : BeginFault) (v u : View) → knows u → IsCounted v → IsCounted u → Moved v u → LacksNumber why → IfDisk why rose → CommitsSo knows rose moment job (Stopped job.line (fault_of_begin why)) v
+lacking_so knows rose moment job why v u known all after moved lacks disk = (
+  (
+    u,
+    known,
+    record {
+      done = inr (lacking_fails job.line job why lacks);
+      leaves = bare_leaves (Stopped job.line (fault_of_begin why)) v u tt (unbegun_stays v u moved all after) (λ calm. moved.doubtless);
+    },
+    lacking_outside job.line job rose u why lacks disk,
   ),
   begin_counted job job.line why (StopsOver v.seen),
 )

@@ -24,7 +24,6 @@ use Rattle.fsfs_machine.specs.Machine.{recorded, revisions}
 use Rattle.fsfs_tree.specs.Revisions.{Revision}
 use Rattle.fsfs_turn.specs.Views.{View}
 use Rattle.fsfs_turn.specs.Alone.{are_harmless, KnowsAlone}
-use Rattle.fsfs_turn.specs.Telling.{OwnedState}
 use Rattle.fsfs_turn.specs.Past.{IsPart}
 use Rattle.fsfs_turn.specs.Whole.{NamesFrom}
 use Rattle.fsfs_repo.specs.Crashes.{CrashesLeave}
@@ -33,10 +32,10 @@ use Rattle.fsfs_jobs.specs.declared.answer.JobAnswer.{JobAnswer}
 use Rattle.fsfs_job_run.specs.Jobs.{DoesJob, Fails, ByDisk, ByBench, ByStuck, ByMemory, ByNames, ByCounts, AddsBy, RunsJob, RunJobs, End, More, StuckBehindDoubt, bench_faults_in}
 use Rattle.fsfs_job_run.proofs.SerialJobLemmas.{runs_serial, grow}
 use Rattle.fsfs_job_run.proofs.ListedLemmas.{failed_on}
-use Rattle.fsfs_job_run.specs.Running.{DoAll, RunsPast}
+use Rattle.fsfs_job_run.specs.Running.{DoAll}
 use Rattle.fsfs_job_run.proofs.Causes.{any_on}
-use Rattle.fsfs_job_run.specs.Histories.{EndsJob, EndJobs, DidScript, StopsShort}
-use Rattle.fsfs_job_run.specs.Runs.{AllStandFor, HoldsAll, IsPartOf, Ran, RanIn, RanOver, RunScene, RunsScript, NotOpened, NotRead, NoRoom, Done}
+use Rattle.fsfs_job_run.specs.Histories.{EndsJob, EndJobs, DidScript}
+use Rattle.fsfs_job_run.specs.Runs.{AllStandFor, HoldsAll, IsPartOf, Ran, RanOver, RunScene, RunsScript, NotOpened, NotRead, NoRoom, Done}
 
 stays : (job : Job) (answer : JobAnswer) (h now : List Recorded) → Fails job answer → AddsBy answer h now → now ≡ h
 stays _ _ h now (ByDisk job line at) same = same
@@ -112,19 +111,6 @@ ran moment js answers youngest v u layout told opened few none stuck runs last l
       certain = λ calm. stands_all layout told u none (grown.doubtless calm few) leaves;
     }
 
-pub stops_short : (start : OwnedState) (moment : ℕ) (js : List Job) (answers : List JobAnswer) (v : View) → RunsPast start moment js answers v → StopsShort moment js answers (revisions v.seen)
-stops_short start moment js answers v past = record {
-  before = past.before;
-  job = past.job;
-  after = past.after;
-  jobs_are = past.jobs_are;
-  told = past.told;
-  more = past.more;
-  answers_are = past.answers_are;
-  between = revisions past.known.seen;
-  did = did_script moment past.before past.told v past.known past.runs;
-}
-
 -- ---- what a run that was not begun left
 
 pub firm_fails : (change : NameChange) (old new : Option Trace) → Performs change old new → FailsAt change old new
@@ -132,12 +118,11 @@ firm_fails change old new done = inr (inr done)
 
 -- ---- what a lone pass knows behind jobs
 
-pub ran_in : (layout : Layout) (young : ℕ) (stuck : Option DiskPlace) (told new : Option Trace) (moment : ℕ) (js : List Job) (answers : List JobAnswer) (youngest : ℕ) (v : View) (start : OwnedState) → new ≡ told → v.opened ≡ length v.seen → are_harmless v.pass.faults ≡ true
+pub ran_in : (layout : Layout) (young : ℕ) (stuck : Option DiskPlace) (told new : Option Trace) (moment : ℕ) (js : List Job) (answers : List JobAnswer) (youngest : ℕ) (v : View) → new ≡ told → v.opened ≡ length v.seen → are_harmless v.pass.faults ≡ true
     → ((u : View) → KnowsAlone layout young stuck told u → length u.seen ≡ youngest + 1) → ((u : View) → KnowsAlone layout young stuck told u → CrashesLeave layout told u)
-    → DoAll (KnowsAlone layout young stuck told) moment js answers v ⊎ RunsPast start moment js answers v → RanIn moment v.since js answers youngest (revisions v.seen) new
-ran_in layout young stuck told new moment js answers youngest v start same opened few all leaves (inl (u, known, none, runs, stuck_so)) =
-    inl (subst (Ran moment v.since js answers youngest (revisions v.seen)) (sym same) (ran moment js answers youngest v u layout told opened few none (stuck_so few) runs (all u known) (leaves u known)))
-ran_in layout young stuck told new moment js answers youngest v start same opened few all leaves (inr past) = inr (stops_short start moment js answers v past)
+    → DoAll (KnowsAlone layout young stuck told) moment js answers v → Ran moment v.since js answers youngest (revisions v.seen) new
+ran_in layout young stuck told new moment js answers youngest v same opened few all leaves (u, known, none, runs, stuck_so) =
+    subst (Ran moment v.since js answers youngest (revisions v.seen)) (sym same) (ran moment js answers youngest v u layout told opened few none (stuck_so few) runs (all u known) (leaves u known))
 
 -- ---- a run, told of a count that rose as well
 
@@ -170,10 +155,10 @@ not_read {D} {B} moment a b error fault is read rose firm written faults =
 
 -- over what the opening told
 pub ran_over : (knows : View → Type 0) (moment : ℕ) (js : List Job) (answers : List JobAnswer) (youngest : ℕ) (old new : Option Trace) → IfSome old (λ t. (h : List Revision) (stands : StandsFor (files_now t) h) → LeftoversAgree stands → HasSeenAll knows t stands.opened.min_unpacked_rev h)
-    → ((v : View) → knows v → v.section ≡ None → v.opened ≡ length v.seen → are_harmless v.pass.faults ≡ true → RanIn moment v.since js answers youngest (revisions v.seen) new) → RanOver moment js answers youngest old new
+    → ((v : View) → knows v → v.section ≡ None → v.opened ≡ length v.seen → are_harmless v.pass.faults ≡ true → Ran moment v.since js answers youngest (revisions v.seen) new) → RanOver moment js answers youngest old new
 ran_over knows moment js answers youngest None new opened does = tt
 ran_over knows moment js answers youngest (Some t) new opened does = λ h stands agreeing.
     let s = opened h stands agreeing in
     let v = s.0 in
     let before : v.opened ≡ length v.seen = s.6 ∙ (ap (λ (l : List Revision). length l) (sym s.4) ∙ length-map v.seen (λ (x : Recorded). x.revision)) in
-    subst (λ g. RanIn moment (length t.operations + 1) js answers youngest g new) s.4 (subst (λ n. RanIn moment n js answers youngest (revisions v.seen) new) s.5 (does v s.1 s.2 before (ap (λ p. are_harmless p.faults) s.3)))
+    subst (λ g. Ran moment (length t.operations + 1) js answers youngest g new) s.4 (subst (λ n. Ran moment n js answers youngest (revisions v.seen) new) s.5 (does v s.1 s.2 before (ap (λ p. are_harmless p.faults) s.3)))

@@ -25,15 +25,3 @@ pub record DidScript (moment : ℕ) (js : List Job) (answers : List JobAnswer) (
   pub grew : now ≡ h ++ more
   pub by : length more ≡ length (own_of_all answers)
   pub serial : NoneFails js answers → (t : ℕ) → t + length js ≤ last_name → (named : ℕ) × IsSerialAt moment h t js answers now named
-
--- of a first part of the jobs it is known that they were done so
-pub record StopsShort (moment : ℕ) (js : List Job) (answers : List JobAnswer) (h : List Revision) : Type 0 where
-  pub before : List Job
-  pub job : Job
-  pub after : List Job
-  pub jobs_are : js ≡ before ++ job ∷ after
-  pub told : List JobAnswer
-  pub more : List JobAnswer
-  pub answers_are : answers ≡ told ++ more
-  pub between : List Revision
-  pub did : DidScript moment before told h between

@@ -8,9 +8,6 @@ use Rattle.fsfs_machine.specs.Machine.{revisions}
 use Rattle.fsfs_turn.specs.Bytes.{bytes_of}
 use Rattle.fsfs_turn.specs.Alone.{BringsNoDoubt, are_harmless}
 use Rattle.fsfs_turn.specs.Views.{View}
-use Rattle.fsfs_turn.specs.Telling.{OwnedState, owned_view}
-use Rattle.fsfs_begin.specs.Steps.{IsPastNumbers}
-use Rattle.fsfs_repo.specs.Alone.{KnowsIn}
 use Rattle.fsfs_script.specs.declared.job.Base.{Base}
 use Rattle.fsfs_script.specs.declared.job.Base.TheVariants.{Number}
 use Rattle.fsfs_script.specs.declared.job.CommitJob.{CommitJob}
@@ -51,23 +48,6 @@ DoesSo knows rose moment job answer v = (u : View) × knows u × RunsJob moment 
 -- doubt, the lock is told to be stuck only behind one that tells of such a fault.
 abbrev pub DoAll : (View → Type 0) → ℕ → List Job → List JobAnswer → View → Type 0
 DoAll knows moment js answers v = (u : View) × knows u × (u.section ≡ None) × RunJobs moment js answers v u × (are_harmless v.pass.faults ≡ true → StuckBehindDoubt answers)
-
--- A first part of the jobs was done so, each with its answer. Then, in a state of the store in which the pass knew that, a number stood in
--- `db/txn-current` that is past those that the machine reads. If no job was done before, the state is that at the start.
-pub record RunsPast (start : OwnedState) (moment : ℕ) (js : List Job) (answers : List JobAnswer) (v : View) : Type 0 where
-  pub before : List Job
-  pub job : Job
-  pub after : List Job
-  pub jobs_are : js ≡ before ++ job ∷ after
-  pub told : List JobAnswer
-  pub more : List JobAnswer
-  pub answers_are : answers ≡ told ++ more
-  pub known : View
-  pub runs : RunJobs moment before told v known
-  pub state : OwnedState
-  pub knows : KnowsIn state known
-  pub past : IsPastNumbers (owned_view state)
-  pub first : before ≡ [] → state ≡ start
 
 -- ---- counts of mergeinfo
 

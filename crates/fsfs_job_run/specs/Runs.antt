@@ -28,7 +28,7 @@ use Rattle.fsfs_jobs.specs.declared.answer.JobAnswer.{JobAnswer}
 use Rattle.fsfs_job_run.specs.Jobs.{StuckBehindDoubt, TellNoDoubt, bench_faults_in}
 use Rattle.fsfs_job_run.specs.Listed.{LeavesListed}
 use Rattle.fsfs_job_run.specs.Running.{IfAnyFails}
-use Rattle.fsfs_job_run.specs.Histories.{DidScript, StopsShort}
+use Rattle.fsfs_job_run.specs.Histories.{DidScript}
 
 -- what a disk, the input and the output tell at one moment: the trace; what remains to be read; what was written; and how often the streams failed
 pub record RunScene : Type 0 where
@@ -78,14 +78,10 @@ pub record Ran (moment since : ℕ) (js : List Job) (answers : List JobAnswer) (
   -- nothing is in doubt where no line tells of a fault as `current` was renamed or made firm
   pub certain : TellNoDoubt answers → IfSome told (λ t. AllStandFor t now)
 
--- what is known of them. (Or of a first part: then a number stood in `db/txn-current` that is past those of which anything is known.)
-abbrev pub RanIn : ℕ → ℕ → List Job → List JobAnswer → ℕ → List Revision → Option Trace → Type 0
-RanIn moment since js answers youngest h new = Ran moment since js answers youngest h new ⊎ StopsShort moment js answers h
-
 -- where the files stood for a history, packed or not, and files that are left over of packed revisions have the same bytes
 abbrev pub RanOver : ℕ → List Job → List JobAnswer → ℕ → Option Trace → Option Trace → Type 0
 RanOver moment js answers youngest old new =
-    IfSome old (λ t. (h : List Revision) (stands : StandsFor (files_now t) h) → LeftoversAgree stands → RanIn moment (length t.operations + 1) js answers youngest h new)
+    IfSome old (λ t. (h : List Revision) (stands : StandsFor (files_now t) h) → LeftoversAgree stands → Ran moment (length t.operations + 1) js answers youngest h new)
 
 -- no job was done and nothing was printed; of the disk no more was done than that its names were made firm
 pub record IsUntouched (a b : RunScene) : Type 0 where

@@ -3,7 +3,6 @@ ghost use Rattle.std.specs.Prelude.{◌≡◌, ◌⊎◌, ◌≤◌, None};
 ghost use Rattle.fsfs_base.specs.Failures.{Rose};
 ghost use Rattle.fsfs_turn.specs.Mountings.{RoseBy};
 ghost use Rattle.fsfs_turn.specs.Views.{View};
-ghost use Rattle.fsfs_begin.specs.Steps.{IsPastNumbers};
 ghost use Rattle.fsfs_repo.specs.Crashes.{CrashesLeave};
 ghost use Rattle.fsfs_job_run.specs.TextReads.{IfAnswerFails};
 ghost use Rattle.fsfs_job_run.specs.Jobs.{bench_told};
@@ -32,12 +31,11 @@ pub fn do_job<D: Disk, R, G: Gate>(
     gate: &G,
 ) -> (Repo<D>, JobAnswer)
     requires moment { micros ≤ 4102444799999999 }
-    // Over what the pass knows, in no section: what the job did, by the definition of jobs, or that it failed. Or the number that stood in
-    // `db/txn-current` is past those that the machine reads.
+    // Over what the pass knows, in no section: what the job did, by the definition of jobs, or that it failed.
     ensures does { (v : View) → ⟦<Owned<D> as Turns<R>>⟧.knows repo.turns v → v.section ≡ None
-        → DoesSo (⟦<Owned<D> as Turns<R>>⟧.knows result.0.turns) (Rose (⟦<Owned<D> as Turns<R>>⟧.faults repo.turns) (⟦<Owned<D> as Turns<R>>⟧.faults result.0.turns)) micros job.now result.1 v ⊎ IsPastNumbers (⟦<Owned<D> as Turns<R>>⟧.store repo.turns) }
+        → DoesSo (⟦<Owned<D> as Turns<R>>⟧.knows result.0.turns) (Rose (⟦<Owned<D> as Turns<R>>⟧.faults repo.turns) (⟦<Owned<D> as Turns<R>>⟧.faults result.0.turns)) micros job.now result.1 v }
     // Where it is refused for mergeinfo: by the flat model, or for counts in the bytes.
-    ensures counted { (v : View) → ⟦<Owned<D> as Turns<R>>⟧.knows repo.turns v → v.section ≡ None → IfCounted job.now result.1 (StopsOver v.seen) ⊎ IsPastNumbers (⟦<Owned<D> as Turns<R>>⟧.store repo.turns) }
+    ensures counted { (v : View) → ⟦<Owned<D> as Turns<R>>⟧.knows repo.turns v → v.section ≡ None → IfCounted job.now result.1 (StopsOver v.seen) }
     // What is known then says what a crash leaves, at each moment of the job too.
     ensures crashes { (u : View) → ⟦<Owned<D> as Turns<R>>⟧.knows result.0.turns u → CrashesLeave result.0.turns.layout (D.trace result.0.turns.disk) u }
     // Whatever the disk tells: it is told to have failed only where the count of failed calls rose in this job.

@@ -6,7 +6,7 @@ ghost use Rattle.fsfs_turn.specs.Views.{View};
 ghost use Rattle.fsfs_repo.specs.Crashes.{CrashesLeave};
 ghost use Rattle.fsfs_job_run.specs.Jobs.{bench_faults_in};
 ghost use Rattle.fsfs_job_run.specs.Listed.{LeavesListed};
-ghost use Rattle.fsfs_job_run.specs.Running.{DoAll, IfAnyFails, RunsPast};
+ghost use Rattle.fsfs_job_run.specs.Running.{DoAll, IfAnyFails};
 
 use crate::JobGate;
 use crate::job::do_job;
@@ -29,10 +29,9 @@ pub fn run_jobs<D: Disk, R, G: Gate>(
     gate: &G,
 ) -> (Repo<D>, Result<Vec<JobAnswer>, AllocError>)
     requires moment { micros ≤ 4102444799999999 }
-    // Over what the pass knows, in no section: jobs one after another, and behind the last it is in none. Or before one of them the number
-    // in `db/txn-current` was past those that the machine reads.
+    // Over what the pass knows, in no section: jobs one after another, and behind the last it is in none.
     ensures does { (v : View) → ⟦<Owned<D> as Turns<R>>⟧.knows repo.turns v → v.section ≡ None
-        → IfOk result.1 (λ answers. DoAll (⟦<Owned<D> as Turns<R>>⟧.knows result.0.turns) micros jobs.now answers.items v ⊎ RunsPast (⟦<Owned<D> as Turns<R>>⟧.store repo.turns).below micros jobs.now answers.items v) }
+        → IfOk result.1 (λ answers. DoAll (⟦<Owned<D> as Turns<R>>⟧.knows result.0.turns) micros jobs.now answers.items v) }
     ensures each { IfOk result.1 (λ answers. length answers.items ≡ length jobs.now) }
     ensures none { OnErr result.1 (result.0 ≡ repo) }
     ensures crashes { (u : View) → ⟦<Owned<D> as Turns<R>>⟧.knows result.0.turns u → CrashesLeave result.0.turns.layout (D.trace result.0.turns.disk) u }

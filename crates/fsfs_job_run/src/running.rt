@@ -9,7 +9,7 @@ ghost use Rattle.fsfs_turn.specs.Views.{View};
 ghost use Rattle.fsfs_job_run.specs.Jobs.{bench_faults_in};
 ghost use Rattle.fsfs_job_run.specs.Listed.{LeavesListed};
 ghost use Rattle.fsfs_job_run.specs.Running.{IfAnyFails};
-ghost use Rattle.fsfs_job_run.specs.Runs.{run_scene, PrintsRun, RanIn, RunsScript};
+ghost use Rattle.fsfs_job_run.specs.Runs.{run_scene, PrintsRun, Ran, RunsScript};
 
 use crate::{greatest_status, print_run, run_jobs};
 use fsfs_base::{Gate, RevNum, Sink, Source};
@@ -39,7 +39,7 @@ fn do_jobs<D: Disk, G: Gate>(
     requires moment { micros ≤ 4102444799999999 }
     // Of a pass that has seen what there was as images began to be spoken of, and met no fault that leaves a revision in doubt.
     ensures does { (v : View) → ⟦<Owned<D> as Turns<()>>⟧.knows repo.turns v → v.section ≡ None → v.opened ≡ length v.seen → are_harmless v.pass.faults ≡ true
-        → IfOk result.1 (λ done. RanIn micros v.since jobs.now done.answers.items done.youngest (revisions v.seen) (D.trace result.0)) }
+        → IfOk result.1 (λ done. Ran micros v.since jobs.now done.answers.items done.youngest (revisions v.seen) (D.trace result.0)) }
     ensures each { IfOk result.1 (λ done. length done.answers.items ≡ length jobs.now) }
     ensures none { OnErr result.1 (D.trace result.0 ≡ D.trace repo.turns.disk) }
     // No transaction of theirs stays listed, unless a call of the disk failed.

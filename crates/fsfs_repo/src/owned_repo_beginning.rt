@@ -5,8 +5,8 @@ ghost use Rattle.fsfs_disk.specs.Labels.{has_label, with_label};
 ghost use Rattle.fsfs_disk.specs.Txns.{pair_of, txn_label};
 ghost use Rattle.fsfs_turn.specs.Mountings.{RoseBy};
 ghost use Rattle.fsfs_turn.specs.Views.{View};
-ghost use Rattle.fsfs_begin.specs.Steps.{IsPastNumbers, Moved};
-ghost use Rattle.fsfs_begin.specs.Faults.{Cause, IfBench, IfDisk, IsAbove, LeavesNone, bench_faults_in};
+ghost use Rattle.fsfs_begin.specs.Steps.{Moved};
+ghost use Rattle.fsfs_begin.specs.Faults.{Cause, IfBench, IfDisk, IsAbove, LacksNumber, LeavesNone, bench_faults_in};
 ghost use Rattle.fsfs_begin.specs.Labels.{ListsNoMore};
 ghost use Rattle.fsfs_repo.specs.Begun.{BeginsTxn};
 ghost use Rattle.fsfs_repo.specs.Crashes.{CrashesLeave};
@@ -37,16 +37,14 @@ impl<D: Disk> Repo<D> {
         ensures sound { IfOk result.1 (λ txn. ⟦<HeldNodes<D::Bench> as Own>⟧.faults txn.own ≡ 0) }
         // Its label is kept.
         ensures kept { IfSome (⟦<Owned<D> as Turns<R>>⟧.labels result.0.turns) (λ ls. IfOk result.1 (λ txn. has_label (txn_label (pair_of (⟦<HeldNodes<D::Bench> as Own>⟧.txn txn.own))) ls ≡ true)) }
-        // It stands for the tree of its base, and the pass knows its name to be given. Or the number that stood in `db/txn-current` is past
-        // those that the machine reads, here and where none was begun.
+        // It stands for the tree of its base, and the pass knows its name to be given.
         ensures begun { (v : View) → ⟦<Owned<D> as Turns<R>>⟧.knows self.turns v → v.section ≡ None
-            → IfOk result.1 (λ txn. ((u : View) × ⟦<Owned<D> as Turns<R>>⟧.knows result.0.turns u × BeginsTxn (⟦<HeldNodes<D::Bench> as Own>⟧.txn txn.own) base (⟦<HeldNodes<D::Bench> as Own>⟧.settled txn.own) v u)
-            ⊎ IsPastNumbers (⟦<Owned<D> as Turns<R>>⟧.store self.turns)) }
-        // Or why none was begun.
+            → IfOk result.1 (λ txn. (u : View) × ⟦<Owned<D> as Turns<R>>⟧.knows result.0.turns u × BeginsTxn (⟦<HeldNodes<D::Bench> as Own>⟧.txn txn.own) base (⟦<HeldNodes<D::Bench> as Own>⟧.settled txn.own) v u) }
+        // Or why none was begun: then also for want of a number that the machine reads, or since its read failed.
         ensures refused { (v : View) → ⟦<Owned<D> as Turns<R>>⟧.knows self.turns v → v.section ≡ None
             → IfErr result.1 (λ why. ((u : View) × ⟦<Owned<D> as Turns<R>>⟧.knows result.0.turns u × Moved v u × Cause base why u
             × IfBench why (LeavesNone base (⟦<Owned<D> as Turns<R>>⟧.labels result.0.turns) (Rose (⟦<Owned<D> as Turns<R>>⟧.faults self.turns) (⟦<Owned<D> as Turns<R>>⟧.faults result.0.turns)) v u))
-            ⊎ IsPastNumbers (⟦<Owned<D> as Turns<R>>⟧.store self.turns)) }
+            ⊎ (LacksNumber why × ((u : View) × ⟦<Owned<D> as Turns<R>>⟧.knows result.0.turns u × Moved v u))) }
         // Its label came to those that were kept, and no other came or went. Where none was begun, none came, whatever is known.
         ensures listed { IfOk result.1 (λ txn. ⟦<Owned<D> as Turns<R>>⟧.labels result.0.turns ≡ option_map (with_label (txn_label (pair_of (⟦<HeldNodes<D::Bench> as Own>⟧.txn txn.own)))) (⟦<Owned<D> as Turns<R>>⟧.labels self.turns)) }
         ensures unlisted { OnErr result.1 (ListsNoMore base (Rose (⟦<Owned<D> as Turns<R>>⟧.faults self.turns) (⟦<Owned<D> as Turns<R>>⟧.faults result.0.turns)) (⟦<Owned<D> as Turns<R>>⟧.labels self.turns) (⟦<Owned<D> as Turns<R>>⟧.labels result.0.turns)) }
@@ -61,7 +59,7 @@ impl<D: Disk> Repo<D> {
         ensures cause { IfErr result.1 (λ why. IfDisk why (Rose (⟦<Owned<D> as Turns<R>>⟧.faults self.turns) (⟦<Owned<D> as Turns<R>>⟧.faults result.0.turns))) }
     {
         let Repo { turns } = self;
-        let (back, begun) = begin_txn(rt, alloc, turns, base, Numbers::Any);
+        let (back, begun) = begin_txn(rt, alloc, turns, base, Numbers::OfMachine);
         (Repo { turns: back }, begun)
     }
 }

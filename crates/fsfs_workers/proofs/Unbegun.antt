@@ -26,6 +26,7 @@ use Rattle.fsfs_job_run.specs.Beside.{shown_in}
 use Rattle.fsfs_job_run.specs.Passes.{last_known}
 use Rattle.fsfs_job_run.specs.Faults.{fault_of_begin}
 use Rattle.fsfs_job_run.specs.Running.{HasOutsideCause}
+use Rattle.fsfs_job_run.proofs.Begun.{lacking_fails, lacking_outside}
 use Rattle.fsfs_job_run.proofs.Whole.{root_whole}
 use Rattle.fsfs_workers.specs.Working.{GoesOn, WorksSo}
 use Rattle.fsfs_workers.proofs.Based.{works_whole}
@@ -89,17 +90,7 @@ unbegun_so knows rose moment base job why fault v m u known goes there moved sho
     ))
 
 -- or the machine has no reading of the number that stood in `db/txn-current`
-module _ (line : ℕ) (job : CommitJob) where
-  lacking_fails : (why : BeginFault) → LacksNumber why → Fails (jobs.Commit job) (Stopped line (fault_of_begin why))
-  lacking_fails (begin.NoRev asked youngest) lacks = absurd lacks
-  lacking_fails (begin.Stuck at) lacks = absurd lacks
-  lacking_fails (begin.Small fault) lacks = absurd lacks
-  lacking_fails begin.NamesFull lacks = ByNames job line
-  lacking_fails (begin.Wrong wrong) lacks = absurd lacks
-  lacking_fails (begin.DiskFault at) lacks = ByDisk (jobs.Commit job) line at
-  lacking_fails begin.BenchFault lacks = absurd lacks
-  lacking_fails begin.Memory lacks = absurd lacks
-
+module _ (line : ℕ) where
   lacking_shows : (why : BeginFault) → LacksNumber why → shown_in (Stopped line (fault_of_begin why)) ≡ 0
   lacking_shows (begin.NoRev asked youngest) lacks = absurd lacks
   lacking_shows (begin.Stuck at) lacks = refl
@@ -110,16 +101,6 @@ module _ (line : ℕ) (job : CommitJob) where
   lacking_shows begin.BenchFault lacks = refl
   lacking_shows begin.Memory lacks = refl
 
-  lacking_outside : (rose : Type 0) (u : View) (why : BeginFault) → LacksNumber why → IfDisk why rose → HasOutsideCause rose u (Stopped line (fault_of_begin why))
-  lacking_outside rose u (begin.NoRev asked youngest) lacks disk = tt
-  lacking_outside rose u (begin.Stuck at) lacks disk = absurd lacks
-  lacking_outside rose u (begin.Small fault) lacks disk = tt
-  lacking_outside rose u begin.NamesFull lacks disk = tt
-  lacking_outside rose u (begin.Wrong wrong) lacks disk = absurd lacks
-  lacking_outside rose u (begin.DiskFault at) lacks disk = disk
-  lacking_outside rose u begin.BenchFault lacks disk = tt
-  lacking_outside rose u begin.Memory lacks disk = tt
-
 pub lacking_so : (knows : View → Type 0) (rose : Type 0) (moment : ℕ) (job : CommitJob) (why : BeginFault) (fault : Fault) (v m u : View) → knows u → GoesOn v m → Moved m u → LacksNumber why → IfDisk why rose → fault ≡ fault_of_begin why
     → WorksSo knows rose moment (jobs.Commit job) (Stopped job.line fault) v
 lacking_so knows rose moment job why fault v m u known goes moved lacks disk is =
@@ -127,7 +108,7 @@ lacking_so knows rose moment job why fault v m u known goes moved lacks disk is 
     (works_whole knows rose moment (jobs.Commit job) (Stopped job.line (fault_of_begin why)) v (
       u,
       known,
-      fails_behind moment (last_known v) (jobs.Commit job) (Stopped job.line (fault_of_begin why)) v u (goes_on v m u goes (by_moving m u moved)) refl (lacking_shows job.line job why lacks) (lacking_fails job.line job why lacks),
+      fails_behind moment (last_known v) (jobs.Commit job) (Stopped job.line (fault_of_begin why)) v u (goes_on v m u goes (by_moving m u moved)) refl (lacking_shows job.line why lacks) (lacking_fails job.line job why lacks),
       lacking_outside job.line job rose u why lacks disk,
     ))
 

@@ -1,4 +1,4 @@
-use Rattle.std.proofs.Common.{◌≡◌, ⊎_elim, inl, inr, sym, ap, subst, ◌∙◌, arith}
+use Rattle.std.proofs.Common.{◌≡◌, ⊎_elim, sym, ap, subst, ◌∙◌, arith}
 use Rattle.std.specs.Prelude.{Result, Ok, Err, IfOk, IfErr, OnErr}
 use Rattle.fsfs_base.specs.Failures.{Rose}
 use Rattle.fsfs_tree.specs.Revisions.{tree_of}
@@ -14,7 +14,7 @@ use Rattle.fsfs_job_run.specs.TextReads.{IfAnswerFails}
 use Rattle.fsfs_job_run.proofs.Causes.{fails_on, begin_fails}
 use Rattle.fsfs_job_run.specs.Jobs.{bench_told}
 use Rattle.fsfs_job_run.proofs.BenchCauses.{begin_told}
-use Rattle.fsfs_job_run.proofs.Begun.{unbegun_so}
+use Rattle.fsfs_job_run.proofs.Begun.{lacking_so, unbegun_so}
 use Rattle.fsfs_job_run.proofs.Composed.{begun_so}
 use Rattle.fsfs_job_run.proofs.Listing.{begun_lists, unbegun_lists}
 use Rattle.fsfs_job_run.proofs.Seen.{trees_seen}
@@ -34,9 +34,9 @@ pub returns-in-Ok-clause-does : goal.returns-in-Ok-clause-does
 returns-in-Ok-clause-does g c = λ v known none told on le.
     let after = c.edit_and_commit.result.0.turns in
     let same = told_ok c.begin-repo.result.1 c.in-Ok.txn (λ z. z.base ≡ c.args.base) c.in-Ok.is c.begin-repo.ensures.base in
-    ⊎_elim (λ d. inl (begun_so (KnowsAlone after.layout after.young after.stuck (g.D.Disk.trace after.disk)) (Rose (g.D.Disk.faults c.begin-repo.result.0.turns.disk) (g.D.Disk.faults after.disk)) (Rose (g.D.Disk.faults c.args.repo.turns.disk) (g.D.Disk.faults after.disk)) c.args.micros c.args.base c.in-Ok.txn.base _ _ c.args.job.now
-    c.edit_and_commit.result.1 v d.0 (λ r. omega (arith, r, c.begin-repo.ensures.later)) known.1.own d.1.1.own told on same d.2 (λ out still given based so stands. c.edit_and_commit.ensures.does d.0 d.1 out still given based so stands))) (λ past. inr past)
-    (told_ok c.begin-repo.result.1 c.in-Ok.txn _ c.in-Ok.is (c.begin-repo.ensures.begun v known none))
+    let d = told_ok c.begin-repo.result.1 c.in-Ok.txn _ c.in-Ok.is (c.begin-repo.ensures.begun v known none) in
+    begun_so (KnowsAlone after.layout after.young after.stuck (g.D.Disk.trace after.disk)) (Rose (g.D.Disk.faults c.begin-repo.result.0.turns.disk) (g.D.Disk.faults after.disk)) (Rose (g.D.Disk.faults c.args.repo.turns.disk) (g.D.Disk.faults after.disk)) c.args.micros c.args.base c.in-Ok.txn.base _ _ c.args.job.now
+    c.edit_and_commit.result.1 v d.0 (λ r. omega (arith, r, c.begin-repo.ensures.later)) known.1.own d.1.1.own told on same d.2 (λ out still given based so stands. c.edit_and_commit.ensures.does d.0 d.1 out still given based so stands)
 
 pub returns-in-Err-clause-does : goal.returns-in-Err-clause-does
 returns-in-Err-clause-does g c = λ v known none told on le.
@@ -44,10 +44,11 @@ returns-in-Err-clause-does g c = λ v known none told on le.
     let rose = Rose (g.D.Disk.faults c.args.repo.turns.disk) (g.D.Disk.faults after.disk) in
     let job = c.args.job.now in
     let disk = told_err c.begin-repo.result.1 c.in-Err.why (λ why. IfDisk why rose) c.in-Err.is c.begin-repo.ensures.cause in
-    ⊎_elim (λ d. inl (subst (λ f. CommitsSo (KnowsAlone after.layout after.young after.stuck (g.D.Disk.trace after.disk)) rose c.args.micros job (Stopped job.line f) v) (sym c.of_begin-fault.ensures)
-    (unbegun_so (KnowsAlone after.layout after.young after.stuck (g.D.Disk.trace after.disk)) rose c.args.micros c.args.base job c.in-Err.why v d.0 d.1 known.1.own d.1.1.own told le d.2
-    (λ wrong less root. root_whole (bytes_of d.0.seen) c.args.base (tree_of (revisions d.0.seen) c.args.base) wrong ((trees_seen after.layout after.young after.stuck (g.D.Disk.trace after.disk) d.0 d.1).each c.args.base (omega (arith, less, revisions_length d.0.seen))) root) d.3 disk))) (λ past. inr past)
-    (told_err c.begin-repo.result.1 c.in-Err.why _ c.in-Err.is (c.begin-repo.ensures.refused v known none))
+    subst (λ f. CommitsSo (KnowsAlone after.layout after.young after.stuck (g.D.Disk.trace after.disk)) rose c.args.micros job (Stopped job.line f) v) (sym c.of_begin-fault.ensures)
+    (⊎_elim (λ d. unbegun_so (KnowsAlone after.layout after.young after.stuck (g.D.Disk.trace after.disk)) rose c.args.micros c.args.base job c.in-Err.why v d.0 d.1 known.1.own d.1.1.own told le d.2
+    (λ wrong less root. root_whole (bytes_of d.0.seen) c.args.base (tree_of (revisions d.0.seen) c.args.base) wrong ((trees_seen after.layout after.young after.stuck (g.D.Disk.trace after.disk) d.0 d.1).each c.args.base (omega (arith, less, revisions_length d.0.seen))) root) d.3 disk)
+    (λ m. lacking_so (KnowsAlone after.layout after.young after.stuck (g.D.Disk.trace after.disk)) rose c.args.micros job c.in-Err.why v m.1.0 m.1.1 known.1.own m.1.1.1.own m.1.2 m.0 disk)
+    (told_err c.begin-repo.result.1 c.in-Err.why _ c.in-Err.is (c.begin-repo.ensures.refused v known none)))
 
 pub returns-in-Ok-clause-cause : goal.returns-in-Ok-clause-cause
 returns-in-Ok-clause-cause g c =

@@ -7,8 +7,7 @@ use Rattle.std.specs.Prelude.{List, option_map}
 use Rattle.fsfs_disk.specs.Trace.{labels_now}
 use Rattle.fsfs_job_run.proofs.ListedLemmas.{none_begun}
 use Rattle.fsfs_turn.specs.Alone.{KnowsAlone}
-use Rattle.fsfs_turn.specs.Telling.{OwnedState, owned_view}
-use Rattle.fsfs_begin.specs.Steps.{IsPastNumbers}
+use Rattle.fsfs_turn.specs.Telling.{OwnedState}
 use Rattle.fsfs_jobs.specs.Serial.{base_of}
 use Rattle.fsfs_job_run.proofs.Based.{no_base, no_base_outside, no_base_counted}
 use Rattle.fsfs_job_run.proofs.Causes.{fails_on, request_fails}
@@ -23,8 +22,8 @@ returns-in-Ok-clause-does g c = λ v known none.
     let l = c.in-Ok.ensures.looked v known none in
     let b = c.in-Ok.ensures.base v known none in
     let seen = ap (λ (h : List Recorded). last_of (revisions h)) (sym l.2.stays.seen) in
-    ⊎_elim (λ d. inl (commits_behind (KnowsAlone after.layout after.young after.stuck (g.D.Disk.trace after.disk)) (Rose (g.D.Disk.faults c.base_of.new.repo.turns.disk) (g.D.Disk.faults after.disk)) (Rose (g.D.Disk.faults c.args.repo.turns.disk) (g.D.Disk.faults after.disk)) c.args.micros c.args.job.now c.begin_and_commit.result.1 v l.0
-    (λ r. omega (arith, r, c.in-Ok.ensures.faults)) l.2.stays l.2.doubtless d)) (λ past. inr (subst (λ (s : OwnedState). IsPastNumbers (owned_view s)) c.in-Ok.ensures.same past))
+    commits_behind (KnowsAlone after.layout after.young after.stuck (g.D.Disk.trace after.disk)) (Rose (g.D.Disk.faults c.base_of.new.repo.turns.disk) (g.D.Disk.faults after.disk)) (Rose (g.D.Disk.faults c.args.repo.turns.disk) (g.D.Disk.faults after.disk)) c.args.micros c.args.job.now c.begin_and_commit.result.1 v l.0
+    (λ r. omega (arith, r, c.in-Ok.ensures.faults)) l.2.stays l.2.doubtless
     (c.begin_and_commit.ensures.does l.0 l.1 l.2.stays.outside (l.2.least ∙ seen) (b.0 ∙ ap (λ (n : ℕ). base_of c.args.job.now.base n) seen) (subst (λ (n : ℕ). c.in-Ok.base ≤ n) seen b.1))
 
 pub returns-in-Err-clause-does : goal.returns-in-Err-clause-does
@@ -32,7 +31,7 @@ returns-in-Err-clause-does g c = λ v known none.
     let job = c.args.job.now in
     let l = c.in-Err.ensures.looked v known none in
     let lacks = c.in-Err.ensures.lacks v known none in
-    inl ((l.0, l.1, no_base c.args.micros job c.in-Err.fault v l.0 l.2 lacks, no_base_outside _ job.base _ job.line c.in-Err.fault l.0 lacks), no_base_counted job job.base _ job.line c.in-Err.fault _ lacks)
+    ((l.0, l.1, no_base c.args.micros job c.in-Err.fault v l.0 l.2 lacks, no_base_outside _ job.base _ job.line c.in-Err.fault l.0 lacks), no_base_counted job job.base _ job.line c.in-Err.fault _ lacks)
 
 pub returns-in-Ok-clause-cause : goal.returns-in-Ok-clause-cause
 returns-in-Ok-clause-cause g c =

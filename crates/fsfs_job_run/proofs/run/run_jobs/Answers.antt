@@ -1,10 +1,9 @@
 use Rattle.std.proofs.Common.{◌≡◌, ◌+◌, ap, ℕ, ◌∙◌, refl, inl, length, arith}
 use Rattle.fsfs_turn.specs.Alone.{KnowsAlone}
-use Rattle.fsfs_turn.specs.Telling.{state_of}
 use Rattle.fsfs_base.specs.Failures.{Rose}
 use Rattle.fsfs_job_run.proofs.Causes.{any_none, any_more}
 use Rattle.fsfs_job_run.proofs.Listing.{lists_within}
-use Rattle.fsfs_job_run.proofs.Going.{runs_none, runs_more, runs_all, none_taken}
+use Rattle.fsfs_job_run.proofs.Going.{done_none, runs_more, runs_all}
 use Rattle.fsfs_job_run.specs.Jobs.{bench_faults_in}
 use Rattle.fsfs_job_run.proofs.BenchCounts.{benches_more}
 use Rattle.fsfs_job_run.proofs.ListedLemmas.{none_begun, lists_on}
@@ -15,8 +14,7 @@ pub loop-job-init : goal.loop-job-init
 loop-job-init g c =
     let turns = c.args.repo.turns in
     record {
-      does = λ v known none. runs_none (KnowsAlone turns.layout turns.young turns.stuck (g.D.Disk.trace turns.disk)) (state_of turns.layout turns.young turns.stuck (g.D.Disk.trace turns.disk) (g.D.Disk.mount_path turns.disk) (g.D.Disk.bench_faults turns.disk)) c.args.micros c.in-Ok.answers.items v c.in-Ok.ensures.items known none;
-      first = λ at. refl;
+      does = λ v known none. done_none (KnowsAlone turns.layout turns.young turns.stuck (g.D.Disk.trace turns.disk)) c.args.micros c.in-Ok.answers.items v c.in-Ok.ensures.items known none;
       numbered = refl;
       room = c.in-Ok.ensures.exact;
       count = c.in-Ok.ensures.len;
@@ -35,10 +33,8 @@ loop-job-preserved g c =
     let after = c.do_job-after.result.0.turns in
     record {
       does = λ v known none.
-          runs_more (state_of before.layout before.young before.stuck (g.D.Disk.trace before.disk) (g.D.Disk.mount_path before.disk) (g.D.Disk.bench_faults before.disk)) (state_of start.layout start.young start.stuck (g.D.Disk.trace start.disk) (g.D.Disk.mount_path start.disk) (g.D.Disk.bench_faults start.disk)) (KnowsAlone after.layout after.young after.stuck (g.D.Disk.trace after.disk)) _ c.args.micros c.args.jobs.now c.loop-job.job-index c.job-item.result (omega arith) c.job-item.is
-          (λ at. ap (λ r. state_of r.turns.layout r.turns.young r.turns.stuck (g.D.Disk.trace r.turns.disk) (g.D.Disk.mount_path r.turns.disk) (g.D.Disk.bench_faults r.turns.disk)) (inv.first (none_taken c.args.jobs.now c.loop-job.job-index (omega arith) at)))
+          runs_more (KnowsAlone before.layout before.young before.stuck (g.D.Disk.trace before.disk)) (KnowsAlone after.layout after.young after.stuck (g.D.Disk.trace after.disk)) _ c.args.micros c.args.jobs.now c.loop-job.job-index c.job-item.result (omega arith) c.job-item.is
           c.loop-job.answers.items c.do_job-after.result.1 c.push_reserved.new.self.items c.push_reserved.ensures.items v (λ u k. k.1.found) (inv.does v known none) (λ m k s. c.do_job-after.ensures.does m k s);
-      first = λ at. absurd (omega (arith, at));
       numbered = ap (λ (n : ℕ). n + 1) inv.numbered;
       room = c.push_reserved.ensures.capacity ∙ inv.room;
       count = c.push_reserved.ensures.len ∙ ap (λ (n : ℕ). n + 1) inv.count;
@@ -57,8 +53,7 @@ loop-job-preserved g c =
 pub returns-clause-does : goal.returns-clause-does
 returns-clause-does g c = λ v known none.
     let turns = c.loop-job.repo.turns in
-    let start = c.args.repo.turns in
-    runs_all (KnowsAlone turns.layout turns.young turns.stuck (g.D.Disk.trace turns.disk)) (state_of start.layout start.young start.stuck (g.D.Disk.trace start.disk) (g.D.Disk.mount_path start.disk) (g.D.Disk.bench_faults start.disk)) c.args.micros c.args.jobs.now c.loop-job.job-index c.loop-job.answers.items v (omega arith) (c.loop-job.invariant.does v known none)
+    runs_all (KnowsAlone turns.layout turns.young turns.stuck (g.D.Disk.trace turns.disk)) c.args.micros c.args.jobs.now c.loop-job.job-index c.loop-job.answers.items v (omega arith) (c.loop-job.invariant.does v known none)
 
 pub returns-clause-crashes : goal.returns-clause-crashes
 returns-clause-crashes g c = λ u known. let turns = c.loop-job.repo.turns in survives turns.layout turns.young turns.stuck (g.D.Disk.trace turns.disk) u known

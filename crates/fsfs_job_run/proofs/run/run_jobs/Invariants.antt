@@ -6,19 +6,16 @@ use Rattle.fsfs_job_run.specs.Jobs.{bench_faults_in}
 use Rattle.fsfs_job_run.specs.Listed.{LeavesListed}
 use Rattle.std.specs.Vec.{vec_capacity}
 use Rattle.fsfs_turn.specs.Alone.{KnowsAlone}
-use Rattle.fsfs_turn.specs.Telling.{state_of}
 use Rattle.fsfs_turn.specs.Views.{View}
 use Rattle.fsfs_base.specs.Failures.{Rose}
-use Rattle.fsfs_job_run.specs.Running.{IfAnyFails}
-use Rattle.fsfs_job_run.proofs.Going.{RunsOn}
+use Rattle.fsfs_job_run.specs.Running.{DoAll, IfAnyFails}
 use Rattle.fsfs_job_run.proofs.run.run_jobs.Given as goal
 
 -- so many jobs were done
 abbrev pub invariant-loop-job : goal.invariant-loop-job
 invariant-loop-job g l = record {
   does : (v : View) → KnowsAlone l.fn.repo.turns.layout l.fn.repo.turns.young l.fn.repo.turns.stuck (g.D.Disk.trace l.fn.repo.turns.disk) v → v.section ≡ None
-      → RunsOn (KnowsAlone l.repo.turns.layout l.repo.turns.young l.repo.turns.stuck (g.D.Disk.trace l.repo.turns.disk)) (state_of l.fn.repo.turns.layout l.fn.repo.turns.young l.fn.repo.turns.stuck (g.D.Disk.trace l.fn.repo.turns.disk) (g.D.Disk.mount_path l.fn.repo.turns.disk) (g.D.Disk.bench_faults l.fn.repo.turns.disk)) l.micros (take l.job-index l.jobs) l.answers.items v;
-  first : l.job-index ≡ 0 → l.repo ≡ l.fn.repo;
+      → DoAll (KnowsAlone l.repo.turns.layout l.repo.turns.young l.repo.turns.stuck (g.D.Disk.trace l.repo.turns.disk)) l.micros (take l.job-index l.jobs) l.answers.items v;
   numbered : l.number ≡ l.job-index;
   room : vec_capacity l.answers ≡ length l.jobs;
   count : vec_len l.answers ≡ l.job-index;

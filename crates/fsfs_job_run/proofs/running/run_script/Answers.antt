@@ -9,7 +9,7 @@ use Rattle.fsfs_job_run.specs.Jobs.{bench_faults_in}
 use Rattle.fsfs_job_run.specs.Listed.{LeavesListed}
 use Rattle.fsfs_job_run.proofs.Causes.{any_on, calm_all}
 use Rattle.fsfs_job_run.proofs.Listing.{lists_behind}
-use Rattle.fsfs_job_run.specs.Runs.{NoRoom, Done, RanIn}
+use Rattle.fsfs_job_run.specs.Runs.{NoRoom, Done, Ran}
 use Rattle.fsfs_job_run.proofs.RunLemmas.{firm_fails, not_opened, not_read, ran_over}
 use Rattle.fsfs_job_run.proofs.running.run_script.Goals as goal
 
@@ -36,7 +36,7 @@ returns-in-Ok-done-clause-ran g c =
     let given : c.as_slice.result.now ≡ js = c.as_slice.ensures in
     let each : length answers ≡ length js = told_ok c.do_jobs-disk.result.1 c.in-Ok-done.done _ c.in-Ok-done.is c.do_jobs-disk.ensures.each ∙ ap (λ (l : List Job). length l) given in
     let over = ran_over _ c.args.micros js answers c.in-Ok-done.done.youngest (told c.args.disk) (told c.do_jobs-disk.result.0) c.in-Ok.ensures.known
-    (λ v known none opened few. subst (λ l. RanIn c.args.micros v.since l answers c.in-Ok-done.done.youngest (revisions v.seen) (told c.do_jobs-disk.result.0)) given
+    (λ v known none opened few. subst (λ l. Ran c.args.micros v.since l answers c.in-Ok-done.done.youngest (revisions v.seen) (told c.do_jobs-disk.result.0)) given
     (told_ok c.do_jobs-disk.result.1 c.in-Ok-done.done _ c.in-Ok-done.is (c.do_jobs-disk.ensures.does v known none opened few))) in
     let count = g.D.Disk.faults in
     let now = count c.do_jobs-disk.result.0 in
