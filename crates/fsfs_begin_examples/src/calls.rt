@@ -3,16 +3,14 @@ ghost use Rattle.std.specs.Prelude.{◌≡◌, IfSome, IsTrue};
 ghost use Rattle.fsfs_disk.specs.Trace.{files_now};
 ghost use Rattle.fsfs_begin.specs.Begun.{IsUpToDate};
 
-use fsfs_base::{Failed, Name};
+use fsfs_base::{
+    CreateFault, Failed, Name, OpenFault, RevNum, TxnName, put_txn_name, read_txn_name,
+};
 use fsfs_begin::{BeginFault, begin};
-use fsfs_create::create;
-use fsfs_disk::Disk;
-use fsfs_memory::{Transcript, bytes_of};
-use fsfs_base::{RevNum, TxnName, put_txn_name, read_txn_name};
+use fsfs_create::{create, open};
+use fsfs_disk::{Disk, rmtxn, txns};
 use fsfs_layout::{Layout, Opened};
-use fsfs_base::{CreateFault, OpenFault};
-use fsfs_create::open;
-use fsfs_disk::{rmtxn, txns};
+use fsfs_memory::{Transcript, bytes_of};
 use std::alloc::Global;
 use uuid::Builder;
 

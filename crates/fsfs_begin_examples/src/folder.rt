@@ -1,8 +1,8 @@
 // Calls in a real folder.
 use crate::calls::call_lines;
-use fsfs_disk::{Disk, Host};
-use fsfs_memory::Transcript;
+use fsfs_disk::{Access, Disk, Host};
 use fsfs_hostcalls::HostFileSystem;
+use fsfs_memory::Transcript;
 use fsfs_mount::FolderHost;
 use std::alloc::{AllocError, Global};
 
@@ -16,7 +16,7 @@ fn play_mounted<H: Host>(
 where
     <H::Mounted as Disk>::Bench: Drop,
 {
-    match host.mount(repos, true) {
+    match host.mount(repos, Access::Write) {
         Ok(disk) => {
             let disk = call_lines(alloc, disk, lines, out);
             host.unmount(disk);

@@ -1,8 +1,7 @@
 // Calls over a disk in memory.
 use crate::calls::{call, cut};
 use crate::turns::purge_on;
-use fsfs_memory::Transcript;
-use fsfs_memory::MemDisk;
+use fsfs_memory::{MemDisk, Transcript};
 use std::alloc::Global;
 
 /// Makes the call of a line, writes what it answers, and gives the disk back.

@@ -1,7 +1,6 @@
 // What stands before a call.
 use crate::memory::memory_lines;
-use fsfs_memory::Transcript;
-use fsfs_memory::MemDisk;
+use fsfs_memory::{MemDisk, Transcript};
 use std::alloc::Global;
 
 /// Lines of a text that are done in order: the first ones, with which each example begins, and then some of its own.

@@ -2,8 +2,7 @@
 use crate::failing::{PATTERNS, Way, crashed, failing, sound};
 use crate::memory::memory_call;
 use crate::scene::Scene;
-use fsfs_memory::Transcript;
-use fsfs_memory::MemDisk;
+use fsfs_memory::{MemDisk, Transcript};
 use std::alloc::Global;
 
 // No example has so many calls.

@@ -1,14 +1,12 @@
 // A transaction that is begun and purged by turns.
 use crate::calls::{say_open_fault, say_txn};
+use fsfs_base::{DiskPlace, RevNum};
 use fsfs_begin::Begun;
-use fsfs_memory::Transcript;
-use fsfs_base::RevNum;
-use fsfs_memory::{MemBench, MemDisk};
-use fsfs_create::{OpenedStore, Unopened, open_store};
-use fsfs_base::DiskPlace;
-use fsfs_turn::Owned;
 use fsfs_begin::turn_begin::{BeginFault, Numbers, begin};
 use fsfs_begin::turn_purge::{PurgeFault, purge};
+use fsfs_create::{OpenedStore, Unopened, open_store};
+use fsfs_memory::{MemBench, MemDisk, Transcript};
+use fsfs_turn::Owned;
 use std::alloc::Global;
 
 fn say_disk_fault(place: DiskPlace, out: &mut Transcript) {

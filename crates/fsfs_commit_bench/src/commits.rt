@@ -2,13 +2,12 @@
 ghost use Rattle.std.specs.Prelude.{◌≡◌, IsTrue};
 
 use fsfs_base::{FsPath, Pairs};
-use fsfs_revision::Book;
 use fsfs_disk::{Bench, Disk};
-use fsfs_txn_nodes::HeldNodes;
 use fsfs_memory::{MemSource, NoGate};
-use fsfs_repo::Repo;
-use fsfs_repo::CommitAnswer;
+use fsfs_repo::{CommitAnswer, Repo};
+use fsfs_revision::Book;
 use fsfs_txn::{PathOpened, TextSet, Txn};
+use fsfs_txn_nodes::HeldNodes;
 use std::alloc::Global;
 
 // The moment of each, in microseconds.

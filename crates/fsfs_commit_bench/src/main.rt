@@ -6,7 +6,7 @@ mod commits;
 
 use anyhow::{Result, bail};
 use commits::commit_all;
-use fsfs_disk::{Disk, Host};
+use fsfs_disk::{Access, Disk, Host};
 use fsfs_hostcalls::HostFileSystem;
 use fsfs_mount::FolderHost;
 use std::alloc::Global;
@@ -26,7 +26,7 @@ where
     H::Mounted: Drop,
     <H::Mounted as Disk>::Bench: Drop,
 {
-    let Ok(disk) = host.mount(repos, true) else {
+    let Ok(disk) = host.mount(repos, Access::Write) else {
         bail!("the repository is refused");
     };
     let start = Instant::now(rt)?;

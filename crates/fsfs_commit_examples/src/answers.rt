@@ -1,11 +1,10 @@
 // What is answered.
-use fsfs_revision::Wrong;
-use fsfs_memory::Transcript;
-use fsfs_base::{TxnName, put_txn_name};
-use fsfs_draft::EditError;
-use fsfs_repo::CommitBar;
-use fsfs_base::{DiskPlace, OpenFault};
+use fsfs_base::{DiskPlace, OpenFault, TxnName, put_txn_name};
 use fsfs_begin::turn_begin::BeginFault;
+use fsfs_draft::EditError;
+use fsfs_memory::Transcript;
+use fsfs_repo::CommitBar;
+use fsfs_revision::Wrong;
 use fsfs_txn::TxnError;
 use std::alloc::Global;
 

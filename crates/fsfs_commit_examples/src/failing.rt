@@ -1,6 +1,5 @@
 // Disks that fail, and disks behind a crash.
-use fsfs_memory::Transcript;
-use fsfs_memory::MemDisk;
+use fsfs_memory::{MemDisk, Transcript};
 use std::alloc::{AllocError, Global};
 
 /// How calls fail.

@@ -1,17 +1,13 @@
 // Transactions that are begun, edited and committed, in a repository that is open.
 use crate::answers::{say_bar, say_begin_fault, say_disk_fault, say_edit_error};
 use crate::lines::{MOMENT, cut};
-use fsfs_base::{FsPath, Pairs};
-use fsfs_revision::Book;
+use fsfs_base::{FsPath, Pairs, RevNum};
 use fsfs_disk::Bench;
-use fsfs_memory::{Transcript, bytes_of};
-use fsfs_base::RevNum;
-use fsfs_txn_nodes::HeldNodes;
-use fsfs_memory::{MemBench, MemDisk};
-use fsfs_memory::{MemSource, NoGate};
-use fsfs_repo::Repo;
-use fsfs_repo::CommitAnswer;
+use fsfs_memory::{MemBench, MemDisk, MemSource, NoGate, Transcript, bytes_of};
+use fsfs_repo::{CommitAnswer, Repo};
+use fsfs_revision::Book;
 use fsfs_txn::{Deleted, Made, PathOpened, TextSet, Txn, TxnError};
+use fsfs_txn_nodes::HeldNodes;
 use std::alloc::Global;
 
 /// A transaction over a bench.

@@ -10,13 +10,10 @@ ghost use Rattle.fsfs_turn.specs.Labels.{MayRelabel, Drops};
 ghost use Rattle.fsfs_turn.specs.Mountings.{RoseBy};
 ghost use Rattle.fsfs_turn.specs.Learning.{MayPurge, Purged, SpentPurged};
 
-use fsfs_base::{Failed, Name};
+use fsfs_base::{DiskPlace, Failed, Name, Note, RevNum};
 use fsfs_disk::{Bench, Disk, Label, ListFault};
-use fsfs_base::RevNum;
 use fsfs_layout::Layout;
 use fsfs_memory::{MemBench, MemDisk};
-use fsfs_base::Note;
-use fsfs_base::DiskPlace;
 use fsfs_turn::{Adoption, LoneTurns, Owned, Turns};
 use std::alloc::Global;
 

@@ -1,7 +1,6 @@
 // What stands before a call.
 use crate::lines::call_lines;
-use fsfs_memory::Transcript;
-use fsfs_memory::MemDisk;
+use fsfs_memory::{MemDisk, Transcript};
 use std::alloc::Global;
 use std::sync::Wait;
 use std::thread::Threads;

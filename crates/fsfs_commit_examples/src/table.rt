@@ -3,8 +3,7 @@ use crate::failing::{PATTERNS, Way, crashed, failing, sound};
 use crate::lines::call;
 use crate::scene::Scene;
 use crate::tally::Tally;
-use fsfs_memory::Transcript;
-use fsfs_memory::MemDisk;
+use fsfs_memory::{MemDisk, Transcript};
 use std::sync::Wait;
 use std::thread::Threads;
 

@@ -5,9 +5,8 @@ use crate::bench_calls::call_bench;
 use crate::line::{Call, Change, Look, Part, Published};
 use anyhow::{Result, bail};
 use fsfs_base::{Failed, Name};
-use fsfs_disk::{Disk, Label};
+use fsfs_disk::{Disk, Label, PublishFault, publish};
 use fsfs_memory::{Transcript, bytes_of};
-use fsfs_disk::{PublishFault, publish};
 use std::alloc::Global;
 
 pub fn say_done(out: &mut Transcript, answer: Result<(), Failed>) {

@@ -6,10 +6,10 @@ use crate::calls::call;
 use crate::failing::Failing;
 use crate::left::Crash;
 use anyhow::{Result, bail};
-use fsfs_folders::{Calls, Path};
 use fsfs_disk::Disk;
-use fsfs_memory::Transcript;
+use fsfs_folders::{Calls, Path};
 use fsfs_memcalls::MemCalls;
+use fsfs_memory::Transcript;
 use fsfs_mount::FolderDisk;
 use std::alloc::Global;
 
@@ -39,13 +39,16 @@ fn paths(alloc: Global, folders: &[&str]) -> Result<Vec<Path>> {
     Ok(paths)
 }
 
-fn begun(alloc: Global, folders: &[&str], failing: Failing) -> Result<FolderDisk<MemCalls>>
+fn begun(
+    alloc: Global,
+    folders: &[&str],
+    links: &[&str],
+    failing: Failing,
+) -> Result<FolderDisk<MemCalls>>
     ensures { IfOk result (λ disk. IsTrue (⟦<FolderDisk<MemCalls> as Disk>⟧.may_write disk)) }
 {
-    let calls = failing_calls(
-        MemCalls::with_folders(alloc, paths(alloc, folders)?),
-        failing,
-    );
+    let calls = MemCalls::with_folders(alloc, paths(alloc, folders)?);
+    let calls = failing_calls(calls.with_links(paths(alloc, links)?), failing);
     Ok(FolderDisk::new(alloc, calls, String::new(alloc), true))
 }
 
@@ -89,13 +92,14 @@ fn make_call(
 fn after(
     alloc: Global,
     folders: &[&str],
+    links: &[&str],
     failing: &str,
     calls: &[&str],
     out: &mut Transcript,
 ) -> Result<FolderDisk<MemCalls>> {
     let counts = failing == "counted";
     let failing = if counts { "" } else { failing };
-    let mut disk = begun(alloc, folders, Failing::read(alloc, failing)?)?;
+    let mut disk = begun(alloc, folders, links, Failing::read(alloc, failing)?)?;
     let mut bench = None;
     for line in calls {
         make_call(alloc, &mut disk, &mut bench, line, counts, out);
@@ -148,7 +152,29 @@ pub fn play(
     crashes: &[&str],
     out: &mut Transcript,
 ) -> Result<()> {
-    let disk = after(alloc, folders, failing, calls, out)?;
+    let disk = after(alloc, folders, &[], failing, calls, out)?;
+    tell_crashes(alloc, &disk, crashes, out)
+}
+
+/// The same where a link stands at one more path.
+pub fn play_linked(
+    alloc: Global,
+    link: &str,
+    calls: &[&str],
+    crashes: &[&str],
+    out: &mut Transcript,
+) -> Result<()> {
+    let disk = after(alloc, &REPOSITORY, &[link], "", calls, out)?;
+    tell_crashes(alloc, &disk, crashes, out)
+}
+
+// The failures, and what each crash leaves.
+fn tell_crashes(
+    alloc: Global,
+    disk: &FolderDisk<MemCalls>,
+    crashes: &[&str],
+    out: &mut Transcript,
+) -> Result<()> {
     out.tell("faults ", &disk.faults());
     out.tell(", of benches ", &disk.bench_faults());
     out.say("\n");

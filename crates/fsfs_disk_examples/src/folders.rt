@@ -5,12 +5,13 @@ use crate::calls::{call, look};
 use crate::line::Call;
 use crate::words::Words;
 use anyhow::{Result, bail};
-use fsfs_disk::{Disk, Host};
-use fsfs_memory::{Transcript, bytes_of};
+use fsfs_disk::{Access, Disk, Host};
 use fsfs_hostcalls::HostFileSystem;
+use fsfs_memory::{Transcript, bytes_of};
 use fsfs_mount::FolderHost;
 use std::alloc::Global;
 use std::fs;
+use std::os::unix::fs::symlink;
 
 /// Where the repository of an example stands.
 const REPOSITORY: &str = "R";
@@ -28,6 +29,7 @@ fn act(rt: &HostRuntime, line: &str, out: &mut Transcript) -> Result<()> {
             let bytes = bytes_of(rt.alloc(), words.rest())?;
             fs::write(rt, path, bytes.as_slice())?;
         }
+        "link" => symlink(rt, words.word(), words.word())?,
         "there" => {
             let is_there = fs::exists(rt, words.word())?;
             out.say(if is_there { "there" } else { "nothing there" });
@@ -39,9 +41,9 @@ fn act(rt: &HostRuntime, line: &str, out: &mut Transcript) -> Result<()> {
     Ok(())
 }
 
-// Another host takes the same folder and gives it back, as far as it may.
-fn take_beside<H: Host>(beside: &mut H, out: &mut Transcript) {
-    match beside.mount(REPOSITORY, true) {
+// Another host takes the same folder for the same and gives it back, as far as it may.
+fn take_beside<H: Host>(beside: &mut H, access: Access, out: &mut Transcript) {
+    match beside.mount(REPOSITORY, access) {
         Ok(disk) => {
             out.say("mounted");
             beside.unmount(disk);
@@ -81,6 +83,7 @@ fn write_line<D: Disk, H: Host>(
     disk: &mut D,
     bench: &mut Option<D::Bench>,
     beside: &mut H,
+    access: Access,
     line: &str,
     out: &mut Transcript,
 ) -> Result<()>
@@ -91,7 +94,7 @@ where
     ensures mounted { D.mount_path disk.new ≡ D.mount_path disk.old }
 {
     if line == "beside" {
-        take_beside(beside, out);
+        take_beside(beside, access, out);
         return Ok(());
     }
     match line.strip_prefix("outside ") {
@@ -105,6 +108,7 @@ fn write_lines<D: Disk, H: Host>(
     rt: &HostRuntime,
     disk: &mut D,
     beside: &mut H,
+    access: Access,
     lines: &[&str],
     out: &mut Transcript,
 )
@@ -116,7 +120,7 @@ where
     let mut bench = None;
     for line in lines {
         begin_line(line, out);
-        let done = write_line(rt, disk, &mut bench, beside, line, out);
+        let done = write_line(rt, disk, &mut bench, beside, access, line, out);
         end_line(done, out);
     }
 }
@@ -149,20 +153,20 @@ fn session<H: Host>(
     rt: &HostRuntime,
     host: &mut H,
     beside: &mut H,
-    writes: bool,
+    access: Access,
     lines: &[&str],
     out: &mut Transcript,
 )
 where
     <H::Mounted as Disk>::Bench: Drop,
 {
-    match host.mount(REPOSITORY, writes) {
+    match host.mount(REPOSITORY, access) {
         Ok(mut disk) => {
             out.say("mounted\n");
-            if writes {
-                write_lines(rt, &mut disk, beside, lines, out);
-            } else {
-                look_lines(rt, &mut disk, lines, out);
+            match access {
+                Access::Read => look_lines(rt, &mut disk, lines, out),
+                Access::Write => write_lines(rt, &mut disk, beside, access, lines, out),
+                Access::Create => write_lines(rt, &mut disk, beside, access, lines, out),
             }
             host.unmount(disk);
         }
@@ -178,8 +182,18 @@ fn length_of_session(lines: &[&str]) -> usize {
         .unwrap_or(lines.len())
 }
 
-/// Does what the lines say. Two hosts share the folder; from a line `mount`, `look`, `mount second` or `look second` to `unmount`
-/// one of them has it.
+// What a line that takes the folder wants it for.
+fn access_of(word: &str) -> Option<Access> {
+    match word {
+        "mount" => Some(Access::Create),
+        "open" => Some(Access::Write),
+        "look" => Some(Access::Read),
+        _ => None,
+    }
+}
+
+/// Does what the lines say. Two hosts share the folder; from a line `mount`, `open` or `look`, with `second` behind it or not, to
+/// `unmount` one of them has it: to make a repository, to change the one that is there, or to look at it.
 pub fn play(rt: &HostRuntime, lines: &[&str], out: &mut Transcript) -> Result<()> {
     let alloc = rt.alloc();
     let mut first = FolderHost::new(alloc, HostFileSystem::new(rt.clone()?));
@@ -193,13 +207,12 @@ pub fn play(rt: &HostRuntime, lines: &[&str], out: &mut Transcript) -> Result<()
         let length = length_of_session(behind);
         let inner = behind.get(..length).unwrap_or(&[]);
         begin_line(line, out);
-        match *line {
-            "mount" => session(rt, &mut first, &mut second, true, inner, out),
-            "mount second" => session(rt, &mut second, &mut first, true, inner, out),
-            "look" => session(rt, &mut first, &mut second, false, inner, out),
-            "look second" => session(rt, &mut second, &mut first, false, inner, out),
-            other => {
-                let done = act(rt, other.strip_prefix("outside ").unwrap_or(""), out);
+        let (word, which) = line.split_once(' ').unwrap_or((line, ""));
+        match (access_of(word), which) {
+            (Some(access), "second") => session(rt, &mut second, &mut first, access, inner, out),
+            (Some(access), _) => session(rt, &mut first, &mut second, access, inner, out),
+            (None, _) => {
+                let done = act(rt, line.strip_prefix("outside ").unwrap_or(""), out);
                 end_line(done, out);
                 continue;
             }

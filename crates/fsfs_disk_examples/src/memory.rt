@@ -5,8 +5,7 @@ use crate::left::Crash;
 use crate::words::Words;
 use anyhow::Result;
 use fsfs_disk::Disk;
-use fsfs_memory::Transcript;
-use fsfs_memory::MemDisk;
+use fsfs_memory::{MemDisk, Transcript};
 use std::alloc::Global;
 
 fn begun(alloc: Global, failing: Failing) -> MemDisk {

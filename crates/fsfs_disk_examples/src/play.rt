@@ -20,6 +20,7 @@ fn play_example(rt: &HostRuntime, start: &str, lines: &[&str], out: &mut Transcr
     match disk {
         "memory" => memory::play(rt.alloc(), failing, calls, crashes, out),
         "calls" => edge::play(rt.alloc(), &edge::REPOSITORY, failing, calls, crashes, out),
+        "linked-calls" => edge::play_linked(rt.alloc(), failing, calls, crashes, out),
         "bare-calls" => edge::play(rt.alloc(), &["", "db"], failing, calls, crashes, out),
         "no-calls" => edge::play(rt.alloc(), &[""], failing, calls, crashes, out),
         "folder" => folders::play(rt, lines, out),

@@ -1,8 +1,7 @@
 // The words of a line.
 use anyhow::{Result, bail};
-use fsfs_base::Name;
+use fsfs_base::{Name, read_txn_name};
 use fsfs_disk::Label;
-use fsfs_base::read_txn_name;
 
 /// What is left of a line, a word after another.
 #[derive(Clone, Copy)]

@@ -11,6 +11,7 @@ fn word<T: Drop>(answer: Result<T, CallError>) -> &'static str {
         Err(CallError::Exists) => "is there",
         Err(CallError::OtherKind) => "of another kind",
         Err(CallError::Locked) => "locked",
+        Err(CallError::Denied) => "denied",
         Err(CallError::Memory) => "memory",
         Err(CallError::Failed) => "failed",
     }
@@ -66,18 +67,35 @@ fn tell_bytes<C: Calls>(
     }
 }
 
+// Whether a folder has a path.
+fn is_folder<C: Calls>(calls: &mut C, path: &Path) -> &'static str {
+    match calls.is_folder(path) {
+        Ok(true) => "yes",
+        Ok(false) => "no",
+        Err(error) => word::<()>(Err(error)),
+    }
+}
+
 // Folders, a file in one, and what is refused of these.
 fn tell_folders<C: Calls>(told: &mut String, calls: &mut C) -> Result<(), AllocError> {
     let (db, shard) = (Path::new("db"), Path::new("db/revs/0"));
-    tell(told, "make db/revs/0", word(calls.make_folder(&shard)))?;
-    tell(told, "make db", word(calls.make_folder(&db)))?;
-    tell(told, "make db again", word(calls.make_folder(&db)))?;
+    tell(
+        told,
+        "make db/revs/0",
+        word(calls.make_folder(&shard, None)),
+    )?;
+    tell(told, "make db", word(calls.make_folder(&db, None)))?;
+    tell(told, "make db again", word(calls.make_folder(&db, None)))?;
     tell(
         told,
         "make db/revs",
-        word(calls.make_folder(&Path::new("db/revs"))),
+        word(calls.make_folder(&Path::new("db/revs"), None)),
     )?;
-    tell(told, "make db/revs/0", word(calls.make_folder(&shard)))?;
+    tell(
+        told,
+        "make db/revs/0",
+        word(calls.make_folder(&shard, None)),
+    )?;
     tell(told, "drop db", word(calls.drop_folder(&db)))?;
     tell(told, "drop db/revs/0", word(calls.drop_folder(&shard)))?;
     tell(
@@ -91,14 +109,29 @@ fn tell_folders<C: Calls>(told: &mut String, calls: &mut C) -> Result<(), AllocE
         "sync above",
         word(calls.sync_folder(&Path::new(".."))),
     )?;
-    tell(told, "lock db", word(calls.lock(&db)))?;
-    tell(told, "lock nothing", word(calls.lock(&Path::new("db/x"))))
+    tell(told, "db is a folder", is_folder(calls, &db))?;
+    tell(
+        told,
+        "db/x is a folder",
+        is_folder(calls, &Path::new("db/x")),
+    )?;
+    tell(told, "lock db", word(calls.lock_folder(&db)))?;
+    tell(
+        told,
+        "lock nothing",
+        word(calls.lock_folder(&Path::new("db/x"))),
+    )?;
+    tell(
+        told,
+        "lock a folder as a file",
+        word(calls.lock_file(&db, None)),
+    )
 }
 
 // A file that is made, written in two pieces and synced.
 fn tell_writes<C: Calls>(told: &mut String, calls: &mut C) -> Result<(), AllocError> {
     let path = Path::new("db/current-next");
-    let file = match calls.create(&path) {
+    let file = match calls.create(&path, None) {
         Ok(file) => file,
         Err(error) => return tell(told, "create", word::<()>(Err(error))),
     };
@@ -109,23 +142,23 @@ fn tell_writes<C: Calls>(told: &mut String, calls: &mut C) -> Result<(), AllocEr
         Ok(length) => write!(told, "length: {length}\n")?,
         Err(error) => tell(told, "length", word::<()>(Err(error)))?,
     }
-    tell(told, "create again", word(calls.create(&path)))?;
+    tell(told, "create again", word(calls.create(&path, None)))?;
     tell(
         told,
         "create a folder",
-        word(calls.create(&Path::new("db"))),
+        word(calls.create(&Path::new("db"), None)),
     )?;
     tell(
         told,
         "create nowhere",
-        word(calls.create(&Path::new("db/x/y"))),
+        word(calls.create(&Path::new("db/x/y"), None)),
     )?;
     tell(
         told,
         "create below a file",
-        word(calls.create(&Path::new("db/current-next/y"))),
+        word(calls.create(&Path::new("db/current-next/y"), None)),
     )?;
-    tell(told, "make a file", word(calls.make_folder(&path)))?;
+    tell(told, "make a file", word(calls.make_folder(&path, None)))?;
     tell_bytes(told, calls, &path, 1)?;
     tell_bytes(told, calls, &path, 9)?;
     tell(told, "open a folder", word(calls.open(&Path::new("db"))))?;
@@ -161,7 +194,6 @@ fn tell_names_given<C: Calls>(
         Err(error) => tell(told, "append", word::<()>(Err(error)))?,
     }
     tell_bytes(told, calls, &current, 0)?;
-    tell_names(told, "files", calls.files_in(alloc, &db))?;
     tell_names(told, "folders", calls.folders_in(alloc, &db))?;
     tell_names(
         told,
@@ -170,14 +202,13 @@ fn tell_names_given<C: Calls>(
     )?;
     tell_names(
         told,
-        "files nowhere",
-        calls.files_in(alloc, &Path::new("db/x")),
+        "folders nowhere",
+        calls.folders_in(alloc, &Path::new("db/x")),
     )?;
     tell(told, "firmed", word(calls.firmed()))?;
     tell(told, "remove", word(calls.remove(&current)))?;
     tell(told, "remove again", word(calls.remove(&current)))?;
-    tell(told, "remove a folder", word(calls.remove(&db)))?;
-    tell_names(told, "files", calls.files_in(alloc, &db))
+    tell(told, "remove a folder", word(calls.remove(&db)))
 }
 
 // A part, and a file that is taken from it.
@@ -187,12 +218,12 @@ fn tell_part<C: Calls + Drop>(told: &mut String, calls: &mut C) -> Result<(), Al
         Path::new("rev"),
         Path::new("db/revs/1"),
     );
-    tell(told, "make db/bench", word(calls.make_folder(&bench)))?;
+    tell(told, "make db/bench", word(calls.make_folder(&bench, None)))?;
     let mut part = match calls.part(&bench) {
         Ok(part) => part,
         Err(error) => return tell(told, "part", word::<()>(Err(error))),
     };
-    match part.create(&rev) {
+    match part.create(&rev, None) {
         Ok(file) => tell(told, "append", word(part.append(&file, b"a text")))?,
         Err(error) => tell(told, "append", word::<()>(Err(error)))?,
     }
@@ -204,7 +235,8 @@ fn tell_part<C: Calls + Drop>(told: &mut String, calls: &mut C) -> Result<(), Al
     tell(told, "take", word(calls.take(&mut part, &rev, &to)))?;
     tell_bytes(told, &mut part, &rev, 0)?;
     tell_bytes(told, calls, &to, 0)?;
-    tell(told, "drop db/bench", word(calls.drop_folder(&bench)))
+    tell(told, "drop all of db/bench", word(calls.drop_tree(&bench)))?;
+    tell(told, "drop all of nothing", word(calls.drop_tree(&bench)))
 }
 
 /// Makes each call once or more on an empty folder, and tells what was answered.
@@ -228,8 +260,11 @@ drop db/revs/0: ok
 drop db/revs/0 again: nothing there
 sync db: ok
 sync above: ok
+db is a folder: yes
+db/x is a folder: no
 lock db: ok
 lock nothing: nothing there
+lock a folder as a file: of another kind
 append: ok
 append: ok
 sync: ok
@@ -253,20 +288,19 @@ read 3: 17
 append: ok
 read 7: 17
 more.
-files: current
 folders: revs
 folders above: db
-files nowhere: nothing there
+folders nowhere: nothing there
 firmed: ok
 remove: ok
 remove again: nothing there
 remove a folder: of another kind
-files:
 make db/bench: ok
 append: ok
 take nothing: nothing there
 take: ok
 open: nothing there
 read 6: a text..
-drop db/bench: ok
+drop all of db/bench: ok
+drop all of nothing: nothing there
 ";

@@ -18,9 +18,9 @@ fn each_call_is_answered_on_the_machine(rt: HostRuntime) -> Result<(), Fail> {
     let told = each_call(alloc, &mut calls)?;
     assert_eq!(rt; told.as_str(), EACH_CALL);
     let mut other = HostCalls::new(rt.clone()?, again);
-    assert_eq!(rt; other.lock(&Path::new("db")), Err(CallError::Locked));
+    assert_eq!(rt; other.lock_folder(&Path::new("db")), Err(CallError::Locked));
     calls.unlock();
-    assert_eq!(rt; other.lock(&Path::new("db")), Ok(()));
+    assert_eq!(rt; other.lock_folder(&Path::new("db")), Ok(()));
     fs::remove_dir_all(&rt, folder.as_str())?;
     Ok(())
 }

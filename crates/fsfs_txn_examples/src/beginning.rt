@@ -7,12 +7,12 @@ ghost use Rattle.fsfs_begin.specs.Benches.{TellsRoot};
 use crate::book::HeldTxn;
 use crate::faults::say_begin_fault;
 use crate::words::rev_of;
-use fsfs_begin::{Begun, begin};
-use fsfs_disk::{Bench, Disk};
-use fsfs_memory::Transcript;
 use fsfs_base::{RevNum, TxnName, put_txn_name};
-use fsfs_layout::Opened;
+use fsfs_begin::{Begun, begin};
 use fsfs_create::open;
+use fsfs_disk::{Bench, Disk};
+use fsfs_layout::Opened;
+use fsfs_memory::Transcript;
 use fsfs_txn::Txn;
 use std::alloc::Global;
 

@@ -1,10 +1,10 @@
 // A book over the files of a disk, and transactions over a bench.
-use fsfs_disk::Disk;
-use fsfs_memory::Transcript;
-use fsfs_fetch::{Direct, OwnedReads, over_disk};
-use fsfs_txn_nodes::HeldNodes;
 use fsfs_create::open;
+use fsfs_disk::Disk;
+use fsfs_fetch::{Direct, OwnedReads, over_disk};
+use fsfs_memory::Transcript;
 use fsfs_txn::Txn;
+use fsfs_txn_nodes::HeldNodes;
 use std::alloc::Global;
 
 /// A transaction over a bench.

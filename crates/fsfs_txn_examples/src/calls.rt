@@ -2,9 +2,9 @@
 use crate::book::HeldTxn;
 use crate::words::cut;
 use crate::{edits, reading, texts};
-use fsfs_revision::Book;
 use fsfs_disk::Bench;
 use fsfs_memory::Transcript;
+use fsfs_revision::Book;
 use fsfs_txn::Opened;
 use std::alloc::Global;
 

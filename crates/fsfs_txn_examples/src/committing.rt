@@ -1,15 +1,12 @@
 // A transaction's bytes as the next revision.
 use crate::book::HeldTxn;
 use crate::faults::say_final_error;
-use fsfs_base::{Failed, Name};
-use fsfs_disk::Disk;
-use fsfs_memory::Transcript;
-use fsfs_base::RevNum;
+use fsfs_base::{Failed, Name, RevNum};
 use fsfs_commit::final_bytes;
-use fsfs_layout::{Layout, OnlyFile, RepositoryFile, write_current};
-use fsfs_memory::{MemBench, MemDisk};
-use fsfs_memory::MemSink;
+use fsfs_disk::Disk;
 use fsfs_draft::Own;
+use fsfs_layout::{Layout, OnlyFile, RepositoryFile, write_current};
+use fsfs_memory::{MemBench, MemDisk, MemSink, Transcript};
 use std::alloc::Global;
 
 // The name of a transaction's prototype file in its bench.

@@ -4,10 +4,10 @@ use crate::book::HeldTxn;
 use crate::faults::say_txn_error;
 use crate::words::{cut, path_of, rev_of};
 use fsfs_base::FsPath;
-use fsfs_revision::Book;
 use fsfs_disk::Bench;
 use fsfs_memory::Transcript;
 use fsfs_noderev::CopySource;
+use fsfs_revision::Book;
 use fsfs_txn::{Made, Opened, Outcome, PathOpened, TxnError};
 use std::alloc::Global;
 

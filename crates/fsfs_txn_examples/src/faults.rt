@@ -1,9 +1,9 @@
 // Why a call gave nothing.
 use fsfs_begin::BeginFault;
-use fsfs_revision::{Refusal, Wrong};
-use fsfs_memory::Transcript;
 use fsfs_commit::FinalError;
 use fsfs_draft::EditError;
+use fsfs_memory::Transcript;
+use fsfs_revision::{Refusal, Wrong};
 use fsfs_txn::TxnError;
 
 fn say_wrong(wrong: &Wrong, out: &mut Transcript) {

@@ -3,8 +3,7 @@ use crate::book::HeldTxn;
 use crate::words::{cut, file_of, text_of};
 use fsfs_base::{Failed, Name};
 use fsfs_disk::Disk;
-use fsfs_memory::Transcript;
-use fsfs_memory::{MemBench, MemDisk};
+use fsfs_memory::{MemBench, MemDisk, Transcript};
 use std::alloc::Global;
 
 fn put_firm(disk: &mut MemDisk, name: &Name, bytes: &[u8]) -> Result<(), Failed> {

@@ -5,11 +5,11 @@ use crate::beginning::begin_on;
 use crate::book::book_over;
 use crate::cast::Cast;
 use crate::words::cut;
-use fsfs_revision::Book;
-use fsfs_disk::{Bench, Disk, Host};
-use fsfs_memory::Transcript;
+use fsfs_disk::{Access, Bench, Disk, Host};
 use fsfs_hostcalls::HostFileSystem;
+use fsfs_memory::Transcript;
 use fsfs_mount::FolderHost;
+use fsfs_revision::Book;
 use std::alloc::Global;
 use std::io;
 use std::rt::Clock;
@@ -103,7 +103,7 @@ where
     H::Mounted: Drop,
     <H::Mounted as Disk>::Bench: Drop,
 {
-    match host.mount(repos, true) {
+    match host.mount(repos, Access::Write) {
         Ok(disk) => play_on(rt, alloc, disk, lines, out),
         Err(_) => {
             out.say("refused\n");

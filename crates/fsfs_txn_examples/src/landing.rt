@@ -2,10 +2,9 @@
 use crate::book::{HeldTxn, book_over};
 use crate::committing::{append, revision_bytes};
 use crate::edits::merge;
-use fsfs_memory::Transcript;
-use fsfs_fetch::disk_of;
-use fsfs_memory::{MemBench, MemDisk};
 use fsfs_create::open;
+use fsfs_fetch::disk_of;
+use fsfs_memory::{MemBench, MemDisk, Transcript};
 use std::alloc::Global;
 
 // The transaction becomes the next revision, which is told, or put into the repository.

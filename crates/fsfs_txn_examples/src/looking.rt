@@ -1,7 +1,7 @@
 // What svnlook prints of the repository.
-use fsfs_memory::Transcript;
-use fsfs_memory::{MemDisk, MemHost};
-use fsfs_memory::{FixedClock, FixedDice, MemSink, MemSource, NoGate};
+use fsfs_memory::{
+    FixedClock, FixedDice, MemDisk, MemHost, MemSink, MemSource, NoGate, Transcript,
+};
 use fsfs_top::{Tool, command};
 use std::alloc::{AllocError, Global};
 use std::sync::Wait;

@@ -4,10 +4,10 @@ use crate::book::HeldTxn;
 use crate::faults::say_txn_error;
 use crate::words::path_of;
 use fsfs_base::Kind;
-use fsfs_revision::Book;
 use fsfs_disk::Bench;
 use fsfs_memory::Transcript;
 use fsfs_noderev::{Rep, put_rep};
+use fsfs_revision::Book;
 use fsfs_txn::{Got, NodeView};
 use std::alloc::Global;
 

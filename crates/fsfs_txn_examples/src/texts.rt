@@ -3,10 +3,9 @@ use crate::answers::{say_property_set, say_text_set};
 use crate::book::HeldTxn;
 use crate::faults::say_txn_error;
 use crate::words::{cut, prop_name_of, text_of};
-use fsfs_disk::Bench;
-use fsfs_memory::Transcript;
 use fsfs_base::HexDigest;
-use fsfs_memory::MemSource;
+use fsfs_disk::Bench;
+use fsfs_memory::{MemSource, Transcript};
 use fsfs_txn::Opened;
 use std::alloc::Global;
 

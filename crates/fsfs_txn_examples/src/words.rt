@@ -1,7 +1,6 @@
 // The words of a line.
-use fsfs_base::{FsPath, Name};
+use fsfs_base::{FsPath, Name, PropName, RevNum};
 use fsfs_memory::bytes_of;
-use fsfs_base::{PropName, RevNum};
 use std::alloc::Global;
 
 /// A word, and what is left of the line.
