@@ -2,9 +2,7 @@
 use crate::files::{Files, firm_disk};
 use crate::line::Place;
 use anyhow::{Result, anyhow, bail};
-use fsfs_memory::bytes_of;
-use fsfs_memory::{MemDisk, MemHost};
-use fsfs_memory::{FixedClock, FixedDice, MemSink, MemSource, NoGate};
+use fsfs_memory::{FixedClock, FixedDice, MemDisk, MemHost, MemSink, MemSource, NoGate, bytes_of};
 use fsfs_top::{Tool, command};
 use std::alloc::{AllocError, Global};
 use std::sync::Wait;

@@ -1,8 +1,7 @@
 // The files of a repository, and disks with them. A transaction is the file of its folder's name, without bytes.
 use anyhow::{Result, anyhow, bail};
-use fsfs_base::{Failed, Name};
+use fsfs_base::{Failed, Name, TxnName, read_txn_name};
 use fsfs_disk::{Disk, Label};
-use fsfs_base::{TxnName, read_txn_name};
 use fsfs_layout::TxnFile;
 use fsfs_memory::MemDisk;
 use std::alloc::{AllocError, Global};

@@ -4,14 +4,14 @@ ghost use Rattle.fsfs_disk.specs.Trace.{files_now};
 ghost use Rattle.fsfs_begin.specs.Begun.{IsUpToDate};
 ghost use Rattle.fsfs_begin.specs.Benches.{TellsRoot};
 
-use fsfs_begin::{Begun, begin};
-use fsfs_disk::{Bench, Disk};
-use fsfs_memory::Transcript;
 use fsfs_base::RevNum;
-use fsfs_txn_nodes::HeldNodes;
-use fsfs_layout::Opened;
+use fsfs_begin::{Begun, begin};
 use fsfs_create::open;
+use fsfs_disk::{Bench, Disk};
+use fsfs_layout::Opened;
+use fsfs_memory::Transcript;
 use fsfs_txn::Txn;
+use fsfs_txn_nodes::HeldNodes;
 use std::alloc::Global;
 
 /// A transaction over a bench.

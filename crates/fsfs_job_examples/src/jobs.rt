@@ -2,16 +2,13 @@
 ghost use Rattle.std.specs.Prelude.{◌≡◌, None};
 
 use crate::beginning::{HeldTxn, begin_on};
-use fsfs_memory::Transcript;
-use fsfs_cli::{Fault, RequestFault, Tool, print_fault};
-use fsfs_fetch::{disk_of, over_disk};
 use fsfs_base::RevNum;
-use fsfs_jobs::{Stopped, do_edits};
-use fsfs_job_run::read_job;
-use fsfs_jobs::{JobAnswer, print_job_line};
-use fsfs_memory::{MemBench, MemDisk};
-use fsfs_memory::{MemSink, MemSource};
+use fsfs_cli::{Fault, RequestFault, Tool, print_fault};
 use fsfs_create::open;
+use fsfs_fetch::{disk_of, over_disk};
+use fsfs_job_run::read_job;
+use fsfs_jobs::{JobAnswer, Stopped, do_edits, print_job_line};
+use fsfs_memory::{MemBench, MemDisk, MemSink, MemSource, Transcript};
 use fsfs_script::{Base, CommitJob, Job, Jobs, ReadJob, Steps, read_script};
 use std::alloc::Global;
 

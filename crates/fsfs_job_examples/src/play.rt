@@ -2,8 +2,7 @@
 use crate::jobs::run;
 use fsfs_base::{Failed, Name};
 use fsfs_disk::Disk;
-use fsfs_memory::{Transcript, bytes_of};
-use fsfs_memory::MemDisk;
+use fsfs_memory::{MemDisk, Transcript, bytes_of};
 use std::alloc::{AllocError, Global};
 
 // A repository, the script so far, and what has been printed.

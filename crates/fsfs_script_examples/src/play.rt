@@ -2,8 +2,7 @@
 use crate::line::Line;
 use crate::shown::{put_error, put_job};
 use anyhow::Result;
-use fsfs_memory::{Transcript, bytes_of};
-use fsfs_memory::MemSource;
+use fsfs_memory::{MemSource, Transcript, bytes_of};
 use fsfs_script::Script;
 use std::alloc::{AllocError, Global};
 

@@ -2,9 +2,7 @@
 use crate::machine::{machine, run};
 use crate::overtaking::Overtaking;
 use crate::ways::{Course, Way};
-use fsfs_memory::Transcript;
-use fsfs_memory::MemHost;
-use fsfs_memory::NoGate;
+use fsfs_memory::{MemHost, NoGate, Transcript};
 use fsfs_top::Tool;
 use std::alloc::Global;
 use std::sync::Wait;

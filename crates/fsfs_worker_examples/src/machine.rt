@@ -1,8 +1,8 @@
 // A machine with one disk in memory, at the path `R`, on which the programs run.
-use fsfs_memory::Transcript;
-use fsfs_memory::{MemDisk, MemHost};
-use fsfs_memory::{FixedClock, FixedDice, MemSink, MemSource, NoGate};
 use fsfs_base::Gate;
+use fsfs_memory::{
+    FixedClock, FixedDice, MemDisk, MemHost, MemSink, MemSource, NoGate, Transcript,
+};
 use fsfs_top::{Tool, command};
 use std::alloc::{AllocError, Global};
 use std::sync::Wait;

@@ -1,6 +1,6 @@
 // A gate at which other jobs commit each time that a job is about to ask for the write lock.
-use fsfs_memory::HoldGate;
 use fsfs_base::{Gate, GatePlace};
+use fsfs_memory::HoldGate;
 use std::alloc::{AllocError, Global};
 use std::sync::atomic::AtomicUsize;
 use std::sync::atomic::Ordering::SeqCst;

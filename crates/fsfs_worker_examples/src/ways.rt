@@ -1,6 +1,6 @@
 // The ways in which a script is run.
-use fsfs_memory::HoldGate;
 use fsfs_base::GatePlace;
+use fsfs_memory::HoldGate;
 use std::alloc::{AllocError, Global};
 
 /// A job that is held at a place until another has passed a place.

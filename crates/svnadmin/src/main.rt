@@ -1,4 +1,4 @@
-//! Administers repositories: `svnadmin create REPOS [--shard N]`.
+//! Administers repositories: `svnadmin create REPOS [--shard N]`, `lstxns REPOS` and `rmtxns REPOS TXN...`.
 #![tactic(auto)]
 
 use fsfs_run::{Tool, run};

@@ -1,4 +1,4 @@
-//! Looks into repositories: `svnlook youngest`, `uuid`, `tree` and `cat`.
+//! Looks into repositories: `svnlook youngest`, `uuid`, `tree`, `cat`, `changed`, `history`, `author`, `date`, `log` and `info`.
 #![tactic(auto)]
 
 use fsfs_run::{Tool, run};
