@@ -49,7 +49,7 @@ impl<C: Calls + Drop> FolderDisk<C> {
         ensures bench_faults { result.bench_faults ≡ 0 }
     {
         let folders = Folders::new(alloc, calls);
-        FolderDisk::over(alloc, folders, Found::nothing(alloc), path, writes)
+        FolderDisk::over(alloc, folders, Found::Ready, path, writes)
     }
 
     /// The disk of a path over what stands there.
@@ -172,7 +172,7 @@ impl<C: Calls + Drop> Disk for FolderDisk<C> {
 
     fn put(&mut self, name: &Name, bytes: &[u8]) -> Result<(), Failed> {
         self.last_read = None;
-        if self.found.is_barred {
+        if self.found.is_barred() {
             return self.refuse();
         }
         let done = self.folders.put(name, bytes);
@@ -181,7 +181,7 @@ impl<C: Calls + Drop> Disk for FolderDisk<C> {
 
     fn rename(&mut self, from: &Name, to: &Name) -> Result<(), Failed> {
         self.last_read = None;
-        if self.found.is_barred {
+        if self.found.is_barred() {
             return self.refuse();
         }
         let done = self.folders.rename(from, to);
@@ -190,7 +190,7 @@ impl<C: Calls + Drop> Disk for FolderDisk<C> {
 
     fn remove(&mut self, name: &Name) -> Result<bool, Failed> {
         self.last_read = None;
-        if self.found.is_barred {
+        if self.found.is_barred() {
             return self.refuse();
         }
         let was_there = self.folders.remove(name);
@@ -205,7 +205,7 @@ impl<C: Calls + Drop> Disk for FolderDisk<C> {
 
     fn make_folder(&mut self, name: &Name) -> Result<(), Failed> {
         self.last_read = None;
-        if self.found.is_barred {
+        if self.found.is_barred() {
             return self.refuse();
         }
         let done = self.folders.make_folder(name);
@@ -214,7 +214,7 @@ impl<C: Calls + Drop> Disk for FolderDisk<C> {
 
     fn drop_folder(&mut self, name: &Name) -> Result<(), Failed> {
         self.last_read = None;
-        if self.found.is_barred {
+        if self.found.is_barred() {
             return self.refuse();
         }
         let done = self.folders.drop_folder(name);
@@ -235,7 +235,7 @@ impl<C: Calls + Drop> Disk for FolderDisk<C> {
 
     fn bench(&mut self, label: &Label) -> Result<FolderBench<C>, Failed> {
         self.last_read = None;
-        if self.found.is_barred {
+        if self.found.is_barred() {
             return self.refuse();
         }
         let made = self.folders.bench(label);
@@ -255,7 +255,7 @@ impl<C: Calls + Drop> Disk for FolderDisk<C> {
             self.bench_faults = self.bench_faults.saturating_add(bench.faults());
         }
         self.last_read = None;
-        if self.found.is_barred {
+        if self.found.is_barred() {
             return self.refuse();
         }
         let was_there = self.folders.drop_bench(label);
@@ -264,7 +264,7 @@ impl<C: Calls + Drop> Disk for FolderDisk<C> {
 
     fn adopt(&mut self, bench: &mut FolderBench<C>, file: &Name, to: &Name) -> Result<(), Failed> {
         self.last_read = None;
-        if self.found.is_barred {
+        if self.found.is_barred() {
             return self.refuse();
         }
         let done = bench.give(&mut self.folders, file, to);

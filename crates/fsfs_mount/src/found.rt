@@ -1,51 +1,37 @@
 // What a mount found at its path.
 use fsfs_base::Name;
-use std::alloc::Global;
 
 /// What a mount found at its path.
 #[derive(Drop)]
-pub struct Found {
-    /// There was no folder, and one was made.
-    pub is_new: bool,
-    /// The folders of a creation that weren't there, those above first; none where there was a repository.
-    pub absent: Vec<Name>,
-    /// A creation has begun, and left its mark.
-    pub is_marked: bool,
-    /// Nothing is locked, so nothing may be changed.
-    pub is_barred: bool,
+pub enum Found {
+    /// What was to be read or changed: nothing was made that would have to be taken away again.
+    Ready,
+    /// Nothing that could be changed, so nothing is locked: there is no repository to be changed, or one where another was to be made.
+    Barred,
+    /// Room for a creation, which has begun and left its mark.
+    Room(Room),
 }
 
 impl Found {
-    // Nothing to be taken away again.
-    fn with_bar(alloc: Global, is_barred: bool) -> Found {
-        Found {
-            is_new: false,
-            absent: Vec::new(alloc),
-            is_marked: false,
-            is_barred,
+    /// Whether nothing may be changed.
+    pub fn is_barred(&self) -> bool {
+        match self {
+            Found::Barred => true,
+            Found::Ready | Found::Room(_) => false,
         }
     }
+}
 
-    /// Nothing to be taken away again.
-    pub fn nothing(alloc: Global) -> Found {
-        Found::with_bar(alloc, false)
-    }
+/// What wasn't there where a repository is to be made, and was made for it.
+#[derive(Drop)]
+pub struct Room {
+    /// There was no folder, and one was made.
+    pub is_new: bool,
+    /// The folders of a creation that weren't there, those above first.
+    pub absent: Vec<Name>,
+}
 
-    /// Nothing that could be changed: there is no repository to be changed, or one where another was to be made.
-    pub fn barred(alloc: Global) -> Found {
-        Found::with_bar(alloc, true)
-    }
-
-    /// Room for a creation.
-    pub fn room(is_new: bool, absent: Vec<Name>) -> Found {
-        Found {
-            is_new,
-            absent,
-            is_marked: true,
-            is_barred: false,
-        }
-    }
-
+impl Room {
     // How many of the folders that weren't there are the folder `db` itself: it comes first.
     fn outer_count(&self) -> usize {
         match self.absent.first() {

@@ -8,7 +8,7 @@ ghost use Rattle.fsfs_mount.specs.Places.{told_at};
 use crate::disk::FolderDisk;
 use crate::doubts::doubt_names;
 use crate::file_system::FileSystem;
-use crate::found::Found;
+use crate::found::{Found, Room};
 use crate::ground::{
     MARK, absent_folders, holds_only_mark, is_there, refuse_below_repository, refuse_other_disks,
 };
@@ -50,10 +50,10 @@ fn prepare_to_write<F: FileSystem>(
     ensures { told (F.Root.history folders.new.calls) ≡ told (F.Root.history folders.old.calls) }
 {
     if folders.size(&OnlyFile::Format.name())?.is_none() {
-        return Ok(Found::barred(alloc));
+        return Ok(Found::Barred);
     }
     make_writable(alloc, files, folders, path)?;
-    Ok(Found::nothing(alloc))
+    Ok(Found::Ready)
 }
 
 // Makes a folder ready for a creation, while its lock is held: refuses one with anything but what a creation leaves that was cut off,
@@ -105,14 +105,14 @@ fn prepare_new<F: FileSystem>(
 {
     let is_new = !is_there(files, alloc, path, "");
     if make_new(folders, is_new).is_err() {
-        return Ok(Found::barred(alloc));
+        return Ok(Found::Barred);
     }
     folders.lock_folder(&Path::new(""))?;
     if folders.size(&OnlyFile::Format.name())?.is_some() {
-        return Ok(Found::barred(alloc));
+        return Ok(Found::Barred);
     }
     match make_room(alloc, files, folders, path) {
-        Ok(absent) => Ok(Found::room(is_new, absent)),
+        Ok(absent) => Ok(Found::Room(Room { is_new, absent })),
         Err(error) => {
             drop_new(files, path, is_new);
             Err(error)
@@ -131,7 +131,7 @@ fn prepare_to_create<F: FileSystem>(
     ensures same { (p : List ℕ) → F.record_at files.new p ≡ F.record_at files.old p }
 {
     if folders.size(&OnlyFile::Format.name())?.is_some() {
-        return Ok(Found::barred(alloc));
+        return Ok(Found::Barred);
     }
     prepare_new(alloc, files, folders, path)
 }
@@ -148,7 +148,7 @@ fn prepare<F: FileSystem>(
     ensures same { (p : List ℕ) → F.record_at files.new p ≡ F.record_at files.old p }
 {
     match access {
-        Access::Read => Ok(Found::nothing(alloc)),
+        Access::Read => Ok(Found::Ready),
         Access::Write => prepare_to_write(alloc, files, folders, path),
         Access::Create => prepare_to_create(alloc, files, folders, path),
     }
@@ -268,15 +268,15 @@ fn take_away<F: FileSystem>(
     ensures told { told (F.Root.history folders.new.calls) ≡ told (F.Root.history folders.old.calls) }
     ensures same { (p : List ℕ) → F.record_at files.new p ≡ F.record_at files.old p }
 {
-    if !found.is_marked {
+    let Found::Room(room) = found else {
         return;
-    }
+    };
     match folders.size(&OnlyFile::Format.name()) {
         Ok(None) => {
-            drop_all(alloc, files, folders, path, found.inner());
+            drop_all(alloc, files, folders, path, room.inner());
             take_mark_away(alloc, files, folders, path, false);
-            drop_all(alloc, files, folders, path, found.outer());
-            drop_new(files, path, found.is_new);
+            drop_all(alloc, files, folders, path, room.outer());
+            drop_new(files, path, room.is_new);
         }
         Ok(Some(_)) => take_mark_away(alloc, files, folders, path, true),
         Err(_) => {}
