@@ -25,7 +25,7 @@ pub use beginning::begin_txn;
 pub use committing::commit_txn;
 pub use fsfs_begin::turn_begin::{BeginFault, Numbers};
 pub use fsfs_commit::Standing;
-pub use fsfs_txn::Txn;
+pub use fsfs_txn::{Deleted, Made, PathOpened, TextSet, Txn, TxnError};
 pub use fsfs_txn_nodes::HeldNodes;
 pub use listing::list_txns;
 pub use opening::OpenedShared;
