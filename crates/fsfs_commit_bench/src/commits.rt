@@ -4,10 +4,8 @@ ghost use Rattle.std.specs.Prelude.{◌≡◌, IsTrue};
 use fsfs_base::{FsPath, Pairs};
 use fsfs_disk::{Bench, Disk};
 use fsfs_memory::{MemSource, NoGate};
-use fsfs_repo::{CommitAnswer, Repo};
+use fsfs_repo::{CommitAnswer, HeldNodes, PathOpened, Repo, TextSet, Txn};
 use fsfs_revision::Book;
-use fsfs_txn::{PathOpened, TextSet, Txn};
-use fsfs_txn_nodes::HeldNodes;
 use std::alloc::Global;
 
 // The moment of each, in microseconds.

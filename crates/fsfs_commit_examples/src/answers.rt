@@ -1,11 +1,9 @@
 // What is answered.
 use fsfs_base::{DiskPlace, OpenFault, TxnName, put_txn_name};
-use fsfs_begin::turn_begin::BeginFault;
 use fsfs_draft::EditError;
 use fsfs_memory::Transcript;
-use fsfs_repo::CommitBar;
+use fsfs_repo::{BeginFault, CommitBar, TxnError};
 use fsfs_revision::Wrong;
-use fsfs_txn::TxnError;
 use std::alloc::Global;
 
 fn say_txn(alloc: Global, name: &TxnName, out: &mut Transcript) {

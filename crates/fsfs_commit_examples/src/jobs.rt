@@ -4,10 +4,8 @@ use crate::lines::{MOMENT, cut};
 use fsfs_base::{FsPath, Pairs, RevNum};
 use fsfs_disk::Bench;
 use fsfs_memory::{MemBench, MemDisk, MemSource, NoGate, Transcript, bytes_of};
-use fsfs_repo::{CommitAnswer, Repo};
+use fsfs_repo::{CommitAnswer, Deleted, HeldNodes, Made, PathOpened, Repo, TextSet, Txn, TxnError};
 use fsfs_revision::Book;
-use fsfs_txn::{Deleted, Made, PathOpened, TextSet, Txn, TxnError};
-use fsfs_txn_nodes::HeldNodes;
 use std::alloc::Global;
 
 /// A transaction over a bench.

@@ -11,8 +11,8 @@ use fsfs_commit::{CommitFault, CommitRefusal, TxnDraft, commit, dated};
 use fsfs_create::open;
 use fsfs_disk::Bench;
 use fsfs_memory::{MemBench, MemDisk, NoGate, Transcript};
+use fsfs_repo::Txn;
 use fsfs_turn::{Owned, over_turns, turns_of};
-use fsfs_txn::Txn;
 use std::alloc::Global;
 
 fn say_done(done: &Result<RevNum, CommitFault<CommitRefusal>>, out: &mut Transcript) {

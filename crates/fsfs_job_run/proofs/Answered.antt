@@ -11,16 +11,16 @@ use Rattle.fsfs_machine.specs.Machine.{revisions}
 use Rattle.fsfs_machine.proofs.Growing.{revisions_length}
 use Rattle.fsfs_turn.specs.Alone.{BringsNoDoubt, brings_doubt}
 use Rattle.fsfs_turn.specs.Views.{View, IsTxnOver}
-use Rattle.fsfs_commit.specs.Replies.{Committed, Moved}
-use Rattle.fsfs_commit.specs.Works.{Landings}
-use Rattle.fsfs_commit.specs.Dating.{IsDatedAt}
+use Rattle.fsfs_repo.specs.Replies.{Committed, Moved}
+use Rattle.fsfs_repo.specs.Works.{Landings}
+use Rattle.fsfs_repo.specs.Dating.{IsDatedAt}
 use Rattle.fsfs_repo.specs.Commits.{Bars, IfFailed, IsDropped, Meets}
 use Rattle.fsfs_repo.specs.declared.answers.CommitAnswer.{CommitAnswer}
 use Rattle.fsfs_repo.specs.declared.answers.CommitAnswer.TheVariants as replies
 use Rattle.fsfs_base.specs.declared.failed.Failed.{Failed}
 use Rattle.fsfs_base.specs.declared.txn_name.TxnName.{TxnName}
 use Rattle.fsfs_draft.specs.Drafts.{Folder}
-use Rattle.fsfs_commit.specs.Meaning.{IsTxnOf}
+use Rattle.fsfs_repo.specs.Meaning.{IsTxnOf}
 use Rattle.fsfs_repo.specs.declared.answers.CommitBar.{CommitBar}
 use Rattle.fsfs_script.specs.declared.job.CommitJob.{CommitJob}
 use Rattle.fsfs_script.specs.declared.job.Job.TheVariants as jobs

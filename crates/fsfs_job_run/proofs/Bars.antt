@@ -10,8 +10,8 @@ use Rattle.fsfs_machine.specs.declared.machine.Txn.{Txn}
 use Rattle.fsfs_machine.specs.Machine.{revisions}
 use Rattle.fsfs_machine.proofs.Growing.{revisions_length}
 use Rattle.fsfs_turn.specs.Views.{View, IsTxnOver}
-use Rattle.fsfs_commit.specs.Works.{Landings}
-use Rattle.fsfs_commit.specs.Refusals.{IsClashAt}
+use Rattle.fsfs_repo.specs.Works.{Landings}
+use Rattle.fsfs_repo.specs.Refusals.{IsClashAt}
 use Rattle.fsfs_repo.specs.Commits.{Bars}
 use Rattle.fsfs_repo.specs.declared.answers.CommitBar.{CommitBar}
 use Rattle.fsfs_repo.specs.declared.answers.CommitBar.TheVariants as bars

@@ -15,10 +15,10 @@ use Rattle.fsfs_turn.specs.Bytes.{bytes_of}
 use Rattle.fsfs_turn.specs.Views.{View}
 use Rattle.fsfs_cli.specs.FaultsFaults.{fault_from_wrong}
 use Rattle.fsfs_cli.specs.declared.faults_fault.Fault.{Fault}
-use Rattle.fsfs_begin.specs.Steps.{Moved}
-use Rattle.fsfs_begin.specs.Faults.{Cause, IfDisk, LacksNumber}
-use Rattle.fsfs_begin.specs.declared.turn_begin_begin_fault.BeginFault.{BeginFault}
-use Rattle.fsfs_begin.specs.declared.turn_begin_begin_fault.BeginFault.TheVariants as begin
+use Rattle.fsfs_repo.specs.BeginSteps.{Moved}
+use Rattle.fsfs_repo.specs.BeginFaults.{Cause, IfDisk, LacksNumber}
+use Rattle.fsfs_repo.specs.BeginFault.{BeginFault}
+use Rattle.fsfs_repo.specs.BeginFault.TheVariants as begin
 use Rattle.fsfs_repo.specs.Begun.{BeginsTxn}
 use Rattle.fsfs_script.specs.declared.job.CommitJob.{CommitJob}
 use Rattle.fsfs_script.specs.declared.job.Job.TheVariants as jobs

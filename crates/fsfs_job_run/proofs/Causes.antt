@@ -9,9 +9,9 @@ use Rattle.fsfs_cli.specs.declared.faults_fault.Fault.{Fault}
 use Rattle.fsfs_cli.specs.declared.faults_fault.Fault.TheVariants.{Words, Request, Repository, Outside, Memory, Limit}
 use Rattle.fsfs_cli.specs.declared.outside_fault.OutsideFault.TheVariants as outside
 use Rattle.fsfs_cli.specs.declared.request_fault.RequestFault.TheVariants.{NoRev}
-use Rattle.fsfs_begin.specs.Faults.{IfDisk as IfBeginFails}
-use Rattle.fsfs_begin.specs.declared.turn_begin_begin_fault.BeginFault.{BeginFault}
-use Rattle.fsfs_begin.specs.declared.turn_begin_begin_fault.BeginFault.TheVariants as begin
+use Rattle.fsfs_repo.specs.BeginFaults.{IfDisk as IfBeginFails}
+use Rattle.fsfs_repo.specs.BeginFault.{BeginFault}
+use Rattle.fsfs_repo.specs.BeginFault.TheVariants as begin
 use Rattle.fsfs_repo.specs.declared.answers.CommitBar.{CommitBar}
 use Rattle.fsfs_repo.specs.declared.answers.CommitBar.TheVariants as bars
 use Rattle.fsfs_jobs.specs.declared.answer.JobAnswer.{JobAnswer}

@@ -15,8 +15,8 @@ use Rattle.fsfs_machine.specs.declared.machine.Txn.{Txn}
 use Rattle.fsfs_machine.specs.Machine.{revisions}
 use Rattle.fsfs_machine.proofs.Growing.{revisions_length}
 use Rattle.fsfs_turn.specs.Views.{Begins, IsTxnOver}
-use Rattle.fsfs_commit.specs.Works.{LandedOn, Unmoved, Moved}
-use Rattle.fsfs_commit.proofs.Handing.{over_of, whole_revisions, whole_clear, whole_tree}
+use Rattle.fsfs_repo.specs.Works.{LandedOn, Unmoved, Moved}
+use Rattle.fsfs_repo.proofs.Handing.{over_of, whole_revisions, whole_clear, whole_tree}
 use Rattle.fsfs_job_run.specs.Clashes.{ClashesFirst, LandedClashesAreClashes}
 
 -- behind one landing

@@ -16,14 +16,14 @@ use Rattle.fsfs_machine.specs.declared.machine.Txn.{Txn}
 use Rattle.fsfs_machine.specs.Machine.{revisions}
 use Rattle.fsfs_turn.specs.Bytes.{bytes_of}
 use Rattle.fsfs_turn.specs.Views.{View}
-use Rattle.fsfs_txn.specs.Standing.{Stands}
+use Rattle.fsfs_repo.specs.TxnStanding.{Stands}
 use Rattle.fsfs_turn.specs.Alone.{BringsNoDoubt}
 use Rattle.fsfs_turn.proofs.Doubts.{same_faults}
-use Rattle.fsfs_commit.specs.Meaning.{IsTxnOf}
+use Rattle.fsfs_repo.specs.Meaning.{IsTxnOf}
 use Rattle.fsfs_machine.specs.Kept.{IsIn}
 use Rattle.fsfs_repo.specs.Begun.{BeginsTxn}
 use Rattle.fsfs_repo.specs.Purged.{PurgesAny}
-use Rattle.fsfs_begin.specs.declared.purge_fault.PurgeFault.{PurgeFault}
+use Rattle.fsfs_repo.specs.PurgeFault.{PurgeFault}
 use Rattle.fsfs_machine.specs.declared.machine.Step.TheVariants.{Purge}
 use Rattle.fsfs_turn.specs.Views.{with_txns}
 use Rattle.fsfs_script.specs.declared.edit.Edit.{Edit}

@@ -13,8 +13,8 @@ use Rattle.fsfs_machine.specs.declared.machine.Txn.{Txn}
 use Rattle.fsfs_machine.specs.Machine.{revisions, entry_of}
 use Rattle.fsfs_machine.proofs.Growing.{revisions_length}
 use Rattle.fsfs_turn.specs.Views.{View, IsTxnOver}
-use Rattle.fsfs_commit.specs.Works.{Landings}
-use Rattle.fsfs_commit.specs.Replies.{Committed}
+use Rattle.fsfs_repo.specs.Works.{Landings}
+use Rattle.fsfs_repo.specs.Replies.{Committed}
 use Rattle.fsfs_script.specs.declared.job.CommitJob.{CommitJob}
 use Rattle.fsfs_script.specs.declared.job.Job.TheVariants as jobs
 use Rattle.fsfs_jobs.specs.Properties.{job_properties}

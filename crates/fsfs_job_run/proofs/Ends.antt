@@ -19,10 +19,10 @@ use Rattle.fsfs_turn.specs.Alone.{BringsNoDoubt, brings_doubt}
 use Rattle.fsfs_turn.specs.Learning.{with_spent}
 use Rattle.fsfs_turn.specs.Views.{View, Begins}
 use Rattle.fsfs_turn.proofs.Alone.{same_by_length}
-use Rattle.fsfs_begin.specs.Purged.{HasPurged, HasNotPurged, Purges}
-use Rattle.fsfs_begin.specs.declared.purge_fault.PurgeFault.{PurgeFault}
-use Rattle.fsfs_begin.specs.declared.purge_fault.PurgeFault.TheVariants.{DiskFault}
-use Rattle.fsfs_commit.specs.Replies.{Committed, Moved}
+use Rattle.fsfs_repo.specs.BeginPurged.{HasPurged, HasNotPurged, Purges}
+use Rattle.fsfs_repo.specs.PurgeFault.{PurgeFault}
+use Rattle.fsfs_repo.specs.PurgeFault.TheVariants.{DiskFault}
+use Rattle.fsfs_repo.specs.Replies.{Committed, Moved}
 use Rattle.fsfs_turn.proofs.Doubts.{same_faults, fault_more}
 use Rattle.fsfs_script.specs.declared.job.CommitJob.{CommitJob}
 use Rattle.fsfs_script.specs.declared.job.Job.TheVariants as jobs
@@ -30,7 +30,7 @@ use Rattle.fsfs_jobs.specs.Properties.{undated_properties}
 use Rattle.fsfs_jobs.specs.declared.answer.JobAnswer.{JobAnswer}
 use Rattle.fsfs_jobs.specs.declared.answer.JobAnswer.TheVariants as answers
 use Rattle.fsfs_job_run.specs.Jobs.{Fails, tells_doubt}
-use Rattle.fsfs_commit.specs.Dating.{IsDatedAt}
+use Rattle.fsfs_repo.specs.Dating.{IsDatedAt}
 use Rattle.fsfs_repo.specs.Commits.{IsDropped}
 use Rattle.fsfs_job_run.specs.Running.{Stays, HasOutsideCause}
 use Rattle.fsfs_job_run.specs.Ending.{CommitsTxn, EndsSo}

@@ -4,8 +4,8 @@ use Rattle.std.specs.Prelude.{Option, option_map, Result, Ok, Err, OnOk, OnErr}
 use Rattle.fsfs_base.specs.declared.txn_name.TxnName.{TxnName}
 use Rattle.fsfs_disk.specs.Labels.{Label, with_label, without_label}
 use Rattle.fsfs_disk.specs.Txns.{pair_of, txn_label}
-use Rattle.fsfs_begin.specs.Labels.{IsUnlisted, ListsNoMore}
-use Rattle.fsfs_begin.proofs.Benching.{came_and_went}
+use Rattle.fsfs_repo.specs.BeginLabels.{IsUnlisted, ListsNoMore}
+use Rattle.fsfs_repo.proofs.Benching.{came_and_went}
 use Rattle.fsfs_repo.specs.OwnedRepoLabels.{LeavesLabels, Unlists}
 use Rattle.fsfs_repo.specs.Commits.{IfBack}
 use Rattle.fsfs_repo.specs.declared.answers.CommitAnswer.{CommitAnswer}

@@ -7,9 +7,9 @@ use Rattle.fsfs_layout.specs.declared.layout.Layout.{Layout}
 use Rattle.fsfs_base.specs.declared.place.DiskPlace.{DiskPlace}
 use Rattle.fsfs_base.specs.declared.open_fault.OpenFault.{OpenFault}
 use Rattle.fsfs_base.specs.declared.open_fault.OpenFault.TheVariants.{NotRepo, OtherFormat, Linear, Small, DiskFault, Memory}
-use Rattle.fsfs_create.specs.OpenFaults.{OpensBecause}
+use Rattle.fsfs_repo.specs.OpenFaults.{OpensBecause}
 use Rattle.fsfs_stands.specs.Files.{StandsFor}
-use Rattle.fsfs_create.specs.Known.{HasSeenAll}
+use Rattle.fsfs_repo.specs.Known.{HasSeenAll}
 use Rattle.fsfs_turn.specs.Opening.{LeftoversAgree}
 use Rattle.fsfs_script.specs.Errors.{IfReadFault}
 use Rattle.fsfs_script.specs.Whole.{ReadsScript}

@@ -20,8 +20,8 @@ use Rattle.fsfs_machine.proofs.Growing.{revisions_length}
 use Rattle.fsfs_turn.specs.Alone.{KnowsAlone}
 use Rattle.fsfs_turn.specs.Bytes.{bytes_of}
 use Rattle.fsfs_turn.specs.Views.{View, IsTxnOver}
-use Rattle.fsfs_commit.specs.Meaning.{IsTxnOf}
-use Rattle.fsfs_commit.specs.SeenLemmas.{shown_trees}
+use Rattle.fsfs_repo.specs.Meaning.{IsTxnOf}
+use Rattle.fsfs_repo.specs.SeenLemmas.{shown_trees}
 use Rattle.fsfs_repo.proofs.OwnedRepoShown.{known_shown}
 use Rattle.fsfs_repo.proofs.Shown.{seen_shows}
 

@@ -10,9 +10,9 @@ use Rattle.fsfs_machine.proofs.Growing.{revisions_length}
 use Rattle.fsfs_tree.specs.Dated.{last_of}
 use Rattle.fsfs_turn.specs.Views.{View, Begins, Looked}
 use Rattle.fsfs_turn.proofs.Alone.{same_by_length}
-use Rattle.fsfs_begin.specs.Purged.{HasPurged, HasNotPurged}
+use Rattle.fsfs_repo.specs.BeginPurged.{HasPurged, HasNotPurged}
 use Rattle.fsfs_turn.specs.Alone.{BringsNoDoubt}
-use Rattle.fsfs_commit.specs.Replies.{Committed, Moved as CommitMoved}
+use Rattle.fsfs_repo.specs.Replies.{Committed, Moved as CommitMoved}
 use Rattle.fsfs_turn.proofs.Doubts.{same_faults}
 use Rattle.fsfs_jobs.specs.declared.answer.JobAnswer.{JobAnswer}
 use Rattle.fsfs_jobs.specs.declared.answer.JobAnswer.TheVariants as answers

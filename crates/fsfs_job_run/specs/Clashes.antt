@@ -9,7 +9,7 @@ use Rattle.fsfs_machine.specs.declared.machine.Recorded.{Recorded}
 use Rattle.fsfs_machine.specs.declared.machine.Txn.{Txn}
 use Rattle.fsfs_machine.specs.Machine.{revisions}
 use Rattle.fsfs_turn.specs.Views.{IsTxnOver}
-use Rattle.fsfs_commit.specs.Works.{Landings}
+use Rattle.fsfs_repo.specs.Works.{Landings}
 
 -- the path is the first at which the transaction clashes with this revision of the history
 abbrev pub ClashesFirst : List Recorded → Txn → ℕ → Path → Type 0

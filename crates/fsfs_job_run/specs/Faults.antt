@@ -9,8 +9,8 @@ use Rattle.fsfs_cli.specs.declared.request_fault.RequestFault.TheVariants as req
 use Rattle.fsfs_cli.specs.declared.repository_fault.RepositoryFault.TheVariants as repositories
 use Rattle.fsfs_cli.specs.declared.outside_fault.OutsideFault.TheVariants as outside
 use Rattle.fsfs_cli.specs.declared.limit_fault.LimitFault.TheVariants as limits
-use Rattle.fsfs_begin.specs.declared.turn_begin_begin_fault.BeginFault.{BeginFault}
-use Rattle.fsfs_begin.specs.declared.turn_begin_begin_fault.BeginFault.TheVariants as begin
+use Rattle.fsfs_repo.specs.BeginFault.{BeginFault}
+use Rattle.fsfs_repo.specs.BeginFault.TheVariants as begin
 use Rattle.fsfs_repo.specs.declared.answers.CommitBar.{CommitBar}
 use Rattle.fsfs_repo.specs.declared.answers.CommitBar.TheVariants as bars
 use Rattle.fsfs_jobs.specs.declared.answer.JobAnswer.{JobAnswer}

@@ -2,8 +2,8 @@
 ghost use Rattle.std.specs.Prelude.{◌≡◌};
 ghost use Rattle.fsfs_job_run.specs.Faults.{fault_of_begin};
 
-use fsfs_begin::turn_begin::BeginFault;
 use fsfs_cli::{Fault, LimitFault, OutsideFault, RepositoryFault, RequestFault};
+use fsfs_repo::BeginFault;
 
 /// The fault of a job whose transaction was not begun.
 pub fn of_begin(fault: BeginFault) -> Fault

@@ -8,9 +8,9 @@ ghost use Rattle.fsfs_machine.specs.Kept.{IsIn};
 ghost use Rattle.fsfs_turn.specs.Bytes.{bytes_of};
 ghost use Rattle.fsfs_turn.specs.Mountings.{RoseBy};
 ghost use Rattle.fsfs_turn.specs.Views.{View};
-ghost use Rattle.fsfs_begin.specs.Labels.{IsUnlisted};
+ghost use Rattle.fsfs_repo.specs.BeginLabels.{IsUnlisted};
 ghost use Rattle.fsfs_disk.specs.Txns.{pair_of, txn_label};
-ghost use Rattle.fsfs_txn.specs.Standing.{Stands};
+ghost use Rattle.fsfs_repo.specs.TxnStanding.{Stands};
 ghost use Rattle.fsfs_jobs.specs.Editing.{AreEditing, IfBench, IfDisk};
 ghost use Rattle.fsfs_job_run.specs.TextReads.{IfAnswerFails};
 ghost use Rattle.fsfs_job_run.specs.Jobs.{bench_told};
@@ -25,11 +25,9 @@ use fsfs_base::{Gate, RevNum};
 use fsfs_disk::Disk;
 use fsfs_draft::Own;
 use fsfs_jobs::{JobAnswer, Stopped, do_edits};
-use fsfs_repo::Repo;
+use fsfs_repo::{HeldNodes, Repo, Txn};
 use fsfs_script::{CommitJob, Steps};
 use fsfs_turn::{Owned, Turns};
-use fsfs_txn::Txn;
-use fsfs_txn_nodes::HeldNodes;
 use std::alloc::Global;
 
 // Does the edits of a job over the repository's own book.

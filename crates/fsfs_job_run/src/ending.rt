@@ -8,9 +8,9 @@ ghost use Rattle.fsfs_tree.specs.Dated.{last_of};
 ghost use Rattle.fsfs_turn.specs.Mountings.{RoseBy};
 ghost use Rattle.fsfs_turn.specs.Views.{View};
 ghost use Rattle.fsfs_turn.specs.Alone.{BringsNoDoubt};
-ghost use Rattle.fsfs_begin.specs.Labels.{IsUnlisted};
+ghost use Rattle.fsfs_repo.specs.BeginLabels.{IsUnlisted};
 ghost use Rattle.fsfs_disk.specs.Txns.{pair_of, txn_label};
-ghost use Rattle.fsfs_commit.specs.Meaning.{IsTxnOf};
+ghost use Rattle.fsfs_repo.specs.Meaning.{IsTxnOf};
 ghost use Rattle.fsfs_cli.specs.declared.faults_fault.Fault.TheVariants.{Outside};
 ghost use Rattle.fsfs_jobs.specs.declared.answer.JobAnswer.TheVariants.{Stopped};
 ghost use Rattle.fsfs_jobs.specs.Properties.{undated_properties};
@@ -25,12 +25,10 @@ use fsfs_cli::{Fault, LimitFault, OutsideFault};
 use fsfs_disk::Disk;
 use fsfs_draft::Own;
 use fsfs_jobs::{JobAnswer, properties_of};
-use fsfs_repo::{CommitAnswer, CommitBar, Repo};
+use fsfs_repo::{CommitAnswer, CommitBar, HeldNodes, Repo, Txn};
 use fsfs_revision::{Refusal, Wrong};
 use fsfs_script::CommitJob;
 use fsfs_turn::{Owned, Turns};
-use fsfs_txn::Txn;
-use fsfs_txn_nodes::HeldNodes;
 use std::alloc::Global;
 
 // The fault of a merge that met wrong bytes.

@@ -13,3 +13,7 @@ pub mod Crashes
 mod OwnedRepoUnlisted
 mod Leaving
 mod Opened
+pub use Rattle.fsfs_begin.proofs.Benching
+pub use Rattle.fsfs_commit.proofs.Handing
+pub use Rattle.fsfs_commit.proofs.Pinning
+pub use Rattle.fsfs_commit.proofs.Turning

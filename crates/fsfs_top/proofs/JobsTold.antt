@@ -8,9 +8,9 @@ use Rattle.fsfs_cli.specs.declared.request.Task.TheVariants.{RunJobs}
 use Rattle.fsfs_cli.specs.declared.tool.Tool.TheVariants.{Jobs}
 use Rattle.fsfs_cli.specs.declared.faults_fault.Fault.{Fault}
 use Rattle.fsfs_turn.specs.Mountings.{RoseBy}
-use Rattle.fsfs_job_run.specs.Listed.{LeavesListed}
-use Rattle.fsfs_job_run.proofs.ListedLemmas.{none_begun, none_is_left}
-use Rattle.fsfs_job_run.specs.Runs.{RunScene, RunsScript, NotOpened, NotRead, NoRoom, Done}
+use Rattle.fsfs_workers.specs.Listed.{LeavesListed}
+use Rattle.fsfs_workers.proofs.ListedLemmas.{none_begun, none_is_left}
+use Rattle.fsfs_workers.specs.Runs.{RunScene, RunsScript, NotOpened, NotRead, NoRoom, Done}
 use Rattle.fsfs_top.specs.Scenes.{Scene, SourceScene}
 use Rattle.fsfs_top.specs.Scripts.{DidJobs, ListsNoOther, RunsAt, run_scene}
 use Rattle.fsfs_top.specs.Transactions.{HasSameLabels}

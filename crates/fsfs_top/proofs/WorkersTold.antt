@@ -3,13 +3,13 @@ use Rattle.std.proofs.Common.{◌≡◌, ℕ, Bool, inl, inr, arith}
 use Rattle.std.specs.Prelude.{Option, Result}
 use Rattle.fsfs_base.specs.Failures.{added_count}
 use Rattle.fsfs_disk.specs.Trace.{Trace}
-use Rattle.fsfs_job_run.specs.Lines.{RoseBy}
+use Rattle.fsfs_workers.specs.Lines.{RoseBy}
 use Rattle.fsfs_cli.specs.declared.faults_fault.Fault.{Fault}
 use Rattle.fsfs_base.specs.declared.open_fault.OpenFault.{OpenFault}
 use Rattle.fsfs_base.specs.declared.open_fault.OpenFault.TheVariants.{NotRepo, OtherFormat, Linear, Small, DiskFault, Memory}
 use Rattle.fsfs_create.specs.OpenFaults.{OpensBecause}
-use Rattle.fsfs_job_run.specs.Runs.{RunScene}
-use Rattle.fsfs_job_run.proofs.RunLemmas.{runs_weaker}
+use Rattle.fsfs_workers.specs.Runs.{RunScene}
+use Rattle.fsfs_workers.proofs.RunLemmas.{runs_weaker}
 use Rattle.fsfs_workers.specs.ByWorkers.{RunsBeside, NotOpened, NotRead, NoRoom, Done, Lost, scene_where}
 use Rattle.fsfs_top.specs.Scripts.{RunsBy}
 

@@ -18,7 +18,7 @@ use Rattle.fsfs_cli.specs.Readings.{Asks, Refuses}
 use Rattle.fsfs_cli.specs.declared.fault.WordsFault.{WordsFault}
 use Rattle.fsfs_cli.specs.declared.request.Task.TheVariants.{RunJobs}
 use Rattle.fsfs_cli.specs.declared.tool.Tool.TheVariants.{Jobs}
-use Rattle.fsfs_job_run.specs.Runs.{RunScene, RunsScript}
+use Rattle.fsfs_workers.specs.Runs.{RunScene, RunsScript}
 use Rattle.fsfs_workers.specs.ByWorkers.{RunsByWorkers}
 use Rattle.fsfs_top.specs.Scenes.{Scene, SourceScene}
 

@@ -4,15 +4,14 @@ ghost use Rattle.fsfs_cli.specs.Readings.{Asks};
 ghost use Rattle.fsfs_cli.specs.declared.request.Task.TheVariants.{RunJobs};
 ghost use Rattle.fsfs_cli.specs.declared.tool.Tool.TheVariants.{Jobs};
 ghost use Rattle.fsfs_turn.specs.Mountings.{RoseBy};
-ghost use Rattle.fsfs_job_run.specs.Runs.{run_scene};
+ghost use Rattle.fsfs_workers.specs.Runs.{run_scene};
 ghost use Rattle.fsfs_top.specs.Scenes.{scene, source_scene};
 ghost use Rattle.fsfs_top.specs.Scripts.{DidJobs, HasHistory, RunsAt, RunsBy};
 
 use fsfs_base::{Clock, Gate, Sink, Source};
 use fsfs_cli::{Fault, OutsideFault, Task, Tool, read_words};
 use fsfs_disk::{Access, Disk, Host};
-use fsfs_job_run::run_script;
-use fsfs_workers::run_script_by_two;
+use fsfs_workers::{run_script, run_script_by_two};
 use std::alloc::Global;
 use std::sync::Wait;
 use std::thread::Threads;

@@ -22,3 +22,5 @@ pub mod Readiness
 pub mod Ran
 mod Begun
 mod Ends
+pub use Rattle.fsfs_job_run.proofs.ListedLemmas
+pub use Rattle.fsfs_job_run.proofs.RunLemmas

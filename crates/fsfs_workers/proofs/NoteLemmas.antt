@@ -5,9 +5,9 @@ use Rattle.fsfs_base.specs.declared.txn_name.TxnName.{TxnName}
 use Rattle.fsfs_draft.specs.Drafts.{Folder}
 use Rattle.fsfs_machine.specs.declared.machine.Txn.{Txn}
 use Rattle.fsfs_turn.specs.Views.{View}
-use Rattle.fsfs_commit.specs.Pinned.{IsPinned}
-use Rattle.fsfs_commit.specs.declared.standing.Standing.{Standing}
-use Rattle.fsfs_commit.proofs.Pinning.{unpinned}
+use Rattle.fsfs_repo.specs.Pinned.{IsPinned}
+use Rattle.fsfs_repo.specs.Standing.{Standing}
+use Rattle.fsfs_repo.proofs.Pinning.{unpinned}
 use Rattle.fsfs_script.specs.declared.job.CommitJob.{CommitJob}
 use Rattle.fsfs_repo.specs.Standings.{NotesOne}
 use Rattle.fsfs_workers.specs.Working.{IsEditedNoted, IsEditedTxn}

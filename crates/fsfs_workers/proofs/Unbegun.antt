@@ -11,12 +11,12 @@ use Rattle.fsfs_revision.specs.ShowsReading.{RootOf}
 use Rattle.fsfs_tree.specs.Revisions.{tree_of}
 use Rattle.fsfs_turn.specs.Bytes.{AllShow, bytes_of}
 use Rattle.fsfs_turn.specs.Views.{View}
-use Rattle.fsfs_commit.specs.SeenLemmas.{shown_trees}
+use Rattle.fsfs_repo.specs.SeenLemmas.{shown_trees}
 use Rattle.fsfs_repo.proofs.Shown.{seen_shows}
-use Rattle.fsfs_begin.specs.Faults.{Cause, IfDisk, LacksNumber}
-use Rattle.fsfs_begin.specs.Steps.{Moved}
-use Rattle.fsfs_begin.specs.declared.turn_begin_begin_fault.BeginFault.{BeginFault}
-use Rattle.fsfs_begin.specs.declared.turn_begin_begin_fault.BeginFault.TheVariants as begin
+use Rattle.fsfs_repo.specs.BeginFaults.{Cause, IfDisk, LacksNumber}
+use Rattle.fsfs_repo.specs.BeginSteps.{Moved}
+use Rattle.fsfs_repo.specs.BeginFault.{BeginFault}
+use Rattle.fsfs_repo.specs.BeginFault.TheVariants as begin
 use Rattle.fsfs_repo.specs.Begun.{BeginsTxnAmong}
 use Rattle.fsfs_script.specs.declared.job.CommitJob.{CommitJob}
 use Rattle.fsfs_script.specs.declared.job.Job.TheVariants as jobs

@@ -5,7 +5,7 @@ use Rattle.fsfs_base.specs.declared.small_fault.SmallFile.TheVariants.{Current}
 use Rattle.fsfs_tree.specs.Revisions.{Revision}
 use Rattle.fsfs_disk.specs.Trace.{Trace, files_now}
 use Rattle.fsfs_stands.specs.Files.{StandsFor}
-use Rattle.fsfs_create.specs.OpenFaults.{OpensBecause}
+use Rattle.fsfs_repo.specs.OpenFaults.{OpensBecause}
 use Rattle.fsfs_base.specs.declared.open_fault.OpenFault.{OpenFault}
 use Rattle.fsfs_script.specs.declared.job.Job.{Job}
 use Rattle.fsfs_script.specs.Errors.{IfReadFault}

@@ -11,8 +11,8 @@ use Rattle.fsfs_machine.specs.Machine.{revisions}
 use Rattle.fsfs_turn.specs.Alone.{BringsNoDoubt}
 use Rattle.fsfs_turn.specs.Views.{View, Begins}
 use Rattle.fsfs_draft.specs.Drafts.{Folder}
-use Rattle.fsfs_commit.specs.Meaning.{IsTxnOf}
-use Rattle.fsfs_commit.specs.declared.standing.Standing.{Standing}
+use Rattle.fsfs_repo.specs.Meaning.{IsTxnOf}
+use Rattle.fsfs_repo.specs.Standing.{Standing}
 use Rattle.fsfs_script.specs.declared.job.CommitJob.{CommitJob}
 use Rattle.fsfs_script.specs.declared.job.Job.{Job}
 use Rattle.fsfs_jobs.specs.Edits.{TakesSteps}

@@ -17,16 +17,13 @@ use crate::bases::base_of;
 use crate::editing::edit;
 use crate::noting::note_edited;
 use fsfs_base::{Gate, Pairs, RevNum};
-use fsfs_begin::turn_begin::Numbers;
 use fsfs_cli::{Fault, OutsideFault};
 use fsfs_draft::Own;
 use fsfs_job_run::{barred, of_begin, stopped};
 use fsfs_jobs::{JobAnswer, Stopped, properties_of};
-use fsfs_repo::{CommitAnswer, begin_txn, commit_txn, purge_txn};
+use fsfs_repo::{CommitAnswer, HeldNodes, Numbers, Txn, begin_txn, commit_txn, purge_txn};
 use fsfs_script::CommitJob;
 use fsfs_turn::Turns;
-use fsfs_txn::Txn;
-use fsfs_txn_nodes::HeldNodes;
 use std::alloc::Global;
 
 // Purges a transaction that is not committed. If that fails, its name stays listed.

@@ -6,12 +6,10 @@ ghost use Rattle.fsfs_repo.specs.Standings.{NotesOne};
 ghost use Rattle.fsfs_workers.specs.Working.{IsEditedNoted, IsEditedTxn};
 
 use fsfs_base::{Claims, Note, RevNum};
-use fsfs_commit::Standing;
 use fsfs_draft::Own;
+use fsfs_repo::{HeldNodes, Standing, Txn};
 use fsfs_script::CommitJob;
 use fsfs_turn::Turns;
-use fsfs_txn::Txn;
-use fsfs_txn_nodes::HeldNodes;
 
 // A transaction in which the edits of a job were done, as it stands over what these turns know.
 #[derive(Drop)]

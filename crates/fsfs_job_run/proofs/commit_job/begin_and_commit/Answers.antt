@@ -7,7 +7,7 @@ use Rattle.fsfs_machine.proofs.Growing.{revisions_length}
 use Rattle.fsfs_turn.specs.Alone.{KnowsAlone}
 use Rattle.fsfs_turn.specs.Bytes.{bytes_of}
 use Rattle.fsfs_turn.specs.Mountings.{RoseBy}
-use Rattle.fsfs_begin.specs.Faults.{IfDisk, bench_faults_in}
+use Rattle.fsfs_repo.specs.BeginFaults.{IfDisk, bench_faults_in}
 use Rattle.fsfs_jobs.specs.declared.answer.JobAnswer.TheVariants.{Stopped}
 use Rattle.fsfs_job_run.specs.Running.{CommitsSo}
 use Rattle.fsfs_job_run.specs.TextReads.{IfAnswerFails}

@@ -3,7 +3,7 @@ use Rattle.std.specs.Prelude.{Option}
 use Rattle.fsfs_base.specs.Failures.{added_count}
 use Rattle.fsfs_disk.specs.Trace.{Trace}
 use Rattle.fsfs_turn.specs.Mountings.{RoseBy}
-use Rattle.fsfs_job_run.specs.Runs.{run_scene}
+use Rattle.fsfs_workers.specs.Runs.{run_scene}
 use Rattle.fsfs_top.specs.Scripts.{HasHistory, RunsBy}
 use Rattle.fsfs_top.proofs.WorkersTold.{by_host, run_by_host}
 use Rattle.fsfs_top.proofs.jobs.run_at.Goals as goal

@@ -4,7 +4,7 @@ use Rattle.fsfs_job_run.specs.Jobs.{bench_told}
 use Rattle.fsfs_base.specs.Failures.{Rose}
 use Rattle.fsfs_script.specs.declared.job.Job.TheVariants as jobs
 use Rattle.fsfs_jobs.specs.declared.answer.JobAnswer.TheVariants.{Stopped}
-use Rattle.fsfs_begin.specs.Faults.{IfDisk, bench_faults_in}
+use Rattle.fsfs_repo.specs.BeginFaults.{IfDisk, bench_faults_in}
 use Rattle.fsfs_job_run.specs.Passes.{last_known}
 use Rattle.fsfs_job_run.specs.TextReads.{IfAnswerFails}
 use Rattle.fsfs_job_run.specs.Running.{LacksBase}
