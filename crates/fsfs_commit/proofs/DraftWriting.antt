@@ -1,5 +1,6 @@
 -- Bytes written behind those of a file, and a transaction that nothing was done to.
 use Rattle.std.proofs.Common.{◌≡◌, ◌∙◌, ℕ, List, ◌++◌, sym, ap, subst}
+use Rattle.std.proofs.lemmas.Option.{same_Some}
 use Rattle.std.specs.Prelude.{Option, Some, None, Result, Ok, Err, option_map, IsSome, IfSome, IfErr, OnOk, OnErr}
 use Rattle.fsfs_base.specs.Files.{Files}
 use Rattle.fsfs_base.specs.declared.failed.Failed.{Failed}
@@ -44,13 +45,6 @@ err_then (Err e) P Q f p = f p
 pub if_err : {X E : Type 0} (r : Result X E) (x : E) (P : E → Type 0) → r ≡ Err x → IfErr r P → P x
 if_err r x P e w = subst (λ z. IfErr z P) e w
 
-pub if_err_then : {X E : Type 0} (r : Result X E) (P Q : E → Type 0) → ((e : E) → P e → Q e) → IfErr r P → IfErr r Q
-if_err_then (Ok x) P Q f p = tt
-if_err_then (Err e) P Q f p = f e p
-
-pub some_same : {A : Type 0} (a b : A) → Some a ≡ Some b → a ≡ b
-some_same a b e = cc
-
 -- what was made last, where that is there
 pub held_text : {V : Type 0} (items : V → List ℕ) (o : Option V) (v : V) (more : List ℕ) → o ≡ Some v → option_map items o ≡ Some more → items v ≡ more
-held_text items o v more e w = some_same (items v) more (sym (ap (option_map items) e) ∙ w)
+held_text items o v more e w = same_Some (items v) more (sym (ap (option_map items) e) ∙ w)

@@ -2,6 +2,7 @@
 use Rattle.std.proofs.Common.{◌≡◌, ◌<◌, ◌≤◌, ◌+◌, ◌^◌, ℕ, List, [], ◌∷◌, ◌++◌, length, true, refl, sym, ap, subst, ◌∙◌, arith, take, drop, append-nil}
 use Rattle.std.specs.Prelude.{Option, Some, None, is_some, Result, Ok, Err, IfOk, IfErr, OnOk, OnErr}
 use Rattle.std.proofs.lemmas.List.{take_all, length-take}
+use Rattle.std.proofs.lemmas.Result.{IfOk-weaker, IfErr-weaker}
 use Rattle.fsfs_tree.specs.Revisions.{Revision}
 use Rattle.fsfs_tree.specs.Histories.{IsHistory}
 use Rattle.fsfs_model.specs.Transactions.{IsNext}
@@ -609,23 +610,15 @@ can_next p q v m x y same l = subst (λ z. CanCommit m y z) (sym same) l.can
 pub turn_after : (came : Option ℕ) (p q : List (List ℕ × List ℕ)) (v m o : View) (x y z : Txn) → q ≡ p → Lost p v m x y → IsTurn came q m o y z → IsTurn came p v o x z
 turn_after came p q v m o x y z same l t = turn_on came p v m o x y z l (subst (λ r. IsTurn came r m o y z) same t)
 
-pub if_ok_then : {X E : Type 0} (r : Result X E) (P Q : X → Type 0) → ((x : X) → P x → Q x) → IfOk r P → IfOk r Q
-if_ok_then (Ok x) P Q f p = f x p
-if_ok_then (Err e) P Q f p = tt
-
-pub if_err_then : {X E : Type 0} (r : Result X E) (P Q : E → Type 0) → ((e : E) → P e → Q e) → IfErr r P → IfErr r Q
-if_err_then (Ok x) P Q f p = tt
-if_err_then (Err e) P Q f p = f e p
-
 module _ (K : View → Type 0) (M : List Recorded → Txn → Type 0) (p q : List (List ℕ × List ℕ)) (v m : View) (x y : Txn) (same : q ≡ p) (l : Lost p v m x y) where
   pub all_turns : {E : Type 0} (r : Result (Option ℕ) E) → IfOk r (λ came. (u : View) × (z : Txn) × K u × M u.seen z × IsTurn came q m u y z) → IfOk r (λ came. (u : View) × (z : Txn) × K u × M u.seen z × IsTurn came p v u x z)
-  all_turns r w = if_ok_then r _ _ (λ came a. (a.0, a.1, a.2, a.3, turn_after came p q v m a.0 x y a.1 same l a.4)) w
+  all_turns r w = IfOk-weaker r _ _ (λ came a. (a.0, a.1, a.2, a.3, turn_after came p q v m a.0 x y a.1 same l a.4)) w
 
   pub all_commits : {E : Type 0} (r : Result ℕ E) → IfOk r (λ rev. (u : View) × (z : Txn) × K u × M u.seen z × Committed rev q m u y z) → IfOk r (λ rev. (u : View) × (z : Txn) × K u × M u.seen z × Committed rev p v u x z)
-  all_commits r w = if_ok_then r _ _ (λ rev a. (a.0, a.1, a.2, a.3, turn_after (Some rev) p q v m a.0 x y a.1 same l a.4)) w
+  all_commits r w = IfOk-weaker r _ _ (λ rev a. (a.0, a.1, a.2, a.3, turn_after (Some rev) p q v m a.0 x y a.1 same l a.4)) w
 
   pub all_refusals : {X E : Type 0} (Says : Refusals E) (r : Result X (CommitFault E)) → IfErr r (λ f. (u : View) × (z : Txn) × K u × M u.seen z × Refused Says f m u y z) → IfErr r (λ f. (u : View) × (z : Txn) × K u × M u.seen z × Refused Says f v u x z)
-  all_refusals Says r w = if_err_then r _ _ (λ f a. (a.0, a.1, a.2, a.3, refused_after f p v m a.0 x y a.1 l a.4)) w
+  all_refusals Says r w = IfErr-weaker r _ _ (λ f a. (a.0, a.1, a.2, a.3, refused_after f p v m a.0 x y a.1 l a.4)) w
 
 pub of_rev : (rev same : ℕ) (p : List (List ℕ × List ℕ)) (v u : View) (x y : Txn) → same ≡ rev → Committed rev p v u x y → Committed same p v u x y
 of_rev rev same p v u x y e c = subst (λ n. Committed n p v u x y) (sym e) c
