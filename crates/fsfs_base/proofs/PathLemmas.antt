@@ -10,6 +10,9 @@ same_name-refl x = nat_list_eq_equiv.refl x
 pub same_name-is : (x y : PathName) → same_name x y ≡ true → x ≡ y
 same_name-is x y h = (bytes_decides x y).0 h
 
+pub same_name-symm : (x y : PathName) → same_name x y ≡ same_name y x
+same_name-symm x y = nat_list_eq_equiv.symm x y
+
 pub same_path-is : (q p : Path) → same_path q p ≡ true → q ≡ p
 same_path-is [] [] h = refl
 same_path-is [] (y ∷ p) h = absurd (false≢true h)

@@ -1,5 +1,5 @@
 -- Calls of a begin's section, one after another.
-use Rattle.std.proofs.Common.{◌≡◌, ◌<◌, ℕ, List, [], ◌∷◌, ◌++◌, length, Bool, true, false, cond, refl, sym, ap, subst, ◌∙◌, arith, append-nil, length-append}
+use Rattle.std.proofs.Common.{◌≡◌, ◌<◌, ℕ, List, [], ◌∷◌, ◌++◌, length, Bool, true, false, cond, refl, sym, ap, subst, ◌∙◌, arith, length-append}
 use Rattle.std.proofs.lemmas.Option.{same_Some}
 use Rattle.std.specs.Prelude.{Some, Result, Ok, Err}
 use Rattle.fsfs_base.specs.declared.place.BeginPlace.{BeginPlace}
@@ -16,7 +16,7 @@ use Rattle.fsfs_machine.specs.declared.machine.Step.TheVariants as step
 use Rattle.fsfs_machine.specs.declared.machine.Went.{Went}
 use Rattle.fsfs_machine.specs.declared.machine.Went.TheVariants.{Fine, Before, After, Torn}
 use Rattle.fsfs_machine.specs.Machine.{World, is_fine_in, answer, after, spoiled}
-use Rattle.fsfs_turn.specs.Views.{View, Turned, Begins, with_txns, Called, called_view, given_by}
+use Rattle.fsfs_turn.specs.Views.{View, Turned, with_txns, Called, called_view, given_by}
 use Rattle.fsfs_turn.specs.Learning.{TurnedFrom, CounterRead, drawn_of}
 use Rattle.fsfs_base.specs.declared.txn_name.TxnName.{TxnName}
 use Rattle.fsfs_begin.specs.declared.name_fault.NameFault.TheVariants.{DiskFault, Memory}
@@ -25,9 +25,6 @@ use Rattle.fsfs_begin.specs.Steps.{Steps, End, More, Reached, Stopped, IsGiven}
 use Rattle.fsfs_begin.specs.TurnBeginDrawing.{HasRead, Raises, Draws}
 
 -- ---- courses
-
-pub begins_itself : (h : List Recorded) → Begins h h
-begins_itself h = ([], sym (append-nil h))
 
 pub steps_on : (v m u : View) → Steps v m → Steps m u → Steps v u
 steps_on v m u (End _) more = more

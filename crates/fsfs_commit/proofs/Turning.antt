@@ -1,5 +1,5 @@
 -- The turns of a commit.
-use Rattle.std.proofs.Common.{◌≡◌, ◌<◌, ◌≤◌, ◌+◌, ◌^◌, ℕ, List, [], ◌∷◌, ◌++◌, length, true, refl, sym, ap, subst, ◌∙◌, arith, take, drop, append-nil}
+use Rattle.std.proofs.Common.{◌≡◌, ◌<◌, ◌≤◌, ◌+◌, ◌^◌, ℕ, List, [], ◌∷◌, ◌++◌, length, true, refl, sym, ap, subst, ◌∙◌, arith, take, append-nil}
 use Rattle.std.specs.Prelude.{Option, Some, None, is_some, Result, Ok, Err, IfOk, IfErr, OnOk, OnErr}
 use Rattle.std.proofs.lemmas.List.{take_all, length-take}
 use Rattle.std.proofs.lemmas.Result.{IfOk-weaker, IfErr-weaker}
@@ -35,7 +35,6 @@ use Rattle.fsfs_turn.proofs.Reading.{course_on, begins_on}
 use Rattle.fsfs_turn.proofs.Doubts.{same_faults, looked_doubtless, taken_doubtless, found_doubtless, given_doubtless}
 use Rattle.fsfs_commit.proofs.Doubts.{stopped_doubtless, unless_on}
 use Rattle.fsfs_turn.proofs.Longer.{txn_later}
-use Rattle.fsfs_turn.proofs.Stepping.{take_drop}
 use Rattle.fsfs_commit.proofs.Handing.{entry_back}
 
 -- ---- what a pass drifts by
@@ -132,10 +131,6 @@ by_stopping place v u l = record {
   grows = none_more u.seen v.seen (ap {A = View} (λ z. z.seen) l.is);
   course = course_on v l.before u l.course (one_step [] (ends_at place v.number) outcome.Done l.before u l.last.turned);
 }
-
--- what a draft means stays, as more is seen
-pub begins_take : (n : ℕ) (h : List Recorded) → Begins h (take n h)
-begins_take n h = (drop n h, take_drop n h)
 
 -- ---- landings, as more is seen
 

@@ -14,7 +14,8 @@ use Rattle.fsfs_folders.proofs.PathLemmas.{same_itself}
 use Rattle.fsfs_folders.specs.SameText.{text_cases}
 use Rattle.fsfs_folders.specs.BenchFiles.{file_held, file_or_new, bytes_of, files_held, bench_told, firm_part, firm_held, Follows, Sets, SetsAny, AreShort, AreKept}
 use Rattle.fsfs_folders.specs.Writing.{bytes_there}
-use Rattle.fsfs_folders.proofs.HeldFiles.{get_with, files_told, held_outside}
+use Rattle.fsfs_folders.specs.Laws.{get_with}
+use Rattle.fsfs_folders.proofs.HeldFiles.{files_told, held_outside}
 
 chosen : (b : Bool) (file was : Option Contents) → bytes_of (cond b file was) ≡ cond b (bytes_of file) (bytes_of was)
 chosen true file was = refl

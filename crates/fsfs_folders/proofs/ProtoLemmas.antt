@@ -16,7 +16,8 @@ use Rattle.fsfs_folders.specs.SameText.{text_cases, same_is}
 use Rattle.fsfs_folders.specs.BenchFiles.{file_held, bytes_of, bench_told, firm_held}
 use Rattle.fsfs_folders.specs.Prototypes.{proto_name, is_elsewhere, elsewhere, with_proto, firm_with_proto, whole_told, whole_firm}
 use Rattle.fsfs_folders.specs.Standing.{told}
-use Rattle.fsfs_folders.proofs.HeldFiles.{get_with, files_told}
+use Rattle.fsfs_folders.specs.Laws.{get_with}
+use Rattle.fsfs_folders.proofs.HeldFiles.{files_told}
 
 -- a file that was given something twice has the second
 with_again : (m : Files) (k : List ℕ) (x y : Option (List ℕ)) → with_file k x (with_file k y m) ≡ with_file k x m

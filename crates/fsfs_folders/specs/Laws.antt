@@ -98,15 +98,15 @@ pub images_are_short : (calls : Option CallRecord) (changed : List (List ℕ)) (
 images_are_short None changed settled sound = tt
 images_are_short (Some r) changed settled sound = (all_short r.first r.calls (and_parts (keeps r.first r.calls) (are_names_firm changed r.calls && (not settled || are_folders_firm r.calls)) sound).0).images
 
-with_one : (m : Files) (p : List ℕ) (file : Option (List ℕ)) (q : List ℕ) → get (with_file p file m) q ≡ cond (same_text q p) file (get m q)
-with_one m p None q = get-remove nat_list_cmp_total m p q
-with_one m p (Some bytes) q = get-insert nat_list_cmp_total m p bytes q
+pub get_with : (m : Files) (p : List ℕ) (file : Option (List ℕ)) (q : List ℕ) → get (with_file p file m) q ≡ cond (same_text q p) file (get m q)
+get_with m p None q = get-remove nat_list_cmp_total m p q
+get_with m p (Some bytes) q = get-insert nat_list_cmp_total m p bytes q
 
 -- what is gathered is a file's
 gathered_only : (names : List (List ℕ)) (file_of : List ℕ → Option (List ℕ)) (q bytes : List ℕ) → get (gathered names file_of) q ≡ Some bytes → file_of q ≡ Some bytes
 gathered_only [] file_of q bytes e = absurd (none-some bytes (sym (get-empty _ q) ∙ e))
 gathered_only (p ∷ ps) file_of q bytes e =
-    let now : cond (same_text q p) (file_of p) (get (gathered ps file_of) q) ≡ Some bytes = sym (with_one (gathered ps file_of) p (file_of p) q) ∙ e in
+    let now : cond (same_text q p) (file_of p) (get (gathered ps file_of) q) ≡ Some bytes = sym (get_with (gathered ps file_of) p (file_of p) q) ∙ e in
     ⊎_elim (λ s. ap file_of s.0 ∙ sym (ap (λ b. cond b (file_of p) (get (gathered ps file_of) q)) s.1) ∙ now)
     (λ o. gathered_only ps file_of q bytes (sym (ap (λ b. cond b (file_of p) (get (gathered ps file_of) q)) o.1) ∙ now)) (text_cases q p)
 

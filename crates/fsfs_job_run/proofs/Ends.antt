@@ -18,7 +18,7 @@ use Rattle.fsfs_machine.specs.Machine.{World, revisions}
 use Rattle.fsfs_turn.specs.Alone.{BringsNoDoubt, brings_doubt}
 use Rattle.fsfs_turn.specs.Learning.{with_spent}
 use Rattle.fsfs_turn.specs.Views.{View, Begins}
-use Rattle.fsfs_turn.proofs.Alone.{same_by_length}
+use Rattle.fsfs_turn.proofs.Alone.{same_by_length, longer}
 use Rattle.fsfs_begin.specs.Purged.{HasPurged, HasNotPurged, Purges}
 use Rattle.fsfs_begin.specs.declared.purge_fault.PurgeFault.{PurgeFault}
 use Rattle.fsfs_begin.specs.declared.purge_fault.PurgeFault.TheVariants.{DiskFault}
@@ -35,7 +35,7 @@ use Rattle.fsfs_repo.specs.Commits.{IsDropped}
 use Rattle.fsfs_job_run.specs.Running.{Stays, HasOutsideCause}
 use Rattle.fsfs_job_run.specs.Ending.{CommitsTxn, EndsSo}
 use Rattle.fsfs_job_run.proofs.PropertyLemmas.{job_dated}
-use Rattle.fsfs_job_run.proofs.Staying.{IsCounted, IsBare, seen_same, longer, between, bare_leaves, stays_on, then_stays, purge_stays, no_purge_stays, moved_stays, commit_leaves}
+use Rattle.fsfs_job_run.proofs.Staying.{IsCounted, IsBare, seen_same, between, bare_leaves, stays_on, then_stays, purge_stays, no_purge_stays, moved_stays, commit_leaves}
 use Rattle.fsfs_job_run.proofs.Ended.{commits_added}
 
 -- what a pass knows that is alone: of what it has seen none came but its own, it was told no more than it has seen, and its number is 0

@@ -6,7 +6,7 @@ use Rattle.std.specs.Global.{Global}
 use Rattle.fsfs_base.specs.Paths.{Path}
 use Rattle.fsfs_base.specs.declared.kind.Kind.{Kind}
 use Rattle.fsfs_base.specs.declared.txn_name.TxnName.{TxnName}
-use Rattle.fsfs_tree.specs.Nodes.{Node, TreeFunction}
+use Rattle.fsfs_tree.specs.Nodes.{TreeFunction}
 use Rattle.fsfs_tree.specs.Trees.{IsTree}
 use Rattle.fsfs_tree.specs.Histories.{AreRevisions}
 use Rattle.fsfs_model.specs.Edits.{kind_of_node, with_node, with_prop, bytes_of, fits_value}
@@ -36,6 +36,7 @@ use Rattle.fsfs_jobs.specs.Editing.{IfRefused, Bars, IsEditing, MeetsOnWay, IsSe
 use Rattle.fsfs_txn.specs.Spending.{IsFailure}
 use Rattle.fsfs_jobs.proofs.TellLemmas.{left_refused, failure_refused, or_memory, failed_as}
 use Rattle.fsfs_jobs.proofs.MakeLemmas.{there_found, lacks_unfound, file_unfound}
+use Rattle.fsfs_edit.proofs.MakingAt.{kind_some}
 
 pub refused_more : (P Q : Type 0) (fault : Fault) → (P → Q) → IfRefused fault P → IfRefused fault Q
 refused_more P Q (Request why) f p = f p
@@ -48,10 +49,6 @@ refused_more P Q Memory f p = p
 pub memory_only : (P : Type 0) (fault : Fault) → IsOrMemory Memory fault → IfRefused fault P
 memory_only P fault (inl e) = subst (λ (f : Fault). IfRefused f P) (sym e) tt
 memory_only P fault (inr e) = subst (λ (f : Fault). IfRefused f P) (sym e) tt
-
-pub some_of : (o : Option Node) (kind : Kind) → HasKind o kind → is_some o ≡ true
-some_of None kind h = absurd h
-some_of (Some n) kind h = refl
 
 or_false : (a b : Bool) → (a || b) ≡ false → (a ≡ false) × (b ≡ false)
 or_false false b h = (refl, h)
@@ -126,8 +123,8 @@ module _ (look : RevisionBytes) (trees : ℕ → TreeFunction) (top base : ℕ) 
 
   pub set_here : (kind : Kind) (counted : Bool) (result : Result (Unit {0}) Fault) → HasKind (tree set.path) kind → Counts look trees base stands.shows.0.shows.own set.path counted → IsSetAt look trees top base txn tree marks counted set after result
       → IsEditing (Prop set) txn base after result look trees top tree marks
-  set_here kind counted (Ok done) h c s = (record { fits = set_rows (some_of (tree set.path) kind h) None s.named; space = tt; short = s.short }, s.stands)
-  set_here kind counted (Err fault) h c s = refused_more (RefusesProp counted set fault) (Bars_set fault) fault (refused_set (some_of (tree set.path) kind h) counted fault c) s
+  set_here kind counted (Ok done) h c s = (record { fits = set_rows (kind_some (tree set.path) kind h) None s.named; space = tt; short = s.short }, s.stands)
+  set_here kind counted (Err fault) h c s = refused_more (RefusesProp counted set fault) (Bars_set fault) fault (refused_set (kind_some (tree set.path) kind h) counted fault c) s
 
   pub set_nowhere : (depth : ℕ) (fault : Fault) → LacksAt tree set.path depth → IsOrMemory (found_nothing set.path depth) fault → IfRefused fault (Bars_set fault)
   set_nowhere depth fault l t = or_memory Bars_set (found_nothing set.path depth) fault t (inl (ByTrees (found_nothing set.path depth) (ap (λ (x : Option Fault). or_else x (no_mergeinfo set.name set.path)) (lacks_unfound tree Is set.path depth l))))

@@ -8,8 +8,9 @@ use Rattle.fsfs_folders.specs.Paths.{same_text, has_path}
 use Rattle.fsfs_folders.specs.CallRecord.{Call, Named, Append, SyncFile, FailSync, SyncFolder, Firmed, Beginning, Standing, first_number, first_bytes, file_count, renamed_by, names_after, is_reachable}
 use Rattle.fsfs_folders.proofs.PathLemmas.{or_right}
 use Rattle.fsfs_folders.specs.SameText.{same_is, text_cases}
+use Rattle.fsfs_folders.specs.Named.{file_paths}
 use Rattle.fsfs_folders.proofs.NameLemmas.{first_within, comes_from}
-use Rattle.fsfs_memcalls.specs.Places.{places_in, file_paths, paths_of}
+use Rattle.fsfs_memcalls.specs.Places.{places_in, paths_of}
 use Rattle.fsfs_memcalls.specs.Recorded.{of_beginning, record_at}
 use Rattle.fsfs_memcalls.specs.Left.{first_pick, kept_by, left_names, picked_names, picked_bytes, bytes_of, is_found, bytes_found, IsFound, paths_such, with_file, files_such}
 use Rattle.fsfs_memcalls.proofs.PlaceLemmas.{kept, came, place_made, file_first, folder_at, file_at}

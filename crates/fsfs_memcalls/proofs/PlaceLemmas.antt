@@ -8,8 +8,9 @@ use Rattle.fsfs_folders.specs.Paths.{same_text, has_path, is_below}
 use Rattle.fsfs_folders.specs.CallRecord.{NameCall, MakeFolder, DropFolder, Create, Take, Rename, Remove, Call, Named, Append, SyncFile, FailSync, SyncFolder, Firmed, Beginning, Standing, first_number, file_count, renamed_by, names_after, IsEmptyAt}
 use Rattle.fsfs_folders.proofs.PathLemmas.{or_right, has_head, has_tail}
 use Rattle.fsfs_folders.specs.SameText.{text_cases}
+use Rattle.fsfs_folders.specs.Named.{file_paths}
 use Rattle.fsfs_folders.proofs.NameLemmas.{comes_from, Comes}
-use Rattle.fsfs_memcalls.specs.Places.{place_of, with_place, places_in, file_paths, paths_of}
+use Rattle.fsfs_memcalls.specs.Places.{place_of, with_place, places_in, paths_of}
 
 has_front : (a b : List (List ℕ)) (q : List ℕ) → has_path a q ≡ true → has_path (a ++ b) q ≡ true
 has_front [] b q e = absurd (let h : false ≡ true = e in cc)

@@ -21,7 +21,7 @@ use Rattle.fsfs_machine.specs.declared.machine.Section.{Section}
 use Rattle.fsfs_machine.specs.declared.machine.Section.TheVariants.{CurrentFirm}
 use Rattle.fsfs_machine.specs.declared.machine.Lock.TheVariants.{Stuck}
 use Rattle.fsfs_machine.specs.Machine.{stuck_place}
-use Rattle.fsfs_machine.specs.Kept.{IsIn}
+use Rattle.fsfs_machine.specs.Kept.{IsIn, AreOnce}
 use Rattle.fsfs_machine.proofs.Answering.{seen_of}
 use Rattle.fsfs_turn.specs.Past.{doubt, Safe}
 use Rattle.fsfs_turn.specs.Standing.{IsStore}
@@ -39,7 +39,7 @@ use Rattle.fsfs_pass.specs.LockWords.{place_at, place_number}
 use Rattle.fsfs_pass.specs.Seats.{all_parts, view_of, look_view, lock_view, stuck_view, outside_view, reveal_view, reveal_in, is_left, IsSitting, Sits}
 use Rattle.fsfs_pass.specs.Causes.{HasLock}
 use Rattle.fsfs_pass.specs.Met.{seat_store}
-use Rattle.fsfs_pass.specs.Kinship.{numbers_of, AreOnce, branch_of, branches}
+use Rattle.fsfs_pass.specs.Kinship.{numbers_of, branch_of, branches}
 use Rattle.fsfs_pass.specs.Rule.{Seated, Placed, Store, HandIs, failures_in, bench_failures_in, Rule}
 use Rattle.fsfs_pass.specs.Tells.{Sat, TellsIt, looked, locked, CanGive, gave_lock, CanStick, stuck_it, CanReveal, revealed, IsOwn, IsMet, taken, given_back}
 use Rattle.fsfs_pass.proofs.Locks.{word_free, word_stuck}
