@@ -10,7 +10,7 @@ use Rattle.fsfs_disk.proofs.CrashLemmas.{keeps_then, leaves_then, leaves_with}
 use Rattle.fsfs_disk.proofs.LeftLemmas.{both_then}
 use Rattle.fsfs_disk.specs.Txns.{txn_label}
 use Rattle.fsfs_disk.specs.Removals.{HasLabels, IsImageOf, WasKept}
-use Rattle.fsfs_begin.specs.Benches.{IsOldOrThis}
+use Rattle.fsfs_disk.specs.Published.{IsOldOrThis}
 use Rattle.fsfs_begin.specs.Begun.{IsOldOrDrawn, WasDrawn}
 use Rattle.fsfs_begin.specs.Counter.{HasNumber, IsAtLeast, IsOldOrNext}
 use Rattle.fsfs_begin.proofs.MakingLemmas.{then_labels}

@@ -7,16 +7,18 @@ use Rattle.fsfs_base.specs.Files.{Files}
 use Rattle.fsfs_disk.specs.Labels.{Label, same_label, with_label, without_label}
 use Rattle.fsfs_disk.specs.Benches.{written}
 use Rattle.fsfs_disk.specs.Trace.{Trace, KeepLabel, DropLabel, files_now, labels_now, Attempts, Performs, FailsAt}
-use Rattle.fsfs_disk.specs.Crash.{AllImages, AllLabels, AreAll, KeepsLabels, Leaves, LeavesBoth}
+use Rattle.fsfs_disk.specs.Crash.{AllImages, AreAll, Leaves, LeavesBoth}
 use Rattle.fsfs_disk.proofs.CrashLemmas.{keeps_label, keeps_no_label, keeps_then, own_images}
 use Rattle.fsfs_disk.proofs.LabelLemmas.{same_label-itself}
-use Rattle.fsfs_disk.proofs.LeftLemmas.{amid_made, amid_same, keeps_labels_at, keeps_labels_then}
+use Rattle.fsfs_disk.proofs.LeftLemmas.{keeps_labels_then}
 use Rattle.fsfs_disk.specs.Removals.{HasLabels, IsImageOf}
+use Rattle.fsfs_disk.specs.Published.{IsOldOrThis}
 use Rattle.fsfs_disk.proofs.InTurn.{files_ended}
+use Rattle.fsfs_disk.proofs.PublishLemmas.{old_labels, makes_label, drops_label}
 use Rattle.fsfs_noderev.specs.declared.node_id.NodeId.{NodeId}
 use Rattle.fsfs_txn_files.specs.FileNames.{file_name}
 use Rattle.fsfs_txn_files.specs.declared.folder_file.FolderFile.TheVariants.{Node}
-use Rattle.fsfs_begin.specs.Benches.{first_files, with_first_files, IsOldOrThis}
+use Rattle.fsfs_begin.specs.Benches.{first_files, with_first_files}
 
 -- ---- the first files
 
@@ -154,16 +156,6 @@ pub record AddsOnly (l : Label) (old new : Option Trace) : Type 0 where
   pub images : AllImages new (IsImageOf old)
   pub moments : Leaves old new (IsImageOf old)
   pub left : LeavesBoth old new (λ m ls. AreAll (IsOldOrThis l old) ls)
-
-old_labels : (l : Label) (old : Option Trace) → AllLabels old (IsOldOrThis l old)
-old_labels l None = tt
-old_labels l (Some t) = λ k has. inr has
-
-makes_label : (l : Label) (first old new : Option Trace) → FailsAt (KeepLabel l) old new → KeepsLabels old new (IsOldOrThis l first)
-makes_label l first old new made = keeps_labels_at (KeepLabel l) (IsOldOrThis l first) old new made (amid_made l (IsOldOrThis l first) (inl refl))
-
-drops_label : (l : Label) (first old new : Option Trace) → FailsAt (DropLabel l) old new → KeepsLabels old new (IsOldOrThis l first)
-drops_label l first old new dropped = keeps_labels_at (DropLabel l) (IsOldOrThis l first) old new dropped (amid_same (DropLabel l) (IsOldOrThis l first) (λ ls. refl))
 
 pub adds_made : (l : Label) (old new : Option Trace) → Performs (KeepLabel l) old new → AddsOnly l old new
 adds_made l old new made =

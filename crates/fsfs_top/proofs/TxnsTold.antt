@@ -18,14 +18,14 @@ use Rattle.fsfs_base.specs.declared.open_fault.OpenFault.TheVariants as opening
 use Rattle.fsfs_create.specs.OpenFaults.{OpensBecause}
 use Rattle.fsfs_create.specs.Deciding.{Decides}
 use Rattle.fsfs_disk.specs.Txns.{txn_label, AreTxns}
-use Rattle.fsfs_disk.specs.Removals.{first_lacking, labels_left, HasLabels, IfFailed, IsImageOf, Removes, WasKept}
+use Rattle.fsfs_disk.specs.Removals.{first_lacking, labels_left, HasLabels, IfFailed, IsImageOf, Removes, WasKept, HasSameLabels}
 use Rattle.fsfs_disk.proofs.InTurn.{old_kept}
 use Rattle.fsfs_disk.specs.declared.removing.RemovalFault.{RemovalFault}
 use Rattle.fsfs_disk.specs.declared.removing.RemovalFault.TheVariants.{NoTxn, Failed}
 use Rattle.fsfs_top.specs.TxnAnswers.{same_txn, has_txn, without_txn, first_missing}
 use Rattle.fsfs_top.specs.Looks.{OpensAs, DoesNotOpen}
 use Rattle.fsfs_top.specs.Scenes.{HostScene, Scene, SinkScene}
-use Rattle.fsfs_top.specs.Transactions.{txns_of, Lists, ListsOpened, ListsTxns, HasSameLabels, removal_fault, IfRemovalFails, RemovesOpened, RemovesTxns, LeavesRemoval}
+use Rattle.fsfs_top.specs.Transactions.{txns_of, Lists, ListsOpened, ListsTxns, removal_fault, IfRemovalFails, RemovesOpened, RemovesTxns, LeavesRemoval}
 use Rattle.fsfs_top.proofs.CreationTold.{path_cases}
 use Rattle.fsfs_top.proofs.FilesDecide.{does_not_open}
 use Rattle.fsfs_top.proofs.LooksPrint.{counted_cause}
