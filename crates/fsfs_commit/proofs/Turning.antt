@@ -1,6 +1,6 @@
 -- The turns of a commit.
 use Rattle.std.proofs.Common.{◌≡◌, ◌<◌, ◌≤◌, ◌+◌, ◌^◌, ℕ, List, [], ◌∷◌, ◌++◌, length, true, refl, sym, ap, subst, ◌∙◌, arith, take, append-nil}
-use Rattle.std.specs.Prelude.{Option, Some, None, is_some, Result, Ok, Err, IfOk, IfErr, OnOk, OnErr}
+use Rattle.std.specs.Prelude.{Option, Some, None, is_some, Result, IfOk, IfErr}
 use Rattle.std.proofs.lemmas.List.{take_all, length-take}
 use Rattle.std.proofs.lemmas.Result.{IfOk-weaker, IfErr-weaker}
 use Rattle.fsfs_tree.specs.Revisions.{Revision}
@@ -579,19 +579,6 @@ short_grows Says (fault.Refused refusal) v u s = (by_giving (step.GiveLock v.num
 short_grows Says (fault.DiskFault place) v u s = (by_stopping place v u s).grows
 
 -- ---- for answers
-
--- what a call says, where its answer is known
-pub on_ok : {X E : Type 0} (r : Result X E) (x : X) (P : Type 0) → r ≡ Ok x → OnOk r P → P
-on_ok r x P e w = subst (λ z. OnOk z P) e w
-
-pub on_err : {X E : Type 0} (r : Result X E) (x : E) (P : Type 0) → r ≡ Err x → OnErr r P → P
-on_err r x P e w = subst (λ z. OnErr z P) e w
-
-pub if_ok : {X E : Type 0} (r : Result X E) (x : X) (P : X → Type 0) → r ≡ Ok x → IfOk r P → P x
-if_ok r x P e w = subst (λ z. IfOk z P) e w
-
-pub if_err : {X E : Type 0} (r : Result X E) (x : E) (P : E → Type 0) → r ≡ Err x → IfErr r P → P x
-if_err r x P e w = subst (λ z. IfErr z P) e w
 
 pub not_lost : (rev : ℕ) → Some rev ≡ None → ⊥
 not_lost rev none = cc

@@ -5,14 +5,14 @@ use Rattle.std.proofs.lemmas.Option.{none-some}
 use Rattle.std.specs.Prelude.{◌≤◌, ◌^◌, ◌==◌, ◌&&◌, ◌||◌, not, nat_le, length, is_some, Option, Some, None, option_map, unwrap_or, IfSome}
 use Rattle.std.specs.Cmp.Lexicographic.{nat_list_cmp_total}
 use Rattle.std.specs.FinMap.{get, insert, get-insert, get-remove, get-empty}
-use Rattle.fsfs_base.specs.Files.{Files, NamedFile}
+use Rattle.fsfs_base.specs.Files.{Files, NamedFile, same_text}
 use Rattle.fsfs_disk.specs.Labels.{Label}
 use Rattle.fsfs_disk.specs.Benches.{HasShortFiles, with_file}
 use Rattle.fsfs_disk.specs.Short.{IsShortChange}
 use Rattle.fsfs_disk.specs.Crash.{AllImages}
 use Rattle.fsfs_disk.specs.Trace.{NameChange, Operation, Done, Put, Adopt, Rename, Remove, FirmNames, KeepLabel, DropLabel, IsImage, files_after}
 use Rattle.fsfs_disk.proofs.ShortLemmas.{short_empty, short_insert, short_changed, short_image}
-use Rattle.fsfs_folders.specs.Paths.{same_text, has_path}
+use Rattle.fsfs_folders.specs.Paths.{has_path}
 use Rattle.fsfs_folders.specs.Named.{named_paths}
 use Rattle.fsfs_folders.specs.CallRecord as system
 use Rattle.fsfs_folders.specs.CallRecord.{Call, Named, MakeFolder, DropFolder, Create, Take, Append, SyncFile, FailSync, SyncFolder, Firmed, Beginning, CallRecord, Contents, Standing, is_reachable, names_after, contents_after}

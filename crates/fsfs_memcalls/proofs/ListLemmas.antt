@@ -2,17 +2,18 @@
 use Rattle.std.proofs.Common.{◌≡◌, ◌⊎◌, ℕ, List, [], ◌∷◌, ◌++◌, Bool, true, false, inl, inr, ⊎_elim, refl, sym, ap, subst, ◌∙◌}
 use Rattle.std.proofs.lemmas.Bool.{and_parts, and_from, or_cases}
 use Rattle.std.specs.Prelude.{◌||◌, not, is_some, Option, Some, None}
-use Rattle.fsfs_folders.specs.Paths.{same_text, has_path, within}
+use Rattle.fsfs_folders.specs.Paths.{has_path, within}
 use Rattle.fsfs_folders.specs.CallRecord.{Beginning, Call, names_after}
 use Rattle.fsfs_folders.specs.Listing.{IsListOf, is_entry, are_apart}
 use Rattle.fsfs_folders.proofs.PathLemmas.{or_right, same_itself}
-use Rattle.fsfs_folders.specs.SameText.{same_is}
 use Rattle.fsfs_memcalls.specs.Entries.{IsNoEntry, IsEntryAt, IsListSoFar, Lists}
 use Rattle.fsfs_memcalls.specs.Places.{paths_of}
 use Rattle.fsfs_memcalls.specs.Standing.{stands_as}
 use Rattle.fsfs_memcalls.specs.declared.listing.Kind.{Kind}
 use Rattle.fsfs_memcalls.specs.declared.listing.Kind.TheVariants.{Folder, File}
 use Rattle.fsfs_memcalls.proofs.PlaceLemmas.{folder_is_placed, file_is_placed}
+use Rattle.fsfs_base.specs.Files.{same_text}
+use Rattle.fsfs_base.proofs.FileLemmas.{same_is}
 
 -- the last of some paths
 pub in_more : (paths : List (List ℕ)) (p q : List ℕ) → has_path (paths ++ p ∷ []) q ≡ true → (has_path paths q ≡ true) ⊎ (q ≡ p)

@@ -3,8 +3,8 @@ use Rattle.std.proofs.Common.{◌≡◌, ◌⊎◌, ℕ, List, [], ◌∷◌, �
 use Rattle.std.proofs.lemmas.Bool.{or_cases, and_parts, cases_Bool}
 use Rattle.std.proofs.lemmas.Option.{none-some}
 use Rattle.std.specs.Prelude.{◌||◌, not, length, Option, Some, None}
-use Rattle.fsfs_base.specs.Files.{NamedFile}
-use Rattle.fsfs_folders.specs.Paths.{same_text, has_path, is_below}
+use Rattle.fsfs_base.specs.Files.{NamedFile, same_text}
+use Rattle.fsfs_folders.specs.Paths.{has_path, is_below}
 use Rattle.fsfs_folders.specs.CallRecord.{NameCall, MakeFolder, DropFolder, Create, Take, Rename, Remove, Call, Named, Append, SyncFile, FailSync, SyncFolder, Firmed, Beginning, Standing, first_number, file_count, renamed_by, names_after, IsEmptyAt}
 use Rattle.fsfs_folders.proofs.PathLemmas.{or_right, has_head, has_tail}
 use Rattle.fsfs_folders.specs.SameText.{text_cases}

@@ -19,7 +19,7 @@ use Rattle.fsfs_tree.specs.Nodes.{Node, TreeFunction, Bytes, empty_node}
 use Rattle.fsfs_model.specs.Marks.{made, effects}
 use Rattle.fsfs_model.specs.Edits.{can_make, changed_props, accepts, applied, mark_of, with_text, with_prop, bytes_of, copied_node, rest_after, kind_of_node}
 use Rattle.fsfs_model.specs.Landing.{land, reached, goes_on, clashes_at, touched_by_head, held_by_head}
-use Rattle.fsfs_model.specs.Folding.{fold_mark, joined, begun, flagged, after_add, after_delete, after_modify, change_in}
+use Rattle.fsfs_model.specs.Folding.{fold_mark, joined, begun, flagged, after_add, after_delete, after_modify, change_in, deletes}
 use Rattle.fsfs_tree.specs.Histories.{AreRevisions}
 use Rattle.fsfs_model.specs.Transactions.{IsTransaction, Begun, Edited, Landed}
 use Rattle.fsfs_model.specs.Laws.{In}
@@ -31,7 +31,7 @@ use Rattle.fsfs_model.proofs.Origins.{Origin, Head, Changed, Own, origin}
 use Rattle.fsfs_model.proofs.LandedAt.{in_head, comes, all_three}
 use Rattle.fsfs_model.proofs.LandedContents.{there}
 use Rattle.fsfs_model.proofs.Contents.{KeepsContent}
-use Rattle.fsfs_model.proofs.Joined.{says, adds, deletes, fold_push, fold_here, fold_beside, fold_other, fold_below, adds_makes}
+use Rattle.fsfs_model.proofs.Joined.{says, adds, fold_push, fold_here, fold_beside, fold_other, fold_below, adds_makes}
 use Rattle.fsfs_model.proofs.Folds.{said_of, FoldTells}
 use Rattle.fsfs_model.proofs.FoldingLaw.{fold_tells}
 use Rattle.fsfs_model.proofs.TwoMergesLaw.{premises}

@@ -3,8 +3,9 @@ use Rattle.std.proofs.lemmas.List.{take_all}
 use Rattle.fsfs_revision.specs.ShowsReading.{Pairs, DirEntry}
 use Rattle.fsfs_dag.specs.declared.directory.DirEntry.{DirEntry as Listed}
 use Rattle.fsfs_dag.specs.Views.{entry_values}
+use Rattle.fsfs_dag.proofs.EntryLists.{taken_more}
 use Rattle.fsfs_final.specs.Entries.{HasFirsts}
-use Rattle.fsfs_final.proofs.EntryLemmas.{firsts_none, taken_more, firsts_list}
+use Rattle.fsfs_final.proofs.EntryLemmas.{firsts_none, firsts_list}
 use Rattle.fsfs_final.proofs.entries.entry_pairs.Goals as goal
 
 pub loop-entry-init : goal.loop-entry-init

@@ -5,8 +5,9 @@ use Rattle.std.specs.Map.{lookup}
 use Rattle.std.specs.String.{string_bytes}
 use Rattle.fsfs_revision.specs.ShowsReading.{Pairs}
 use Rattle.fsfs_dag.specs.Views.{entry_value}
+use Rattle.fsfs_dag.proofs.EntryLists.{text_cmp}
 use Rattle.fsfs_final.specs.Entries.{HasFirsts}
-use Rattle.fsfs_final.proofs.EntryLemmas.{text_cmp, kept_first, put_first_in}
+use Rattle.fsfs_final.proofs.EntryLemmas.{kept_first, put_first_in}
 use Rattle.fsfs_final.proofs.entries.put_first.Goals as goal
 
 some_map : {T U : Type 0} (f : T → U) (o : Option T) → is_some (option_map f o) ≡ is_some o

@@ -3,8 +3,9 @@ use Rattle.std.proofs.lemmas.List.{take_all}
 use Rattle.fsfs_revision.specs.ShowsReading.{Pairs, DirEntry}
 use Rattle.fsfs_dag.specs.declared.directory.DirEntry.{DirEntry as Listed}
 use Rattle.fsfs_dag.specs.Views.{entry_values}
+use Rattle.fsfs_dag.proofs.EntryLists.{taken_more}
 use Rattle.fsfs_txn_files.specs.Children.{LeadTo}
-use Rattle.fsfs_txn_files.proofs.EntryLemmas.{lead_none, taken_more}
+use Rattle.fsfs_txn_files.proofs.EntryLemmas.{lead_none}
 use Rattle.fsfs_txn_files.proofs.entries.entry_pairs.Goals as goal
 
 pub loop-entry-init : goal.loop-entry-init

@@ -5,8 +5,9 @@ use Rattle.std.specs.Map.{lookup}
 use Rattle.std.specs.String.{string_bytes}
 use Rattle.fsfs_revision.specs.ShowsReading.{Pairs}
 use Rattle.fsfs_dag.specs.Views.{entry_value}
+use Rattle.fsfs_dag.proofs.EntryLists.{text_cmp}
 use Rattle.fsfs_txn_files.specs.Children.{LeadTo}
-use Rattle.fsfs_txn_files.proofs.EntryLemmas.{text_cmp, lead_kept, lead_more}
+use Rattle.fsfs_txn_files.proofs.EntryLemmas.{lead_kept, lead_more}
 use Rattle.fsfs_txn_files.proofs.entries.put_first.Goals as goal
 
 some_map : {T U : Type 0} (f : T → U) (o : Option T) → is_some (option_map f o) ≡ is_some o
