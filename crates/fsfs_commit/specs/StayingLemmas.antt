@@ -23,13 +23,14 @@ use Rattle.fsfs_machine.proofs.Growing.{goes_on, revisions_length}
 use Rattle.fsfs_turn.specs.Bytes.{bytes_of}
 use Rattle.fsfs_turn.specs.Views.{Begins}
 use Rattle.fsfs_turn.proofs.Reading.{begins_on}
+use Rattle.fsfs_turn.proofs.Alone.{no_shorter}
 use Rattle.fsfs_commit.specs.declared.open_txn.OpenTxn.{OpenTxn}
 use Rattle.fsfs_commit.specs.declared.txn_draft.Stage.{Stage}
 use Rattle.fsfs_commit.specs.declared.txn_draft.Stage.TheVariants.{Open, Ended}
 use Rattle.fsfs_commit.specs.declared.standing.Standing.{Standing}
 use Rattle.fsfs_commit.specs.Meaning.{IsTxnOf, Means, IfOpen}
 use Rattle.fsfs_commit.specs.Pinned.{IsPinned}
-use Rattle.fsfs_commit.specs.SeenLemmas.{later, no_shorter}
+use Rattle.fsfs_commit.specs.SeenLemmas.{later}
 
 pub draft_stays : (look other : RevisionBytes) (trees more : ℕ → TreeFunction) (top later base : ℕ) (txn : TxnName) (f : Folder) (tree : TreeFunction) (marks : List Mark) → IsLater look other trees more top later → base ≤ top
     → IsDraftAfter look trees top base txn f tree marks → IsDraftAfter other more later base txn f tree marks

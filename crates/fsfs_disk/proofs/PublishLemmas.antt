@@ -73,8 +73,8 @@ ok_of (Ok x) is p = p
 ok_of (Err e) is p = cc
 
 -- two pieces are one
-pub filled : (old mid new : Option Files) (name a b : List ℕ) → mid ≡ option_map (appended name a) old → new ≡ option_map (appended name b) mid → new ≡ option_map (appended name (a ++ b)) old
-filled old mid new name a b first second = second ∙ ap (λ o. option_map (appended name b) o) first ∙ by_old old where
+pub two_pieces : (old mid new : Option Files) (name a b : List ℕ) → mid ≡ option_map (appended name a) old → new ≡ option_map (appended name b) mid → new ≡ option_map (appended name (a ++ b)) old
+two_pieces old mid new name a b first second = second ∙ ap (λ o. option_map (appended name b) o) first ∙ by_old old where
   by_old : (o : Option Files) → option_map (appended name b) (option_map (appended name a) o) ≡ option_map (appended name (a ++ b)) o
   by_old None = refl
   by_old (Some m) = ap (λ (z : Files). Some z) (appended_twice m name a b)

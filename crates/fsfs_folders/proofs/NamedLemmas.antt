@@ -10,7 +10,7 @@ use Rattle.fsfs_folders.proofs.PathLemmas.{has_head, has_tail}
 use Rattle.fsfs_folders.specs.SameText.{text_cases}
 use Rattle.fsfs_folders.proofs.NameLemmas.{comes_from}
 
-first_named : (files : List NamedFile) (q : List ℕ) (k : ℕ) → first_number files q ≡ Some k → has_path (file_paths files) q ≡ true
+pub first_named : (files : List NamedFile) (q : List ℕ) (k : ℕ) → first_number files q ≡ Some k → has_path (file_paths files) q ≡ true
 first_named [] q k e = absurd (none-some k e)
 first_named (file ∷ files) q k e =
     ⊎_elim (λ s. ap (λ p. has_path (file.0 ∷ file_paths files) p) s.0 ∙ has_head file.0 (file_paths files))

@@ -18,7 +18,7 @@ use Rattle.fsfs_machine.specs.Machine.{World, revisions}
 use Rattle.fsfs_turn.specs.Alone.{BringsNoDoubt, brings_doubt}
 use Rattle.fsfs_turn.specs.Learning.{with_spent}
 use Rattle.fsfs_turn.specs.Views.{View, Begins}
-use Rattle.fsfs_turn.proofs.Alone.{same_by_length, longer}
+use Rattle.fsfs_turn.proofs.Alone.{same_by_length, no_shorter}
 use Rattle.fsfs_begin.specs.Purged.{HasPurged, HasNotPurged, Purges}
 use Rattle.fsfs_begin.specs.declared.purge_fault.PurgeFault.{PurgeFault}
 use Rattle.fsfs_begin.specs.declared.purge_fault.PurgeFault.TheVariants.{DiskFault}
@@ -102,7 +102,7 @@ module _ (knows : View → Type 0) (lone : IsLone knows) where
       long = ap (λ (h : List Recorded). length h) c.is ∙ length-append c.before (c.next ∷ [])
 
       same : c.before ≡ v.seen
-      same = same_by_length v.seen c.before c.begins (let more = longer m.seen after.0.seen after.1 in omega (arith, more, after.2, mine, long, opened, all))
+      same = same_by_length v.seen c.before c.begins (let more = no_shorter m.seen after.0.seen after.1 in omega (arith, more, after.2, mine, long, opened, all))
 
       left : StaysKnown knows m
       left = dropped_stays gone name m (let h : length c.before ≡ length v.seen = ap (λ (g : List Recorded). length g) same in omega (arith, long, h, all, opened, mine)) c.outside dropped

@@ -9,7 +9,7 @@ use Rattle.fsfs_machine.specs.Machine.{World, revisions}
 use Rattle.fsfs_machine.proofs.Growing.{revisions_length}
 use Rattle.fsfs_tree.specs.Dated.{last_of}
 use Rattle.fsfs_turn.specs.Views.{View, Begins, Looked}
-use Rattle.fsfs_turn.proofs.Alone.{same_by_length, longer}
+use Rattle.fsfs_turn.proofs.Alone.{same_by_length, no_shorter}
 use Rattle.fsfs_begin.specs.Purged.{HasPurged, HasNotPurged}
 use Rattle.fsfs_turn.specs.Alone.{BringsNoDoubt}
 use Rattle.fsfs_commit.specs.Replies.{Committed, Moved as CommitMoved}
@@ -29,7 +29,7 @@ seen_same v u before b after opened mine = same_by_length v.seen u.seen b (let m
 
 -- what came between two histories of one length has that length
 pub between : (h m g : List Recorded) → Begins m h → Begins g m → length g ≡ length h → length m ≡ length h
-between h m g a b same = let x = longer h m a in let y = longer m g b in omega (arith, x, y, same)
+between h m g a b same = let x = no_shorter h m a in let y = no_shorter m g b in omega (arith, x, y, same)
 
 -- ---- one after another
 

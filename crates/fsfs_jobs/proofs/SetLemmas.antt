@@ -1,6 +1,6 @@
 -- Properties and texts, from what the calls of a transaction tell.
 use Rattle.std.proofs.Common.{◌≡◌, ℕ, Bool, true, false, ◌||◌, List, [], ◌∷◌, ◌++◌, refl, sym, ap, subst, ◌∙◌, inl, inr}
-use Rattle.std.proofs.lemmas.Bool.{false≢true}
+use Rattle.std.proofs.lemmas.Bool.{false≢true, or_parts}
 use Rattle.std.specs.Prelude.{Option, Some, None, is_some, if◌then◌else◌, Result, Ok, Err, Vec}
 use Rattle.std.specs.Global.{Global}
 use Rattle.fsfs_base.specs.Paths.{Path}
@@ -50,10 +50,6 @@ pub memory_only : (P : Type 0) (fault : Fault) → IsOrMemory Memory fault → I
 memory_only P fault (inl e) = subst (λ (f : Fault). IfRefused f P) (sym e) tt
 memory_only P fault (inr e) = subst (λ (f : Fault). IfRefused f P) (sym e) tt
 
-or_false : (a b : Bool) → (a || b) ≡ false → (a ≡ false) × (b ≡ false)
-or_false false b h = (refl, h)
-or_false true b h = absurd cc
-
 or_true : (a b : Bool) → (a || b) ≡ true → b ≡ false → a ≡ true
 or_true true b h not_b = refl
 or_true false b h not_b = absurd (false≢true (sym not_b ∙ h))
@@ -83,7 +79,7 @@ module _ (look : RevisionBytes) (trees : ℕ → TreeFunction) (top base : ℕ) 
   pub set_at : (outcome : Result PropertySet TxnError) (result : Result (Unit {0}) Fault) → IsSettingProp look trees top base txn tree marks moves opened set.name value before after outcome → Tells fault_of_left (property_fault set.path) outcome result
       → IsSetAt look trees top base txn tree marks opened.counted set after result
   set_at (Ok sets.Done) (Ok done) m t =
-      let plain = or_false opened.counted (is_mergeinfo set.name) m.0 in
+      let plain = or_parts opened.counted (is_mergeinfo set.name) m.0 in
       let short : too_long (Prop set) ≡ None = ap (λ (v : Option (List ℕ)). value_row (fits_value v)) (sym value_is) ∙ ap value_row m.1 in
       let first : StandsSet opened.way.path (bytes_of value) = m.2.stands in
       let there : StandsSet set.path (bytes_of value) = subst (λ (p : Path). StandsSet p (bytes_of value)) path_is first in
@@ -95,7 +91,7 @@ module _ (look : RevisionBytes) (trees : ℕ → TreeFunction) (top base : ℕ) 
   set_at (Ok sets.Mergeinfo) (Err fault) m t = barred (is_mergeinfo set.name) fault refl m.0 t
   set_at (Ok sets.TooLong) (Ok done) m t = absurd t
   set_at (Ok sets.TooLong) (Err fault) m t =
-      let plain = or_false opened.counted (is_mergeinfo set.name) m.0 in
+      let plain = or_parts opened.counted (is_mergeinfo set.name) m.0 in
       let long : too_long (Prop set) ≡ Some (Limit PropTooLong) = ap (λ (v : Option (List ℕ)). value_row (fits_value v)) (sym value_is) ∙ ap value_row m.1 in
       or_memory (RefusesProp opened.counted set) (Limit PropTooLong) fault t (OfValue (Limit PropTooLong) (plain_name set.name set.path plain.1) long)
   set_at (Err e) (Ok done) m t = absurd cc

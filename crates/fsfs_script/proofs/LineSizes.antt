@@ -1,6 +1,6 @@
 -- What is written stands on one line, which is not too long.
 use Rattle.std.proofs.Common.{◌≡◌, ◌<◌, ◌≤◌, ◌+◌, ◌^◌, ℕ, suc, true, false, not, eqb, List, [], ◌∷◌, ◌++◌, length, Option, Some, None, refl, sym, ap, subst, ◌∙◌, arith}
-use Rattle.std.proofs.lemmas.Bool.{ne_eqb, leb-true, not-true}
+use Rattle.std.proofs.lemmas.Bool.{ne_eqb, leb-true, not-true, and_parts}
 use Rattle.std.proofs.lemmas.List.{length-append}
 use Rattle.std.proofs.lemmas.Fmt.{length-decimal-le}
 use Rattle.std.specs.Prelude.{decimal, codes, nat_lt, nat_le}
@@ -20,7 +20,6 @@ use Rattle.fsfs_script.specs.declared.job_lines_lines.CommandLine.{CommandLine}
 use Rattle.fsfs_script.specs.declared.job_lines_lines.CommandLine.TheVariants as says
 use Rattle.fsfs_script.specs.declared.job_lines_lines.OpeningLine.{OpeningLine}
 use Rattle.fsfs_script.specs.declared.job_lines_lines.OpeningLine.TheVariants as openings
-use Rattle.fsfs_script.proofs.NameReadings.{both}
 use Rattle.fsfs_script.proofs.WordTexts.{decimal_lacks, name_lacks}
 use Rattle.fsfs_script.proofs.LinesAgain.{lacking}
 
@@ -54,7 +53,7 @@ name_within name is = record { lacks = name_lacks 10 refl name is; size = name_s
 no_control_line : (text : List ℕ) → list_all (λ b. not (is_control b)) text ≡ true → Lacks 10 text
 no_control_line [] e = tt
 no_control_line (b ∷ bs) e =
-    let p = both (not (is_control b)) (list_all (λ b. not (is_control b)) bs) e in
+    let p = and_parts (not (is_control b)) (list_all (λ b. not (is_control b)) bs) e in
     (ne_eqb b 10 (λ same. clash (sym (ap (λ c. not (is_control c)) same) ∙ p.0)), no_control_line bs p.1)
   where
     clash : false ≡ true → ⊥
@@ -62,8 +61,8 @@ no_control_line (b ∷ bs) e =
 
 author_within : (name : List ℕ) → CanAuthor name → IsWithin 255 name
 author_within name can =
-    let p = both (nat_lt 0 (length name)) _ can.0 in
-    let q = both (nat_le (length name) 255) _ p.1 in
+    let p = and_parts (nat_lt 0 (length name)) _ can.0 in
+    let q = and_parts (nat_le (length name) 255) _ p.1 in
     record { lacks = no_control_line name q.1; size = leb-true (length name) 255 q.0 }
 
 word_within : (n : ℕ) (word : List ℕ) → list_all (λ b. not (eqb b 10)) word ≡ true → length word ≤ n → IsWithin n word

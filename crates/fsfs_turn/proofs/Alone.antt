@@ -169,8 +169,8 @@ pub seen_bound : (layout : Layout) (young : ℕ) (stuck : Option DiskPlace) (tol
 seen_bound layout young stuck None v known = absurd known
 seen_bound layout young stuck (Some t) v known = let up : known.0.young + 1 ≡ length known.0.history = known.1.kept.young known.2.up in omega (arith, up, seen_within known.0 v known.2, known.1.young_is)
 
-pub longer : (h g : List Recorded) → Begins g h → length h ≤ length g
-longer h g b = let long : length g ≡ length h + length b.0 = ap length b.1 ∙ length-append h b.0 in omega (arith, long)
+pub no_shorter : (h g : List Recorded) → Begins g h → length h ≤ length g
+no_shorter h g b = let long : length g ≡ length h + length b.0 = ap length b.1 ∙ length-append h b.0 in omega (arith, long)
 
 -- what the pass knows after a turn
 module _ (layout : Layout) (young : ℕ) (stuck : Option DiskPlace) (old new : Option Trace) (goes : GoesOn old new) (v : View) (known : KnowsAlone layout young stuck old v) where
@@ -194,7 +194,7 @@ module _ (layout : Layout) (young : ℕ) (stuck : Option DiskPlace) (old new : O
       → (are_harmless (either went v.pass.faults (v.pass.faults ++ place ∷ [])) ≡ true → is_doubtful_at v.section ≡ false → is_doubtful_at u.section ≡ false) → KnowsAlone layout young stuck new u
   learned place went u now grows opened since mine found faults sound =
       let same : are_harmless u.pass.faults ≡ are_harmless (either went v.pass.faults (v.pass.faults ++ place ∷ [])) = ap (λ l. are_harmless l) faults in
-      then_known u now (omega (arith, known.1.all, seen_bound layout young stuck new u now, longer v.seen u.seen grows)) opened since mine found
+      then_known u now (omega (arith, known.1.all, seen_bound layout young stuck new u now, no_shorter v.seen u.seen grows)) opened since mine found
       (λ few. harmless_before went v.pass.faults place (sym same ∙ few)) (λ few s. sound (sym same ∙ few) s)
 
   same_at : (u : View) → u.section ≡ v.section → is_doubtful_at v.section ≡ false → is_doubtful_at u.section ≡ false

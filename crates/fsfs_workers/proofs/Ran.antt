@@ -1,6 +1,6 @@
 -- What a run of two workers comes to, behind the close.
 use Rattle.std.proofs.Common.{◌≡◌, ◌<◌, ◌≤◌, ◌+◌, ◌++◌, ℕ, List, [], ◌∷◌, length, true, inl, inr, refl, sym, ap, subst, ◌∙◌, append-nil, arith}
-use Rattle.std.proofs.lemmas.List.{map-append, length-map}
+use Rattle.std.proofs.lemmas.List.{map-append}
 use Rattle.std.specs.Prelude.{Option, Some, None, IfSome, is_some, slice_get}
 use Rattle.fsfs_base.specs.Files.{Files}
 use Rattle.fsfs_tree.specs.Dated.{last_of}
@@ -11,6 +11,7 @@ use Rattle.fsfs_machine.specs.declared.machine.Recorded.{Recorded}
 use Rattle.fsfs_machine.specs.declared.machine.Coming.{Coming}
 use Rattle.fsfs_machine.specs.Kept.{IsIn, AreOnce}
 use Rattle.fsfs_machine.specs.Machine.{revisions}
+use Rattle.fsfs_machine.proofs.Growing.{revisions_length}
 use Rattle.fsfs_turn.specs.Alone.{are_harmless}
 use Rattle.fsfs_turn.specs.Past.{IsPart}
 use Rattle.fsfs_turn.specs.Views.{Begins, Looked}
@@ -37,9 +38,6 @@ use Rattle.fsfs_workers.proofs.Shares.{shares_tell, shares_tell_once}
 
 -- ---- histories and their revisions
 
-many : (h : List Recorded) → length (revisions h) ≡ length h
-many h = length-map h (λ (x : Recorded). x.revision)
-
 goes_on : (h g : List Recorded) → Begins h g → GoesOnFrom (revisions g) (revisions h)
 goes_on h g begins = (revisions begins.0, ap revisions begins.1 ∙ map-append (λ (x : Recorded). x.revision) g begins.0)
 
@@ -60,7 +58,7 @@ module _ (moment young : ℕ) (js : List Job) (answers : List JobAnswer) (v u : 
   all = leaves.all parts
 
   since_then : u.opened ≡ length (revisions v.seen)
-  since_then = both.opened ∙ opened ∙ sym (many v.seen)
+  since_then = both.opened ∙ opened ∙ sym (revisions_length v.seen)
 
   begins : Begins h u.seen
   begins = leaves.begins
@@ -83,7 +81,7 @@ module _ (moment young : ℕ) (js : List Job) (answers : List JobAnswer) (v u : 
   -- ---- the lines
 
   knew_all : last_of (revisions v.seen) ≤ last_known (view_of v)
-  knew_all = let e = many v.seen in omega (arith, e)
+  knew_all = let e = revisions_length v.seen in omega (arith, e)
 
   on : IsOnward (view_of u) h
   on = record { begins = begins; has = let long = grown_long h u.seen begins in omega (arith, looked.least, leaves.least, long) }
@@ -97,7 +95,7 @@ module _ (moment young : ℕ) (js : List Job) (answers : List JobAnswer) (v u : 
     grew = goes_on h v.seen (begins_on h u.seen v.seen begins both.grows);
     lines = lines_hold;
     told = λ r from less.
-        let few = many h in
+        let few = revisions_length h in
         shares_tell answers r (subst (λ (l : List ℕ). IsIn r l) own_are (leaves.added parts r (omega (arith, from, since_then)) (omega (arith, less, few))));
     once = shares_tell_once answers (subst AreOnce own_are leaves.once);
   }
@@ -110,11 +108,11 @@ module _ (moment young : ℕ) (js : List Job) (answers : List JobAnswer) (v u : 
     seen = h;
     are = refl;
     whole = λ m image r x at. leaves.whole m image r x (ap (λ (l : List Recorded). slice_get l r) (sym all) ∙ at);
-    named = λ m image. subst (NamesFrom m) (ap (λ (l : List Recorded). length l) (sym all) ∙ sym (many h)) (leaves.named m image);
+    named = λ m image. subst (NamesFrom m) (ap (λ (l : List Recorded). length l) (sym all) ∙ sym (revisions_length h)) (leaves.named m image);
     stands = λ m image.
         let p = leaves.now m image in
-        let a = many h in
-        let b = many p.0 in
+        let a = revisions_length h in
+        let b = revisions_length p.0 in
         (revisions p.0, a_part h p.0 leaves.doubt p.1, omega (arith, a, b, p.2), p.4);
     moments = λ m image. let p = leaves.moments m image in (p.0, p.3, a_part h p.0 leaves.doubt p.1, omega (arith, p.2, since_then), p.4);
   }
@@ -132,7 +130,7 @@ module _ (moment young : ℕ) (js : List Job) (answers : List JobAnswer) (v u : 
       record {
         now = revisions h;
         lines = lines;
-        last = many h ∙ last;
+        last = revisions_length h ∙ last;
         held = held;
         stuck = λ quiet. both.found (calm (both.doubtless quiet few)).1;
         certain = λ quiet. stands_all (calm (both.doubtless quiet few)).0;

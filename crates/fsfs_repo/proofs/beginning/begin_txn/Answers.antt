@@ -1,9 +1,8 @@
 use Rattle.std.proofs.Common.{◌≡◌, codes, ⊎_elim, sym, subst, ◌∙◌, arith}
-use Rattle.std.specs.Prelude.{Result, Err, OnErr}
 use Rattle.fsfs_base.specs.Failures.{Rose}
 use Rattle.fsfs_disk.specs.Labels.{with_label}
 use Rattle.fsfs_base.specs.declared.txn_name.TxnName.{TxnName}
-use Rattle.fsfs_base.proofs.ResultLemmas.{if_ok, if_err}
+use Rattle.fsfs_base.proofs.ResultLemmas.{if_ok, if_err, on_err}
 use Rattle.fsfs_disk.specs.Txns.{pair_of, txn_label}
 use Rattle.fsfs_begin.specs.Benches.{TellsRoot}
 use Rattle.fsfs_turn.specs.Labels.{Relabels}
@@ -14,9 +13,6 @@ use Rattle.fsfs_begin.proofs.Reading.{either_way}
 use Rattle.fsfs_repo.proofs.Begun.{begins_as, among_as, begun_moved, begun_given}
 use Rattle.fsfs_repo.proofs.Unlisted.{forgets, relabelled}
 use Rattle.fsfs_repo.proofs.beginning.begin_txn.Goals as goal
-
-told_on_err : {X E : Type 0} (r : Result X E) (x : E) (P : Type 0) → r ≡ Err x → OnErr r P → P
-told_on_err r x P e w = subst (λ z. OnErr z P) e w
 
 -- ---- the calls are due
 
@@ -80,7 +76,7 @@ returns-in-Err-hold-clause-refused g c = λ v known none.
 -- ---- the labels
 
 pub returns-in-Err-clause-unlisted : goal.returns-in-Err-clause-unlisted
-returns-in-Err-clause-unlisted g c = told_on_err c.begin-back.result.1 c.in-Err.fault _ c.in-Err.is c.begin-back.ensures.unlisted
+returns-in-Err-clause-unlisted g c = on_err c.begin-back.result.1 c.in-Err.fault _ c.in-Err.is c.begin-back.ensures.unlisted
 
 pub returns-in-Ok-hold-clause-listed : goal.returns-in-Ok-hold-clause-listed
 returns-in-Ok-hold-clause-listed g c =
