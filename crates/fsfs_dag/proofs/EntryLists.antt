@@ -1,38 +1,11 @@
--- Entries put to the end of a list one after another, and names compared by their bytes.
-use Rattle.std.proofs.Common.{◌≡◌, ◌∙◌, ◌+◌, ◌<◌, ℕ, length, take, get_or, Bool, true, false, cond, List, [], ◌∷◌, ◌++◌, Option, Some, None, refl, sym, ap, Ordering, Equal}
+-- Entries put to the end of a list one after another.
+use Rattle.std.proofs.Common.{◌≡◌, ◌∙◌, ◌+◌, ◌<◌, ℕ, length, take, get_or, Bool, true, false, cond, List, [], ◌∷◌, ◌++◌, Option, Some, None, refl, sym, ap}
 use Rattle.std.specs.Prelude.{if◌then◌else◌}
-use Rattle.std.specs.Ordering.{nat_cmp}
-use Rattle.std.specs.Cmp.{tied_itself}
-use Rattle.std.specs.Cmp.Lexicographic.{slice_cmp, nat_list_cmp_total}
-use Rattle.std.specs.FinMap.{slice_cmp-IsAntisymmetric, nat_cmp-IsAntisymmetric}
 use Rattle.std.proofs.lemmas.List.{take_more, map_push}
 use Rattle.fsfs_base.specs.Paths.{PathName, same_name}
 use Rattle.fsfs_revision.specs.ShowsReading.{DirEntry, named}
 use Rattle.fsfs_dag.specs.declared.directory.DirEntry.{DirEntry as Listed}
 use Rattle.fsfs_dag.specs.Views.{entry_value, entry_values}
-
-abbrev pub text_cmp : List ℕ → List ℕ → Ordering
-text_cmp = slice_cmp nat_cmp
-
-pub equal_is : (x y : List ℕ) → text_cmp x y ≡ Equal → x ≡ y
-equal_is x y e = slice_cmp-IsAntisymmetric nat_cmp-IsAntisymmetric x y e
-
-pub equal_of : (x y : List ℕ) → x ≡ y → text_cmp x y ≡ Equal
-equal_of x y e = sym (ap (λ (z : List ℕ). text_cmp x z) e) ∙ tied_itself nat_list_cmp_total x
-
--- ---- a choice before another
-
-pub twice : {X : Type 0} (b : Bool) (x y z : X) → cond b x z ≡ cond b x (cond b y z)
-twice true x y z = refl
-twice false x y z = refl
-
-pub swapped : {X : Type 0} (s t : Bool) (x y z : X) → (s ≡ true → t ≡ true → ⊥) → cond s x (cond t y z) ≡ cond t y (cond s x z)
-swapped true true x y z h = absurd (h refl refl)
-swapped true false x y z h = refl
-swapped false true x y z h = refl
-swapped false false x y z h = refl
-
--- ---- one entry more at the end
 
 abbrev pub pushed : Option DirEntry → DirEntry → PathName → Option DirEntry
 pushed None e name = if same_name e.name name then Some e else None
@@ -46,8 +19,7 @@ named_push name (x ∷ es) e = by (same_name x.name name) (named_push name es e)
     by true rest = refl
     by false rest = rest
 
--- ---- in a loop over entries
-
+-- in a loop over entries
 pub taken_more : (es : List Listed) (k : ℕ) (e : Listed) → k < length es → e ≡ get_or es k e → entry_values (take (k + 1) es) ≡ entry_values (take k es) ++ entry_value e ∷ []
 taken_more es k e lt is =
     ap entry_values (take_more es k e lt ∙ ap (λ (x : Listed). take k es ++ x ∷ []) (sym is)) ∙ map_push entry_value (take k es) e

@@ -34,7 +34,6 @@ use Rattle.fsfs_draft.proofs.WholeLaw.{drafts_are_handed}
 use Rattle.fsfs_draft.proofs.OwnEntries.{lasting_parts}
 use Rattle.fsfs_final.specs.Laid.{Laid, with_laid, IsFramed}
 use Rattle.fsfs_final.proofs.LaidLaw.{loop_laws}
-use Rattle.fsfs_final.specs.Entries.{MayStand, ListsEntries}
 use Rattle.fsfs_final.specs.Lists.{list_of}
 use Rattle.fsfs_final.specs.Naming.{FinalIds, final_id, final_entry}
 use Rattle.fsfs_final.specs.Nodes.{HasTextBefore, HasList, IsNodeLaid}
@@ -50,6 +49,7 @@ use Rattle.fsfs_final.specs.Putting.{AreUtf8, AreFinalPairs, IsNextPut}
 use Rattle.fsfs_final.specs.Laying.{IsCommittable, LeadAlike, IsListPut, IsPut, AreLaid}
 use Rattle.fsfs_final.proofs.ReadNames.{read_name}
 use Rattle.fsfs_final.proofs.NameLemmas.{last_name, named_name, named_final, final_revision, plain_place, earlier_offset, earlier_place, list_grows, text_kept, node_grown, mid_within}
+use Rattle.fsfs_dag.specs.Entries.{MayStand, ListsEntries}
 
 -- the pairs of a list that was made
 record IsListed (ids : FinalIds) (dir : Path) (entries : List DirEntry) (list : Option Pairs) : Type 0 where

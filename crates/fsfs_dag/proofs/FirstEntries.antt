@@ -11,8 +11,10 @@ use Rattle.fsfs_base.proofs.PathLemmas.{same_name-refl, same_name-is}
 use Rattle.fsfs_revision.specs.declared.damage.RevOffset.{RevOffset}
 use Rattle.fsfs_revision.specs.Nodes.{is_revision_id}
 use Rattle.fsfs_revision.specs.ShowsReading.{Pairs, DirEntry, IsEntryValue, AreEntries, named}
-use Rattle.fsfs_final.specs.Entries.{IsFirstIn, ArePairs, pair_room, pairs_room, entry_room, entries_room, HasFirsts, MayStand, ListsEntries}
-use Rattle.fsfs_dag.proofs.EntryLists.{text_cmp, equal_is, equal_of, pushed, named_push, twice, swapped}
+use Rattle.fsfs_revision.specs.EntryRooms.{pair_room, pairs_room, entry_room, entries_room}
+use Rattle.fsfs_revision.proofs.PairLookups.{text_cmp, equal_is, equal_of, twice, swapped}
+use Rattle.fsfs_dag.proofs.EntryLists.{pushed, named_push}
+use Rattle.fsfs_dag.specs.Entries.{IsFirstIn, ArePairs, HasFirsts, MayStand, ListsEntries}
 
 -- ---- bytes
 
