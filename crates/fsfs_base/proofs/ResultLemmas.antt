@@ -1,5 +1,5 @@
 -- Clauses on one outcome of a call, from a fact that holds at each.
-use Rattle.std.proofs.Common.{◌≡◌, false, refl, subst}
+use Rattle.std.proofs.Common.{◌≡◌, false, refl, subst, sym, ◌∙◌}
 use Rattle.std.specs.Prelude.{Option, Some, None, is_some, Result, Ok, Err, OnErr, IfErr, OnOk, IfOk, IfSome, IfNone}
 
 pub on_err_always : {T E P : Type 0} (r : Result T E) → P → OnErr r P
@@ -33,3 +33,6 @@ some_all (Some x) P h = h
 pub none_from : {X : Type 0} (o : Option X) (P : Type 0) → (o ≡ None → P) → IfNone o P
 none_from None P h = h (λ i. None)
 none_from (Some x) P h = tt
+
+pub not_none : {A B : Type 0} (o : Option A) (x : A) → o ≡ Some x → o ≡ None → B
+not_none o x h g = let e = sym h ∙ g in absurd cc

@@ -135,3 +135,12 @@ amid_after (Adopt name bytes) ls l h = h
 amid_after (Rename from to) ls l h = h
 amid_after (Remove name) ls l h = h
 amid_after FirmNames ls l h = h
+
+-- a label that came and went
+pub without-with : (l : Label) (ls : List Label) → without_label l (with_label l ls) ≡ without_label l ls
+without-with l [] = ap (λ b. cond b [] (l ∷ [])) (same_label-itself l)
+without-with l (k ∷ ls) = by_test (same_label k l) (without-with l ls) refl where
+  by_test : (b : Bool) → without_label l (with_label l ls) ≡ without_label l ls → same_label k l ≡ b
+      → without_label l (cond b (without_label l ls) (k ∷ without_label l ls) ++ l ∷ []) ≡ cond b (without_label l ls) (k ∷ without_label l ls)
+  by_test true rest is = rest
+  by_test false rest is = ap (λ b. cond b (without_label l (with_label l ls)) (k ∷ without_label l (with_label l ls))) is ∙ ap (λ xs. k ∷ xs) rest

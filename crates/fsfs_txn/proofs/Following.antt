@@ -5,6 +5,7 @@ use Rattle.fsfs_base.specs.Paths.{PathName, Path, same_name}
 use Rattle.fsfs_base.specs.declared.kind.Kind.{Kind}
 use Rattle.fsfs_base.specs.declared.kind.Kind.TheVariants.{File, Dir}
 use Rattle.fsfs_base.proofs.PathLemmas.{same_name-is}
+use Rattle.fsfs_base.proofs.ResultLemmas.{not_none}
 use Rattle.fsfs_base.specs.declared.txn_name.TxnName.{TxnName}
 use Rattle.fsfs_revision.specs.Told.{RevisionBytes}
 use Rattle.fsfs_noderev.specs.Ids.{part_value}
@@ -39,9 +40,6 @@ own_id id txn is = by (is_revision_id id) refl
     by : (b : Bool) → is_revision_id id ≡ b → is_revision_id id ≡ false
     by true h = absurd (no_txn_place id.place txn is (lasting_parts id h).place)
     by false h = h
-
-pub not_none : {A B : Type 0} (o : Option A) (x : A) → o ≡ Some x → o ≡ None → B
-not_none o x h g = let e = sym h ∙ g in absurd cc
 
 pub same_some : {A : Type 0} (x y : A) → (let o : Option A = Some x in o) ≡ Some y → x ≡ y
 same_some x y e = cc

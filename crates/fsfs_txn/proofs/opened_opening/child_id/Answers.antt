@@ -9,7 +9,8 @@ use Rattle.fsfs_revision.proofs.DamageLemmas.{no_both}
 use Rattle.fsfs_txn.specs.Knowing.{AreKnown}
 use Rattle.fsfs_txn.specs.OpenedLeading.{IsSourceKnown, OfOwn, OfLasting}
 use Rattle.fsfs_txn.specs.Stepping.{IsDirKnown, OwnDir, LastingDir, IsNext}
-use Rattle.fsfs_txn.proofs.Following.{not_none, same_some}
+use Rattle.fsfs_txn.proofs.Following.{same_some}
+use Rattle.fsfs_base.proofs.ResultLemmas.{not_none}
 use Rattle.fsfs_txn.proofs.opened_opening.child_id.Goals as goal
 
 pub returns-then-is_revision_id : goal.returns-then-is_revision_id

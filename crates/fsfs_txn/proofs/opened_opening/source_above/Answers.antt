@@ -4,8 +4,9 @@ use Rattle.fsfs_dag.specs.declared.listing.Listing.{Listing}
 use Rattle.fsfs_dag.specs.ListingViews.{listed}
 use Rattle.fsfs_draft.specs.Drafts.{Kept}
 use Rattle.fsfs_draft.specs.Views.{kept_value}
-use Rattle.fsfs_txn.proofs.Following.{not_none, same_some}
+use Rattle.fsfs_txn.proofs.Following.{same_some}
 use Rattle.fsfs_revision.proofs.DamageLemmas.{no_both}
+use Rattle.fsfs_base.proofs.ResultLemmas.{not_none}
 use Rattle.fsfs_txn.proofs.opened_opening.source_above.Goals as goal
 
 pub returns-then-is_revision_id-clause-own : goal.returns-then-is_revision_id-clause-own

@@ -1,8 +1,9 @@
 use Rattle.std.proofs.Common.{sym, ap, ◌∙◌}
 use Rattle.fsfs_draft.specs.Drafts.{Kept}
 use Rattle.fsfs_draft.specs.Views.{kept_value}
-use Rattle.fsfs_txn.proofs.Following.{not_none, same_some}
+use Rattle.fsfs_txn.proofs.Following.{same_some}
 use Rattle.fsfs_revision.proofs.DamageLemmas.{no_both}
+use Rattle.fsfs_base.proofs.ResultLemmas.{not_none}
 use Rattle.fsfs_txn.proofs.opened_opening.source_of.Goals as goal
 
 pub returns-then-is_revision_id-clause-own : goal.returns-then-is_revision_id-clause-own
