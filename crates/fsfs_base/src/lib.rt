@@ -48,7 +48,7 @@ pub use date::{read_date, write_date};
 pub use decimals::{put_dec, read_dec, write_dec};
 pub use digest::HexDigest;
 pub use digits::digit_of;
-pub use failed::Failed;
+pub use failed::{Failed, counted};
 pub use faults::Faults;
 pub use kind::Kind;
 pub use name::Name;
