@@ -59,8 +59,8 @@ swapped true true x y z apart = absurd (apart refl refl)
 swapped true false x y z apart = refl
 swapped false b x y z apart = refl
 
-tied : (q k : List ℕ) → is_eq (slice_cmp nat_cmp q k) ≡ true → q ≡ k
-tied q k alike =
+pub same_is : (q k : List ℕ) → is_eq (slice_cmp nat_cmp q k) ≡ true → q ≡ k
+same_is q k alike =
     elim (slice_cmp nat_cmp q k) as (λ r. slice_cmp nat_cmp q k ≡ r → is_eq r ≡ true → q ≡ k) [
       | Less ↦ λ p h. cc
       | Equal ↦ λ p h. slice_cmp-IsAntisymmetric nat_cmp-IsAntisymmetric q k p
@@ -72,7 +72,7 @@ pub insert-remove : (m : Files) (k v n : List ℕ) → (k ≡ n → ⊥) → ins
 insert-remove m k v n apart = same_files _ _ (λ q.
     get-insert nat_list_cmp_total (remove m n) k v q
     ∙ ap (λ x. cond (is_eq (slice_cmp nat_cmp q k)) (Some v) x) (get-remove nat_list_cmp_total m n q)
-    ∙ swapped (is_eq (slice_cmp nat_cmp q k)) (is_eq (slice_cmp nat_cmp q n)) (Some v) None (get m q) (λ a b. apart (sym (tied q k a) ∙ tied q n b))
+    ∙ swapped (is_eq (slice_cmp nat_cmp q k)) (is_eq (slice_cmp nat_cmp q n)) (Some v) None (get m q) (λ a b. apart (sym (same_is q k a) ∙ same_is q n b))
     ∙ sym (get-remove nat_list_cmp_total (insert m k v) n q ∙ ap (λ x. cond (is_eq (slice_cmp nat_cmp q n)) None x) (get-insert nat_list_cmp_total m k v q)))
 
 -- a file that was put and then got another name

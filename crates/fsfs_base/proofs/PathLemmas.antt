@@ -10,6 +10,9 @@ same_name-refl x = nat_list_eq_equiv.refl x
 pub same_name-is : (x y : PathName) → same_name x y ≡ true → x ≡ y
 same_name-is x y h = (bytes_decides x y).0 h
 
+pub same_name-symm : (x y : PathName) → same_name x y ≡ same_name y x
+same_name-symm x y = nat_list_eq_equiv.symm x y
+
 pub same_path-is : (q p : Path) → same_path q p ≡ true → q ≡ p
 same_path-is [] [] h = refl
 same_path-is [] (y ∷ p) h = absurd (false≢true h)
@@ -66,3 +69,15 @@ pub split_at : (q p : Path) → covers q p ≡ true → q ++ drop (length q) p �
 split_at [] p h = refl
 split_at (x ∷ q) [] h = absurd (false≢true h)
 split_at (x ∷ q) (y ∷ p) h = λ i. same_name-is x y (and_parts _ _ h).0 i ∷ split_at q p (and_parts _ _ h).1 i
+
+pub covers_front : (q p : Path) (name : PathName) → covers q (p ++ name ∷ []) ≡ true → (covers q p ≡ true) ⊎ (q ≡ p ++ name ∷ [])
+covers_front [] p name c = inl refl
+covers_front (x ∷ q) [] name c = inr (by q (same_name-is x name (and_parts _ _ c).0) (and_parts _ _ c).1)
+  where
+    by : (q : Path) → x ≡ name → covers q [] ≡ true → x ∷ q ≡ name ∷ []
+    by [] e c = ap (λ (y : PathName). y ∷ []) e
+    by (z ∷ q) e c = absurd (false≢true c)
+covers_front (x ∷ q) (y ∷ p) name c = elim (covers_front q p name (and_parts _ _ c).1) [
+  | inl w ↦ inl (and_from _ _ (and_parts _ _ c).0 w)
+  | inr e ↦ inr (λ i. same_name-is x y (and_parts _ _ c).0 i ∷ e i)
+]

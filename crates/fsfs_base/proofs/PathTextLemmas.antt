@@ -3,14 +3,17 @@ use Rattle.std.proofs.Common.{◌≡◌, ◌≢◌, ℕ, suc, ◌+◌, ◌<◌, 
 use Rattle.std.proofs.lemmas.Option.{same_Some}
 use Rattle.std.proofs.lemmas.Bool.{ltb-true, ltb-false, leb-true, leb-false, lt-leb, le-ltb, eqb-true, eqb-false, ne_eqb, not-true}
 use Rattle.std.proofs.lemmas.List.{nil_from_length, length-append, take_more, take_all, append-nil, map-append}
-use Rattle.std.specs.List.{AllByRecursion, position, slice_split, onto_first, list_any}
+use Rattle.std.specs.List.{AllByRecursion, position, slice_split, onto_first, list_any, position_or_len}
+use Rattle.std.specs.Prelude.{nat_lt}
 use Rattle.fsfs_base.proofs.Readers.{chosen}
+use Rattle.fsfs_base.proofs.CutLemmas.{lacks_from}
 use Rattle.fsfs_base.specs.Paths.{PathName, Path, names_text, path_text, is_root}
 use Rattle.fsfs_base.specs.PathTexts.{is_control, is_dots, HasNoSlash, IsName, IsPath, IsNameFault, HasBadName, IsBadJoin, IsBadPath, IsJoined}
 use Rattle.fsfs_base.specs.PathReading.{control_fault_at, name_fault_at, or_else, names_fault_at}
 use Rattle.fsfs_base.specs.declared.bad_path.BadPath.{BadPath}
 use Rattle.fsfs_base.specs.declared.bad_path.PathFault.{PathFault}
 use Rattle.fsfs_base.specs.declared.bad_path.PathFault.TheVariants.{NotAbsolute, TooDeep, EmptyName, Control, NameTooLong, Dot}
+use Rattle.fsfs_base.specs.Cuts.{Lacks}
 
 abbrev pub pieces : List ℕ → Path
 pieces = slice_split (λ b. eqb b 47)
@@ -348,3 +351,32 @@ name_is_taken name slash is e = (λ t. name_taken name (sym is ∙ not-true slas
 
 pub name_is_refused : (name : PathName) (bad : BadPath) → Some bad ≡ name_fault_at 0 0 name → IsName name → ⊥
 name_is_refused name bad e w = let h = e ∙ (name_taken_back name w).1 in cc
+
+-- ---- one line
+
+-- no control byte, so no end of a line
+name_line : (name : List ℕ) → position is_control name ≡ None → Lacks 10 name
+name_line name e = go (nat_lt (position_or_len is_control name) (length name)) refl e
+  where
+    all : (xs : List ℕ) → length xs ≤ position_or_len is_control xs → Lacks 10 xs
+    all [] le = tt
+    all (b ∷ bs) le = here b bs (is_control b) refl le (all bs)
+      where
+        here : (b : ℕ) (bs : List ℕ) (t : Bool) → is_control b ≡ t → suc (length bs) ≤ cond (not t) (1 + position_or_len is_control bs) 0 → (length bs ≤ position_or_len is_control bs → Lacks 10 bs) → Lacks 10 (b ∷ bs)
+        here b bs true is le more = absurd (omega (arith, le))
+        here b bs false is le more = (ne_eqb b 10 (λ same. clash (sym (ap is_control same) ∙ is)), more (omega (arith, le)))
+          where
+            clash : true ≡ false → ⊥
+            clash e = cc
+
+    go : (t : Bool) → nat_lt (position_or_len is_control name) (length name) ≡ t → cond t (Some (position_or_len is_control name)) None ≡ None → Lacks 10 name
+    go true is e = absurd cc
+    go false is e = all name (ltb-false _ _ is)
+
+names_line : (p : Path) → AllByRecursion IsName p → Lacks 10 (names_text p)
+names_line [] all = tt
+names_line (x ∷ p) all = (refl, lacks_from 10 x (names_text p) (name_line x all.0.no_control) (names_line p all.1))
+
+pub path_text_line : (p : Path) → IsPath p → Lacks 10 (path_text p)
+path_text_line [] w = (refl, tt)
+path_text_line (x ∷ p) w = names_line (x ∷ p) w.names

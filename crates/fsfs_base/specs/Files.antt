@@ -1,6 +1,6 @@
 -- The files of a repository: bytes by name, and what a change of names makes of them.
-use Rattle.std.specs.Prelude.{ℕ, List, Option, Some, None, [], ◌∷◌}
-use Rattle.std.specs.Ordering.{nat_cmp}
+use Rattle.std.specs.Prelude.{ℕ, List, Option, Some, None, [], ◌∷◌, Bool}
+use Rattle.std.specs.Ordering.{nat_cmp, is_eq}
 use Rattle.std.specs.Cmp.Lexicographic.{slice_cmp}
 use Rattle.std.specs.FinMap as map
 use Rattle.std.specs.FinMap.{FinMap}
@@ -8,6 +8,10 @@ use Rattle.std.specs.FinMap.{FinMap}
 -- bytes by name
 abbrev pub Files : Type 0
 Files = FinMap (slice_cmp nat_cmp) (List ℕ)
+
+-- two names are the same
+abbrev pub same_text : List ℕ → List ℕ → Bool
+same_text a b = is_eq (slice_cmp nat_cmp a b)
 
 -- a name and the bytes of its file
 abbrev pub NamedFile : Type 0

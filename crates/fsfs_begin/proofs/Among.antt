@@ -29,6 +29,7 @@ use Rattle.fsfs_turn.specs.Learning.{MayMake}
 use Rattle.fsfs_turn.specs.Views.{View, Begins, Looked, LockTaken, LockGiven, MayGive, is_held}
 use Rattle.fsfs_turn.proofs.Doubts.{same_faults}
 use Rattle.fsfs_turn.proofs.Reading.{begins_on}
+use Rattle.fsfs_turn.proofs.Moments.{begins_itself}
 use Rattle.fsfs_begin.specs.Steps.{Steps, End, HasName, Moved}
 use Rattle.fsfs_begin.specs.TurnBeginDrawing.{Draws}
 use Rattle.fsfs_begin.specs.Faults.{Cause, LacksNumber, NoNumber, named_fault, read_fault}
@@ -36,7 +37,7 @@ use Rattle.fsfs_begin.specs.TurnBeginBegun.{IsMade, IsMadeAmong, HasBegunAmong}
 use Rattle.fsfs_begin.specs.Labels.{ListsNoMore}
 use Rattle.fsfs_begin.specs.declared.turn_begin_begin_fault.BeginFault.{BeginFault}
 use Rattle.fsfs_begin.proofs.Benching.{no_more_on}
-use Rattle.fsfs_begin.proofs.Going.{begins_itself, steps_on, one_turn}
+use Rattle.fsfs_begin.proofs.Going.{steps_on, one_turn}
 use Rattle.fsfs_begin.proofs.Moving.{moved_on, by_look, moved_by, may_give, given_over, bytes_stay, longer}
 
 -- ---- the lock may be given, however the section went

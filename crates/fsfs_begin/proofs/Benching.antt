@@ -1,11 +1,11 @@
 -- The label and the files of a bench that was made or dropped.
-use Rattle.std.proofs.Common.{◌≡◌, ◌≤◌, ℕ, List, [], ◌∷◌, ◌++◌, Bool, true, false, cond, inl, inr, ⊎_elim, refl, sym, ap, subst, ◌∙◌, arith}
+use Rattle.std.proofs.Common.{◌≡◌, ◌≤◌, ℕ, List, Bool, true, false, inl, inr, ⊎_elim, refl, sym, ap, subst, ◌∙◌, arith}
 use Rattle.std.specs.Prelude.{Option, Some, None, IfSome, IfOk, option_map, Result, Ok, Err, OnErr}
 use Rattle.std.specs.FinMap.{empty}
 use Rattle.fsfs_base.specs.Files.{Files}
 use Rattle.fsfs_base.specs.Failures.{Rose}
-use Rattle.fsfs_disk.specs.Labels.{Label, same_label, has_label, with_label, without_label}
-use Rattle.fsfs_disk.proofs.LabelLemmas.{has-without, has-with, same_label-itself}
+use Rattle.fsfs_disk.specs.Labels.{Label, has_label, with_label, without_label}
+use Rattle.fsfs_disk.proofs.LabelLemmas.{has-without, has-with, without-with}
 use Rattle.fsfs_noderev.specs.declared.node_id.NodeId.{NodeId}
 use Rattle.fsfs_begin.specs.Benches.{first_files, with_first_files}
 use Rattle.fsfs_turn.specs.Labels.{Relabels, Drops}
@@ -37,15 +37,6 @@ filled_now id root new held left empty_is files = files ∙ ap (λ o. option_map
     by_new (Some ls) = refl
 
 -- ---- of a pass that is alone, in the labels before
-
--- a label that came and went
-pub without-with : (l : Label) (ls : List Label) → without_label l (with_label l ls) ≡ without_label l ls
-without-with l [] = ap (λ b. cond b [] (l ∷ [])) (same_label-itself l)
-without-with l (k ∷ ls) = by_test (same_label k l) (without-with l ls) refl where
-  by_test : (b : Bool) → without_label l (with_label l ls) ≡ without_label l ls → same_label k l ≡ b
-      → without_label l (cond b (without_label l ls) (k ∷ without_label l ls) ++ l ∷ []) ≡ cond b (without_label l ls) (k ∷ without_label l ls)
-  by_test true rest is = rest
-  by_test false rest is = ap (λ b. cond b (without_label l (with_label l ls)) (k ∷ without_label l (with_label l ls))) is ∙ ap (λ xs. k ∷ xs) rest
 
 pub came_and_went : (l : Label) (old mid new : Option (List Label)) → mid ≡ option_map (with_label l) old → new ≡ option_map (without_label l) mid → new ≡ option_map (without_label l) old
 came_and_went l old mid new came went = went ∙ ap (λ o. option_map (without_label l) o) came ∙ by_old old

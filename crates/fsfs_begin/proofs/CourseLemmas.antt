@@ -16,7 +16,7 @@ use Rattle.fsfs_layout.specs.declared.only_file.OnlyFile.TheVariants.{TxnCurrent
 use Rattle.fsfs_layout.specs.Small.{IsBase36Line}
 use Rattle.fsfs_base.specs.declared.place.BeginPlace.{BeginPlace}
 use Rattle.fsfs_base.specs.declared.place.BeginPlace.TheVariants as places
-use Rattle.fsfs_disk.specs.Removals.{WasKept}
+use Rattle.fsfs_disk.specs.Removals.{WasKept, HasSameLabels}
 use Rattle.fsfs_disk.proofs.InTurn.{stays_itself}
 use Rattle.fsfs_begin.specs.Counter.{HasNumber, IsAtLeast, IsOldOrNext, IsRaised, with_counter}
 use Rattle.fsfs_begin.specs.Drawing.{after_put, after_rename, after_drawing, StopsRaising}
@@ -120,32 +120,29 @@ all_drawn_firm text old new is = firm_after (option_map (after_rename text) old)
 
 -- ---- labels are no files
 
-abbrev KeepsThem : Option Trace → Option Trace → Type 0
-KeepsThem old new = option_map labels_now new ≡ option_map labels_now old
-
-then_them : (a b c : Option Trace) → KeepsThem a b → KeepsThem b c → KeepsThem a c
+then_them : (a b c : Option Trace) → HasSameLabels a b → HasSameLabels b c → HasSameLabels a c
 then_them a b c f g = g ∙ f
 
 -- a change that is of no label
 abbrev OfNone : NameChange → Type 0
 OfNone change = (t : Trace) → labels_now (add_operation (Done change) t) ≡ labels_now t
 
-performed_them : (change : NameChange) (old new : Option Trace) → OfNone change → Performs change old new → KeepsThem old new
+performed_them : (change : NameChange) (old new : Option Trace) → OfNone change → Performs change old new → HasSameLabels old new
 performed_them change None new none performed = ap (λ o. option_map labels_now o) performed
 performed_them change (Some t) new none performed = ap (λ o. option_map labels_now o) performed ∙ ap (λ (ls : List Label). Some ls) (none t)
 
-attempted_them : (change : NameChange) (old new : Option Trace) → new ≡ option_map (add_operation (Attempted change)) old → KeepsThem old new
+attempted_them : (change : NameChange) (old new : Option Trace) → new ≡ option_map (add_operation (Attempted change)) old → HasSameLabels old new
 attempted_them change None new e = ap (λ o. option_map labels_now o) e
 attempted_them change (Some t) new e = ap (λ o. option_map labels_now o) e
 
-failed_them : (change : NameChange) (old new : Option Trace) → OfNone change → FailsAt change old new → KeepsThem old new
+failed_them : (change : NameChange) (old new : Option Trace) → OfNone change → FailsAt change old new → HasSameLabels old new
 failed_them change old new none at =
     ⊎_elim (λ e. ap (λ o. option_map labels_now o) e) (λ w. ⊎_elim (attempted_them change old new) (performed_them change old new none) w) at
 
-put_them : (text : List ℕ) (old : Option Trace) → KeepsThem old (option_map (after_put text) old)
+put_them : (text : List ℕ) (old : Option Trace) → HasSameLabels old (option_map (after_put text) old)
 put_them text old = performed_them (Put (only_name TxnCurrentNext) text) old (option_map (after_put text) old) (λ t. refl) (put_performs text old)
 
-rename_them : (text : List ℕ) (old : Option Trace) → KeepsThem old (option_map (after_rename text) old)
+rename_them : (text : List ℕ) (old : Option Trace) → HasSameLabels old (option_map (after_rename text) old)
 rename_them text old =
     then_them old (option_map (after_put text) old) (option_map (after_rename text) old) (put_them text old)
     (performed_them to_counter (option_map (after_put text) old) (option_map (after_rename text) old) (λ t. refl) (rename_performs text old))

@@ -1,5 +1,6 @@
 -- Calls of a begin's section, one after another.
-use Rattle.std.proofs.Common.{◌≡◌, ◌<◌, ℕ, List, [], ◌∷◌, ◌++◌, length, Bool, true, false, cond, refl, sym, ap, subst, ◌∙◌, arith, append-nil, length-append}
+use Rattle.std.proofs.Common.{◌≡◌, ◌<◌, ℕ, List, [], ◌∷◌, ◌++◌, length, Bool, true, false, cond, refl, sym, ap, subst, ◌∙◌, arith, length-append}
+use Rattle.std.proofs.lemmas.Option.{same_Some}
 use Rattle.std.specs.Prelude.{Some, Result, Ok, Err}
 use Rattle.fsfs_base.specs.declared.place.BeginPlace.{BeginPlace}
 use Rattle.fsfs_base.specs.declared.place.BeginPlace.TheVariants as place
@@ -15,7 +16,7 @@ use Rattle.fsfs_machine.specs.declared.machine.Step.TheVariants as step
 use Rattle.fsfs_machine.specs.declared.machine.Went.{Went}
 use Rattle.fsfs_machine.specs.declared.machine.Went.TheVariants.{Fine, Before, After, Torn}
 use Rattle.fsfs_machine.specs.Machine.{World, is_fine_in, answer, after, spoiled}
-use Rattle.fsfs_turn.specs.Views.{View, Turned, Begins, with_txns, Called, called_view, given_by}
+use Rattle.fsfs_turn.specs.Views.{View, Turned, with_txns, Called, called_view, given_by}
 use Rattle.fsfs_turn.specs.Learning.{TurnedFrom, CounterRead, drawn_of}
 use Rattle.fsfs_base.specs.declared.txn_name.TxnName.{TxnName}
 use Rattle.fsfs_begin.specs.declared.name_fault.NameFault.TheVariants.{DiskFault, Memory}
@@ -24,9 +25,6 @@ use Rattle.fsfs_begin.specs.Steps.{Steps, End, More, Reached, Stopped, IsGiven}
 use Rattle.fsfs_begin.specs.TurnBeginDrawing.{HasRead, Raises, Draws}
 
 -- ---- courses
-
-pub begins_itself : (h : List Recorded) → Begins h h
-begins_itself h = ([], sym (append-nil h))
 
 pub steps_on : (v m u : View) → Steps v m → Steps m u → Steps v u
 steps_on v m u (End _) more = more
@@ -40,16 +38,13 @@ one_turn txns s outcome v u t = one_step (with_txns txns) s outcome v u (record 
 
 -- ---- a call of the section
 
-some_one : {A : Type 0} (a b : A) → Some a ≡ Some b → a ≡ b
-some_one a b e = cc
-
 module _ (at : BeginPlace) (v : View) (s : Section) (inside : v.section ≡ Some s) where
   abbrev view_by : Bool → List Recorded → List ℕ → View
   view_by b h given = record v { pass = record v.pass { seen = length h; faults = cond b v.pass.faults (v.pass.faults ++ Begin at ∷ []) }; seen = h; section = Some (cond b (after s) (spoiled s)); given = given }
 
   called_is : (went : Went) (u : View) → Called (Begin at) went v u → u ≡ view_by (is_fine_in went) u.seen (given_by s went v.given)
   called_is went u c =
-      let same : c.inside ≡ s = some_one c.inside s (sym c.was ∙ inside) in
+      let same : c.inside ≡ s = same_Some c.inside s (sym c.was ∙ inside) in
       c.is ∙ ap (λ r. called_view u.seen (Begin at) went r v) same
 
   pub reached : ((went : Went) (given : List ℕ) → given_by s went given ≡ given) → (went : Went) (u : View) → is_fine_in went ≡ true → Called (Begin at) went v u → Reached (after s) v u

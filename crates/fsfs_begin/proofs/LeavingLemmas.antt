@@ -7,20 +7,15 @@ use Rattle.fsfs_disk.specs.Labels.{Label, has_label}
 use Rattle.fsfs_disk.specs.Trace.{Trace, files_now, labels_now}
 use Rattle.fsfs_disk.specs.Crash.{AllImages, AreAll, KeepsImages, Leaves, LeavesBoth}
 use Rattle.fsfs_disk.proofs.CrashLemmas.{keeps_then, leaves_then, leaves_with}
-use Rattle.fsfs_disk.proofs.LeftLemmas.{both_then}
+use Rattle.fsfs_disk.proofs.LeftLemmas.{both_then, both_with}
 use Rattle.fsfs_disk.specs.Txns.{txn_label}
 use Rattle.fsfs_disk.specs.Removals.{HasLabels, IsImageOf, WasKept}
-use Rattle.fsfs_begin.specs.Benches.{IsOldOrThis}
+use Rattle.fsfs_disk.specs.Published.{IsOldOrThis}
 use Rattle.fsfs_begin.specs.Begun.{IsOldOrDrawn, WasDrawn}
 use Rattle.fsfs_begin.specs.Counter.{HasNumber, IsAtLeast, IsOldOrNext}
 use Rattle.fsfs_begin.proofs.MakingLemmas.{then_labels}
 
 -- ---- weaker facts
-
-both_with : (a b : Option Trace) (P Q : Files → List Label → Type 0) → ((m : Files) (ls : List Label) → P m ls → Q m ls) → LeavesBoth a b P → LeavesBoth a b Q
-both_with None b P Q f w = tt
-both_with (Some t) None P Q f w = absurd w
-both_with (Some t) (Some u) P Q f w = record { later = w.later; each = λ n m ls le since. ⊎_elim (λ before. inl before) (λ p. inr (f m ls p)) (w.each n m ls le since) }
 
 -- what is told of files goes on, where a crash leaves what it left before
 all_of : (P : Files → Type 0) (mid new : Option Trace) → option_map files_now new ≡ option_map files_now mid → AllImages new (IsImageOf mid) → AllImages mid P → AllImages new P

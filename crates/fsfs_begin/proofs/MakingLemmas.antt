@@ -1,22 +1,24 @@
 -- What making a bench leaves, from what each of its calls did.
-use Rattle.std.proofs.Common.{◌≡◌, ◌⊎◌, ◌≤◌, ℕ, List, [], ◌∷◌, ◌++◌, Bool, true, false, cond, inl, inr, ⊎_elim, refl, ap, ◌∙◌, arith}
+use Rattle.std.proofs.Common.{◌≡◌, ◌⊎◌, ◌≤◌, ℕ, List, [], Bool, inl, inr, ⊎_elim, refl, ap, ◌∙◌, arith}
 use Rattle.std.specs.Prelude.{Option, Some, None, option_map, Result, Ok, Err, OnOk, OnErr, codes}
 use Rattle.std.specs.FinMap.{empty}
 use Rattle.fsfs_base.specs.Failures.{Rose, added_count}
 use Rattle.fsfs_base.specs.Files.{Files}
-use Rattle.fsfs_disk.specs.Labels.{Label, same_label, with_label, without_label}
+use Rattle.fsfs_disk.specs.Labels.{Label, with_label, without_label}
 use Rattle.fsfs_disk.specs.Benches.{written}
 use Rattle.fsfs_disk.specs.Trace.{Trace, KeepLabel, DropLabel, files_now, labels_now, Attempts, Performs, FailsAt}
-use Rattle.fsfs_disk.specs.Crash.{AllImages, AllLabels, AreAll, KeepsLabels, Leaves, LeavesBoth}
+use Rattle.fsfs_disk.specs.Crash.{AllImages, AreAll, Leaves, LeavesBoth}
 use Rattle.fsfs_disk.proofs.CrashLemmas.{keeps_label, keeps_no_label, keeps_then, own_images}
-use Rattle.fsfs_disk.proofs.LabelLemmas.{same_label-itself}
-use Rattle.fsfs_disk.proofs.LeftLemmas.{amid_made, amid_same, keeps_labels_at, keeps_labels_then}
+use Rattle.fsfs_disk.proofs.LeftLemmas.{keeps_labels_then}
 use Rattle.fsfs_disk.specs.Removals.{HasLabels, IsImageOf}
+use Rattle.fsfs_disk.specs.Published.{IsOldOrThis}
 use Rattle.fsfs_disk.proofs.InTurn.{files_ended}
+use Rattle.fsfs_disk.proofs.PublishLemmas.{old_labels, makes_label, drops_label}
+use Rattle.fsfs_disk.proofs.LabelLemmas.{without-with}
 use Rattle.fsfs_noderev.specs.declared.node_id.NodeId.{NodeId}
 use Rattle.fsfs_txn_files.specs.FileNames.{file_name}
 use Rattle.fsfs_txn_files.specs.declared.folder_file.FolderFile.TheVariants.{Node}
-use Rattle.fsfs_begin.specs.Benches.{first_files, with_first_files, IsOldOrThis}
+use Rattle.fsfs_begin.specs.Benches.{first_files, with_first_files}
 
 -- ---- the first files
 
@@ -60,34 +62,6 @@ pub rose_before : (old mid new : ℕ) → Rose old mid → mid ≤ new → Rose 
 rose_before old mid new rose later = omega (arith, rose, later)
 
 -- ---- its label
-
-without-append : (l : Label) (xs ys : List Label) → without_label l (xs ++ ys) ≡ without_label l xs ++ without_label l ys
-without-append l [] ys = refl
-without-append l (k ∷ xs) ys = by_head (same_label k l) (without-append l xs ys)
-  where
-    by_head : (b : Bool) → without_label l (xs ++ ys) ≡ without_label l xs ++ without_label l ys → cond b (without_label l (xs ++ ys)) (k ∷ without_label l (xs ++ ys)) ≡ cond b (without_label l xs) (k ∷ without_label l xs) ++ without_label l ys
-    by_head true rest = rest
-    by_head false rest = ap (λ (z : List Label). k ∷ z) rest
-
-without_twice : (l : Label) (ls : List Label) → without_label l (without_label l ls) ≡ without_label l ls
-without_twice l [] = refl
-without_twice l (k ∷ ls) = by_head (same_label k l) refl (without_twice l ls)
-  where
-    by_head : (b : Bool) → same_label k l ≡ b → without_label l (without_label l ls) ≡ without_label l ls → without_label l (cond b (without_label l ls) (k ∷ without_label l ls)) ≡ cond b (without_label l ls) (k ∷ without_label l ls)
-    by_head true is rest = rest
-    by_head false is rest = ap (λ b. cond b (without_label l (without_label l ls)) (k ∷ without_label l (without_label l ls))) is ∙ ap (λ (z : List Label). k ∷ z) rest
-
-append_none : (ls : List Label) → ls ++ [] ≡ ls
-append_none [] = refl
-append_none (k ∷ ls) = ap (λ (z : List Label). k ∷ z) (append_none ls)
-
--- a label that was made and dropped is gone
-without-with : (l : Label) (ls : List Label) → without_label l (with_label l ls) ≡ without_label l ls
-without-with l ls =
-    without-append l (without_label l ls) (l ∷ [])
-    ∙ ap (λ (z : List Label). without_label l (without_label l ls) ++ z) (ap (λ b. cond b [] (l ∷ [])) (same_label-itself l))
-    ∙ append_none (without_label l (without_label l ls))
-    ∙ without_twice l ls
 
 -- the labels after two calls
 pub then_labels : (f g h : List Label → List Label) (old mid new : Option Trace) → ((ls : List Label) → g (f ls) ≡ h ls) → HasLabels f old mid → HasLabels g mid new → HasLabels h old new
@@ -154,16 +128,6 @@ pub record AddsOnly (l : Label) (old new : Option Trace) : Type 0 where
   pub images : AllImages new (IsImageOf old)
   pub moments : Leaves old new (IsImageOf old)
   pub left : LeavesBoth old new (λ m ls. AreAll (IsOldOrThis l old) ls)
-
-old_labels : (l : Label) (old : Option Trace) → AllLabels old (IsOldOrThis l old)
-old_labels l None = tt
-old_labels l (Some t) = λ k has. inr has
-
-makes_label : (l : Label) (first old new : Option Trace) → FailsAt (KeepLabel l) old new → KeepsLabels old new (IsOldOrThis l first)
-makes_label l first old new made = keeps_labels_at (KeepLabel l) (IsOldOrThis l first) old new made (amid_made l (IsOldOrThis l first) (inl refl))
-
-drops_label : (l : Label) (first old new : Option Trace) → FailsAt (DropLabel l) old new → KeepsLabels old new (IsOldOrThis l first)
-drops_label l first old new dropped = keeps_labels_at (DropLabel l) (IsOldOrThis l first) old new dropped (amid_same (DropLabel l) (IsOldOrThis l first) (λ ls. refl))
 
 pub adds_made : (l : Label) (old new : Option Trace) → Performs (KeepLabel l) old new → AddsOnly l old new
 adds_made l old new made =

@@ -23,7 +23,8 @@ use Rattle.fsfs_begin.specs.TurnBeginDrawing.{IsUndrawn}
 use Rattle.fsfs_begin.specs.Faults.{Cause, named_fault}
 use Rattle.fsfs_begin.specs.TurnBeginBegun.{IsMade}
 use Rattle.fsfs_turn.proofs.Reading.{begins_on}
-use Rattle.fsfs_begin.proofs.Going.{begins_itself, steps_on, one_step, one_turn}
+use Rattle.fsfs_turn.proofs.Moments.{begins_itself}
+use Rattle.fsfs_begin.proofs.Going.{steps_on, one_step, one_turn}
 
 -- ---- the pass moved on
 

@@ -1,9 +1,9 @@
 -- The bench of a transaction that begins: its first files, and what is left where it could not be made.
-use Rattle.std.specs.Prelude.{◌≡◌, ◌⊎◌, ℕ, List, [], true, Option, IfSome, codes}
+use Rattle.std.specs.Prelude.{◌⊎◌, ℕ, List, [], Option, IfSome, codes}
 use Rattle.std.specs.FinMap.{insert, empty}
 use Rattle.fsfs_base.specs.Files.{Files}
-use Rattle.fsfs_disk.specs.Labels.{Label, has_label, with_label, without_label}
-use Rattle.fsfs_disk.specs.Trace.{Trace, labels_now}
+use Rattle.fsfs_disk.specs.Labels.{Label, with_label, without_label}
+use Rattle.fsfs_disk.specs.Trace.{Trace}
 use Rattle.fsfs_disk.specs.Removals.{HasLabels}
 use Rattle.fsfs_noderev.specs.declared.node_id.NodeId.{NodeId}
 use Rattle.fsfs_noderev.specs.declared.node_rev.NodeRev.{NodeRev}
@@ -26,10 +26,6 @@ first_files id root = with_first_files id root empty
 -- the files of a bench tell a folder that has this root alone, whatever its prototype file has
 abbrev pub TellsRoot : NodeRev → Option Files → Type 0
 TellsRoot root held = (proto : List ℕ) → IfSome held (λ m. TellsFolder m (root_folder root proto))
-
--- a label that was kept before, or this one
-abbrev pub IsOldOrThis : Label → Option Trace → Label → Type 0
-IsOldOrThis l old k = (k ≡ l) ⊎ IfSome old (λ t. has_label k (labels_now t) ≡ true)
 
 -- Why there is no bench, and the labels that are left; `disk` and `benches` say that these counts of faults rose.
 -- Where the disk failed to make it, the label is as it was, or kept, or gone. Where the bench failed the label is gone,

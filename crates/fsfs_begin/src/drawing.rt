@@ -19,7 +19,7 @@ use std::alloc::Global;
 const MOST: usize = 64;
 
 // The number that these bytes of `db/txn-current` say.
-fn number_in(bytes: &[u8]) -> Result<B36, NameFault>
+pub(crate) fn number_in(bytes: &[u8]) -> Result<B36, NameFault>
     ensures found { IfOk result (λ b. IsBase36Line bytes.now b.number) }
     ensures refused { IfErr result (IsSmallIn bytes.now) }
 {

@@ -1,39 +1,12 @@
 // The root of a transaction that begins.
 ghost use Rattle.std.specs.Prelude.{◌≡◌, IfOk};
 ghost use Rattle.fsfs_noderev.specs.Writing.{HasText};
-ghost use Rattle.fsfs_revision.specs.Chains.{own_rev};
-ghost use Rattle.fsfs_draft.specs.Rules.{lasting_root};
 ghost use Rattle.fsfs_begin.specs.Beginning.{BeginsOn};
 
-use fsfs_base::{FsPath, RevNum, TxnName};
-use fsfs_noderev::{CopyRoot, NodeId, NodeRev, Place};
+use fsfs_base::{FsPath, TxnName};
+use fsfs_draft::lasting_root;
+use fsfs_noderev::{NodeId, NodeRev, Place};
 use std::alloc::{AllocError, Global};
-
-// The revision that a node-revision is of.
-fn own_rev(node: &NodeRev) -> RevNum
-    ensures { result ≡ own_rev node.now }
-{
-    match &node.id.place {
-        Place::At(rev, _) => *rev,
-        Place::In(_) => RevNum::ZERO,
-    }
-}
-
-// The copy root of a node-revision of a revision.
-fn lasting_root(node: &NodeRev) -> Result<CopyRoot, AllocError>
-    ensures { IfOk result (λ r. (r.rev, r.path) ≡ lasting_root node.now) }
-{
-    match &node.copy_root {
-        None => Ok(CopyRoot {
-            rev: Some(own_rev(node)),
-            path: node.created_path.clone()?,
-        }),
-        Some(root) => Ok(CopyRoot {
-            rev: Some(root.rev.unwrap_or(RevNum::ZERO)),
-            path: root.path.clone()?,
-        }),
-    }
-}
 
 /// The root of a new transaction of this name: it goes on from the root of its base, and is marked as one that nothing has changed
 /// yet.

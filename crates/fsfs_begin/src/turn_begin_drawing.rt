@@ -2,7 +2,6 @@
 ghost use Rattle.std.specs.Prelude.{◌≡◌, ◌⊎◌, ◌≤◌, ◌-◌, ◌^◌, true, Some, None, OnOk, IfOk, IfErr};
 ghost use Rattle.fsfs_base.specs.Failures.{HasCause, Rose};
 ghost use Rattle.fsfs_layout.specs.Small.{IsBase36Line};
-ghost use Rattle.fsfs_begin.specs.Drawing.{IsSmallIn};
 ghost use Rattle.fsfs_machine.specs.declared.machine.Drawn.{Drawn};
 ghost use Rattle.fsfs_machine.specs.declared.machine.Section.TheVariants.{Begun, CountRead};
 ghost use Rattle.fsfs_turn.specs.Labels.{KeepsLabels};
@@ -13,26 +12,16 @@ ghost use Rattle.fsfs_begin.specs.Faults.{IfDisk, IfNameDisk, IsNoBase, IsNoBenc
 ghost use Rattle.fsfs_begin.specs.TurnBeginDrawing.{Counts, Raises, Draws, Drew};
 
 use crate::NameFault;
+use crate::drawing::number_in;
 use crate::numbers::{Numbers, may_draw};
 use crate::turn_begin_begin_fault::BeginFault;
 use fsfs_base::{B36, BeginPlace, DiskPlace, RevNum, TxnName, next_b36};
-use fsfs_layout::{OnlyFile, read_txn_current, write_txn_current};
+use fsfs_layout::{OnlyFile, write_txn_current};
 use fsfs_turn::Turns;
 use std::alloc::Global;
 
 // No text of `db/txn-current` has so many bytes, so these first ones tell what all of it would.
 const MOST: usize = 64;
-
-// The number that these bytes of `db/txn-current` say.
-fn number_in(bytes: &[u8]) -> Result<B36, NameFault>
-    ensures found { IfOk result (λ b. IsBase36Line bytes.now b.number) }
-    ensures refused { IfErr result (IsSmallIn bytes.now) }
-{
-    match read_txn_current(bytes) {
-        Ok(number) => Ok(number),
-        Err(fault) => Err(NameFault::Small(fault)),
-    }
-}
 
 // The number that stands in `db/txn-current`, by the section's first call. A file that isn't there counts as empty. Where the machine has no
 // reading of it the pass knows what it knew.

@@ -8,8 +8,8 @@ use Rattle.std.specs.Ordering.{nat_cmp}
 use Rattle.fsfs_base.proofs.PathLemmas.{same_name-refl}
 use Rattle.fsfs_base.specs.Dates.{IsDateText}
 use Rattle.fsfs_tree.specs.Dated.{date_name, IsDated}
-use Rattle.fsfs_txn_files.proofs.EntryLemmas.{found_put}
 use Rattle.fsfs_commit.specs.Dating.{IsDatedAt}
+use Rattle.fsfs_revision.proofs.PairLookups.{found_put}
 
 pub dated_form : (micros : ℕ) (old new : List (List ℕ × List ℕ)) → IsDatedAt micros old new → IsDated new
 dated_form micros old new is value found =

@@ -1,6 +1,7 @@
 -- Bytes written behind those of a file, and a transaction that nothing was done to.
 use Rattle.std.proofs.Common.{◌≡◌, ◌∙◌, ℕ, List, ◌++◌, sym, ap, subst}
-use Rattle.std.specs.Prelude.{Option, Some, None, Result, Ok, Err, option_map, IsSome, IfSome, IfErr, OnOk, OnErr}
+use Rattle.std.proofs.lemmas.Option.{same_Some}
+use Rattle.std.specs.Prelude.{Option, Some, None, Result, Ok, Err, option_map, IsSome, IfSome, OnOk, OnErr}
 use Rattle.fsfs_base.specs.Files.{Files}
 use Rattle.fsfs_base.specs.declared.failed.Failed.{Failed}
 use Rattle.fsfs_disk.specs.Benches.{appended, bytes_on}
@@ -26,13 +27,6 @@ txn_as h n m b d f g x name base folder is = subst (λ z. IsTxnOf h z d g x) (sy
 pub means_as : (s t : Option Failed) (h : List Recorded) (n m : TxnName) (b d : ℕ) (f g : Folder) (x : Txn) → t ≡ s → m ≡ n → d ≡ b → g ≡ f → Means s h n b f x → Means t h m d g x
 means_as s t h n m b d f g x spent name base folder means = λ none. txn_as h n m b d f g x name base folder (means (sym spent ∙ none))
 
--- what a call says, where its answer is known
-pub on_ok : {X E : Type 0} (r : Result X E) (x : X) (P : Type 0) → r ≡ Ok x → OnOk r P → P
-on_ok r x P e w = subst (λ z. OnOk z P) e w
-
-pub on_err : {X E : Type 0} (r : Result X E) (x : E) (P : Type 0) → r ≡ Err x → OnErr r P → P
-on_err r x P e w = subst (λ z. OnErr z P) e w
-
 pub ok_then : {X E : Type 0} (r : Result X E) (P Q : Type 0) → (P → Q) → OnOk r P → OnOk r Q
 ok_then (Ok x) P Q f p = f p
 ok_then (Err e) P Q f p = tt
@@ -41,16 +35,6 @@ pub err_then : {X E : Type 0} (r : Result X E) (P Q : Type 0) → (P → Q) → 
 err_then (Ok x) P Q f p = tt
 err_then (Err e) P Q f p = f p
 
-pub if_err : {X E : Type 0} (r : Result X E) (x : E) (P : E → Type 0) → r ≡ Err x → IfErr r P → P x
-if_err r x P e w = subst (λ z. IfErr z P) e w
-
-pub if_err_then : {X E : Type 0} (r : Result X E) (P Q : E → Type 0) → ((e : E) → P e → Q e) → IfErr r P → IfErr r Q
-if_err_then (Ok x) P Q f p = tt
-if_err_then (Err e) P Q f p = f e p
-
-pub some_same : {A : Type 0} (a b : A) → Some a ≡ Some b → a ≡ b
-some_same a b e = cc
-
 -- what was made last, where that is there
 pub held_text : {V : Type 0} (items : V → List ℕ) (o : Option V) (v : V) (more : List ℕ) → o ≡ Some v → option_map items o ≡ Some more → items v ≡ more
-held_text items o v more e w = some_same (items v) more (sym (ap (option_map items) e) ∙ w)
+held_text items o v more e w = same_Some (items v) more (sym (ap (option_map items) e) ∙ w)

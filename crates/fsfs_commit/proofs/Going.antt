@@ -1,5 +1,6 @@
 -- Calls of a section, one after another.
 use Rattle.std.proofs.Common.{◌≡◌, ◌≤◌, ℕ, List, [], ◌∷◌, ◌++◌, length, Bool, true, false, cond, refl, sym, ap, subst, ◌∙◌, arith}
+use Rattle.std.proofs.lemmas.Option.{same_Some}
 use Rattle.std.specs.Prelude.{Some, None, Result, Ok, Err, OnOk, OnErr}
 use Rattle.fsfs_base.specs.Failures.{HasCause, Rose}
 use Rattle.fsfs_tree.specs.Revisions.{Revision}
@@ -23,14 +24,11 @@ use Rattle.fsfs_turn.specs.Courses.{Course, End, More}
 use Rattle.fsfs_turn.proofs.Reading.{course_on}
 use Rattle.fsfs_commit.specs.Courses.{IsMade, Reached, Failed, leaves_doubt, spoilt, Goes, Ended, Published, StoppedAt, ends_at}
 
-some_one : {A : Type 0} (a b : A) → Some a ≡ Some b → a ≡ b
-some_one a b e = cc
-
 -- a call of a section with a revision to come, and what it did
 module _ (place : CommitPlace) (v : View) (s : Section) (x : Coming) (at : v.section ≡ Some s) (next : coming_in s ≡ Some x) (names : (went : Went) (given : List ℕ) → given_by s went given ≡ given) where
   plain : (went : Went) (u : View) → Called (Commit place) went v u → u ≡ called_view v.seen (Commit place) went s v
   plain went u c =
-      let inside : c.inside ≡ s = some_one c.inside s (sym c.was ∙ at) in
+      let inside : c.inside ≡ s = same_Some c.inside s (sym c.was ∙ at) in
       let seen : u.seen ≡ v.seen = c.same x (ap (λ o. coming_at o) at ∙ next) in
       c.is ∙ ap (λ r. called_view u.seen (Commit place) went r v) inside ∙ ap (λ h. called_view h (Commit place) went s v) seen
 

@@ -1,25 +1,20 @@
 -- Items as the revision tells them.
 use Rattle.std.proofs.Common.{◌≡◌, ◌∙◌, ◌<◌, ℕ, zero, suc, Bool, true, false, cond, List, [], ◌∷◌, ◌++◌, map, reverse, length, Option, Some, None, refl, sym, ap, subst, append_assoc, arith}
-use Rattle.std.specs.Prelude.{◌≢◌, Contains, option_map, is_some, unwrap_or, slice_index_or}
-use Rattle.std.proofs.lemmas.Bool.{and_parts}
+use Rattle.std.specs.Prelude.{◌≢◌, Contains, option_map, unwrap_or, slice_index_or}
 use Rattle.std.proofs.lemmas.List.{map-append, reverse-append}
 use Rattle.fsfs_base.specs.Paths.{Path, same_path}
 use Rattle.fsfs_base.specs.declared.action.Action.{Action}
-use Rattle.fsfs_base.specs.declared.kind.Kind.{Kind}
 use Rattle.fsfs_base.specs.declared.action.Action.TheVariants.{Add, Delete, Replace, Modify}
 use Rattle.fsfs_base.proofs.PathLemmas.{same_path-is, same_path-refl}
 use Rattle.fsfs_base.specs.declared.txn_name.TxnName.{TxnName}
 use Rattle.fsfs_tree.specs.declared.change_map.Change.{Change}
 use Rattle.fsfs_noderev.specs.declared.node_id.Place.TheVariants as places
 use Rattle.fsfs_noderev.specs.Items.{HasText}
-use Rattle.fsfs_noderev.specs.Words.{flags_fit}
 use Rattle.fsfs_noderev.specs.Changes.{HasNewPath, HavePathsOnce}
 use Rattle.fsfs_noderev.specs.declared.item.ChangeItem.{ChangeItem}
-use Rattle.fsfs_noderev.specs.Limits.{HasPaths, is_told}
 use Rattle.fsfs_edit.specs.FoldedItems.{item_at, text_of}
 use Rattle.fsfs_edit.specs.Marks.{Tells, AgreesWith}
 use Rattle.fsfs_final.specs.Naming.{FinalIds, item_id}
-use Rattle.fsfs_final.proofs.OrderLists.{differ}
 use Rattle.fsfs_commit.specs.Items.{own_id, told_item}
 
 module _ (txn : TxnName) (ids : FinalIds) where
@@ -136,10 +131,3 @@ agreed_back (Some item) c h = (item, refl)
 pub told_from : (txn : TxnName) (ids : FinalIds) (o : Option ChangeItem) (item : ChangeItem) → option_map (told_item txn ids) o ≡ Some item → (y : ChangeItem) × (o ≡ Some y) × (told_item txn ids y ≡ item)
 told_from txn ids None item e = absurd (let clash : None ≡ Some item = e in cc)
 told_from txn ids (Some y) item e = (y, refl, let g = e in cc)
-
--- ---- texts
-
-pub told_has_text : (item : ChangeItem) → HasPaths item → is_told item ≡ true → HasText item
-told_has_text item paths told =
-    let both = and_parts (is_some item.kind) (flags_fit item.action item.text_changed item.props_changed) told in
-    record { kind = λ e. differ (is_some item.kind) both.0 (ap (λ (k : Option Kind). is_some k) e); flags = both.1; path = paths.path; source = paths.source }

@@ -18,10 +18,11 @@ use Rattle.fsfs_noderev.specs.Words.{IsFlagText, IsActionText, IsActionAndKind}
 use Rattle.fsfs_noderev.specs.Items.{IsFirstLine, IsSecondLine, IsItem}
 use Rattle.fsfs_noderev.specs.Changes.{HasNewPath, Items, HavePathsOnce}
 use Rattle.fsfs_noderev.specs.declared.item.ChangeItem.{ChangeItem}
-use Rattle.fsfs_edit.specs.FoldedItems.{FoldedItem, is_delete, joined, fold_items_from, fold_items, item_in, item_at}
+use Rattle.fsfs_edit.specs.FoldedItems.{FoldedItem, joined, fold_items_from, fold_items, item_in, item_at}
 use Rattle.fsfs_revision.specs.Trailers.{IsTrailer}
 use Rattle.fsfs_final.specs.Endings.{IsEndPut}
 use Rattle.fsfs_commit.proofs.ItemLemmas.{apart_of, contained_at}
+use Rattle.fsfs_model.specs.Folding.{deletes}
 
 -- ---- one item
 
@@ -154,9 +155,9 @@ none_said [] p e = refl
 none_said (x ∷ items) p e = by (same_path x.path p) e (λ f. none_said items p f)
   where
     by : (b : Bool) → cond b (Some x) (item_at items p) ≡ None → (item_at items p ≡ None → fold_items_from p None items ≡ None)
-        → fold_items_from p (cond b (joined None x) (cond (is_delete x.action && covers x.path p) None None)) items ≡ None
+        → fold_items_from p (cond b (joined None x) (cond (deletes x.action && covers x.path p) None None)) items ≡ None
     by true f further = absurd (let clash : Some x ≡ None = f in cc)
-    by false f further = ap (λ (o : Option FoldedItem). fold_items_from p o items) (still_none (is_delete x.action && covers x.path p)) ∙ further f
+    by false f further = ap (λ (o : Option FoldedItem). fold_items_from p o items) (still_none (deletes x.action && covers x.path p)) ∙ further f
 
 in_at : (items : List ChangeItem) (p : Path) (item : ChangeItem) → item_at items p ≡ Some item → In item items × (item.path ≡ p)
 in_at [] p item e = absurd (let clash : None ≡ Some item = e in cc)

@@ -1,5 +1,5 @@
 -- A transaction that was landed on a later revision is one of the machine's, landed there.
-use Rattle.std.proofs.Common.{◌≡◌, ◌<◌, ◌≤◌, ◌+◌, ℕ, List, length, inl, inr, refl, sym, ap, subst, ◌∙◌, arith, take, drop}
+use Rattle.std.proofs.Common.{◌≡◌, ◌<◌, ◌≤◌, ◌+◌, ℕ, List, length, inl, inr, refl, sym, ap, subst, ◌∙◌, arith, take}
 use Rattle.std.specs.Prelude.{Option, Some, None, slice_get}
 use Rattle.std.specs.FinMap.{FinMap, get, get-empty}
 use Rattle.std.proofs.lemmas.List.{length-take-le}
@@ -19,9 +19,8 @@ use Rattle.fsfs_machine.specs.declared.machine.Txn.{Txn}
 use Rattle.fsfs_machine.specs.Machine.{revisions, tree_in, merged}
 use Rattle.fsfs_machine.proofs.Growing.{revisions_length}
 use Rattle.fsfs_turn.specs.Bytes.{bytes_of}
-use Rattle.fsfs_turn.specs.Views.{Begins}
 use Rattle.fsfs_turn.proofs.Longer.{tree_first, txn_later}
-use Rattle.fsfs_turn.proofs.Stepping.{take_drop}
+use Rattle.fsfs_turn.proofs.Moments.{begins_take}
 use Rattle.fsfs_commit.specs.Works.{LandedOn}
 use Rattle.fsfs_commit.specs.Meaning.{IsTxnOf}
 use Rattle.fsfs_commit.proofs.Filled.{landed_tree, landed_tree_is}
@@ -40,9 +39,6 @@ landed_map_is h base head t marks n q = landed_tree_is (tree_in (slice_get (revi
     ∙ (λ i. landed_at n (effects marks q) (tree_in_is (slice_get (revisions h) base) q i) (tree_in_is (slice_get (revisions h) head) q i) (get t q))
 
 -- ---- the first part that ends with the head
-
-pub first_part : (n : ℕ) (h : List Recorded) → Begins h (take n h)
-first_part n h = (drop n h, take_drop n h)
 
 pub part_long : (head : ℕ) (h : List Recorded) → head < length h → length (take (head + 1) h) ≡ head + 1
 part_long head h less = length-take-le (head + 1) h (omega (arith, less))
@@ -76,7 +72,7 @@ module _ (head : ℕ) (h : List Recorded) (less : head < length h) (name : TxnNa
     }
 
     same_at : (r : ℕ) → r ≤ head → tree_of (revisions part) r ≡ tree_of (revisions h) r
-    same_at r le = tree_first part h r (first_part (head + 1) h) (omega (arith, le, part_long head h less))
+    same_at r le = tree_first part h r (begins_take (head + 1) h) (omega (arith, le, part_long head h less))
 
     pub landed_on : LandedOn head h x landed
     landed_on = record {
@@ -85,7 +81,7 @@ module _ (head : ℕ) (h : List Recorded) (less : head < length h) (name : TxnNa
       base = refl;
       later = omega (arith, is.on, low);
       there = less;
-      over = txn_later part h landed (first_part (head + 1) h) (omega (arith, part_long head h less)) landed_means.stands.edits;
+      over = txn_later part h landed (begins_take (head + 1) h) (omega (arith, part_long head h less)) landed_means.stands.edits;
       lands = inr (
         subst (λ b. NoClash b (tree_of (revisions h) b) (tree_of (revisions h) head) (get x.tree) x.marks) (sym is.on)
             (subst (λ a. NoClash base a (tree_of (revisions h) head) (get x.tree) x.marks) (same_at base (omega (arith, low))) (subst (λ s. NoClash base (tree base) s (get x.tree) x.marks) (same_at head (omega arith)) clear)),

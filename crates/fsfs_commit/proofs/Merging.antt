@@ -37,12 +37,13 @@ use Rattle.fsfs_commit.specs.declared.error.FinalError.{FinalError}
 use Rattle.fsfs_commit.specs.declared.error.FinalError.TheVariants as finals
 use Rattle.fsfs_commit.specs.Works.{LandedOn}
 use Rattle.fsfs_turn.proofs.Doubts.{read_doubtless}
+use Rattle.fsfs_turn.proofs.Moments.{begins_take}
 use Rattle.fsfs_commit.specs.Meaning.{IsTxnOf}
 use Rattle.fsfs_commit.specs.declared.refusal.CommitRefusal.{CommitRefusal}
 use Rattle.fsfs_commit.specs.Findings.{Finds, SpentByBench, IfBench, Blames}
 use Rattle.fsfs_commit.specs.Refusals.{of_txn, of_final, IsClashAt, IsDiskFault, Refuses}
 use Rattle.fsfs_commit.specs.SeenLemmas.{bytes_same, shown_trees}
-use Rattle.fsfs_commit.proofs.Landing.{first_part, part_long, part_last, landed, landed_means, landed_on}
+use Rattle.fsfs_commit.proofs.Landing.{part_long, part_last, landed, landed_means, landed_on}
 
 -- ---- what only reading tells
 
@@ -61,13 +62,13 @@ reads_once r x went v u t = record {
 
 -- ---- the first part that ends with the head, where no more was seen before
 
-begins_take : {X : Type 0} (n : ℕ) (v more : List X) → length v ≤ n → (rest : List X) × (take n (v ++ more) ≡ v ++ rest)
-begins_take n [] more le = (take n more, refl)
-begins_take zero (x ∷ v) more le = absurd (omega (arith, le))
-begins_take (suc n) (x ∷ v) more le = let w = begins_take n v more (omega (arith, le)) in (w.0, ap (λ l. x ∷ l) w.1)
+take_over : {X : Type 0} (n : ℕ) (v more : List X) → length v ≤ n → (rest : List X) × (take n (v ++ more) ≡ v ++ rest)
+take_over n [] more le = (take n more, refl)
+take_over zero (x ∷ v) more le = absurd (omega (arith, le))
+take_over (suc n) (x ∷ v) more le = let w = take_over n v more (omega (arith, le)) in (w.0, ap (λ l. x ∷ l) w.1)
 
 pub begins_part : (n : ℕ) (g h : List Recorded) → Begins h g → length g ≤ n → Begins (take n h) g
-begins_part n g h b le = let w = begins_take n g b.0 le in (w.0, ap (λ l. take n l) b.1 ∙ w.1)
+begins_part n g h b le = let w = take_over n g b.0 le in (w.0, ap (λ l. take n l) b.1 ∙ w.1)
 
 pub whole_part : (n : ℕ) (h : List Recorded) → length h ≤ n → Begins (take n h) h
 whole_part n h le = begins_part n h h ([], sym (append-nil h)) le
@@ -79,10 +80,10 @@ module _ (v : View) (head : ℕ) (less : head < length v.seen) (name : TxnName) 
   part = take (head + 1) v.seen
 
   same_tree : (r : ℕ) → r ≤ head → tree_of (revisions part) r ≡ tree_of (revisions v.seen) r
-  same_tree r le = tree_first part v.seen r (first_part (head + 1) v.seen) (omega (arith, le, part_long head v.seen less))
+  same_tree r le = tree_first part v.seen r (begins_take (head + 1) v.seen) (omega (arith, le, part_long head v.seen less))
 
   knows : Knows told head (bytes_of part)
-  knows r le = tells r le (omega (arith, le, less)) ∙ ap (λ read. Some read) (sym (bytes_same part v.seen r (first_part (head + 1) v.seen) (omega (arith, le, part_long head v.seen less))))
+  knows r le = tells r le (omega (arith, le, less)) ∙ ap (λ read. Some read) (sym (bytes_same part v.seen r (begins_take (head + 1) v.seen) (omega (arith, le, part_long head v.seen less))))
 
   shows : ShowTrees (bytes_of part) head (tree_of (revisions part))
   shows = subst (λ top. ShowTrees (bytes_of part) top (tree_of (revisions part))) (part_last head v.seen less) (shown_trees part (omega (arith, part_long head v.seen less)) (shown (head + 1) (omega arith)))

@@ -13,12 +13,12 @@ use Rattle.fsfs_machine.specs.declared.machine.Txn.{Txn}
 use Rattle.fsfs_machine.specs.Machine.{revisions}
 use Rattle.fsfs_turn.specs.Views.{Begins}
 use Rattle.fsfs_turn.proofs.Longer.{tree_first, txn_later}
+use Rattle.fsfs_turn.proofs.Alone.{no_shorter}
 use Rattle.fsfs_commit.specs.Works.{LandedOn}
 use Rattle.fsfs_commit.specs.Meaning.{Means}
 use Rattle.fsfs_commit.specs.declared.refusal.CommitRefusal.{CommitRefusal}
 use Rattle.fsfs_commit.specs.declared.refusal.CommitRefusal.TheVariants as refusals
 use Rattle.fsfs_commit.specs.Refusals.{Refuses}
-use Rattle.fsfs_commit.specs.SeenLemmas.{no_shorter}
 
 -- the first part that ends with the head
 pub part_same : (head : ℕ) (h g : List Recorded) → Begins g h → head < length h → take (head + 1) g ≡ take (head + 1) h

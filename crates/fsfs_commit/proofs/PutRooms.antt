@@ -11,9 +11,10 @@ use Rattle.fsfs_noderev.specs.declared.rep.Contents.{Contents}
 use Rattle.fsfs_noderev.specs.declared.rep.Contents.TheVariants as contents
 use Rattle.fsfs_layout.specs.Dump.{Field, Pair, Entries, dump_text}
 use Rattle.fsfs_revision.specs.ShowsReading.{Pairs, DirEntry}
+use Rattle.fsfs_revision.specs.Frames.{framed_text}
+use Rattle.fsfs_revision.specs.EntryRooms.{pair_room, pairs_room, entry_room, entries_room}
 use Rattle.fsfs_draft.specs.Drafts.{Kept}
-use Rattle.fsfs_final.specs.Entries.{pair_room, pairs_room, entry_room, entries_room}
-use Rattle.fsfs_final.specs.Lists.{framed_text, list_of, AreContentsPut}
+use Rattle.fsfs_final.specs.Lists.{list_of, AreContentsPut}
 use Rattle.fsfs_final.specs.Naming.{FinalIds, final_entry}
 use Rattle.fsfs_final.specs.Putting.{AreFinalPairs, ArePut}
 use Rattle.fsfs_commit.specs.Rooms.{list_room, set_room, kept_room}

@@ -1,7 +1,8 @@
 -- The turns of a commit.
-use Rattle.std.proofs.Common.{◌≡◌, ◌<◌, ◌≤◌, ◌+◌, ◌^◌, ℕ, List, [], ◌∷◌, ◌++◌, length, true, refl, sym, ap, subst, ◌∙◌, arith, take, drop, append-nil}
-use Rattle.std.specs.Prelude.{Option, Some, None, is_some, Result, Ok, Err, IfOk, IfErr, OnOk, OnErr}
+use Rattle.std.proofs.Common.{◌≡◌, ◌<◌, ◌≤◌, ◌+◌, ◌^◌, ℕ, List, [], ◌∷◌, ◌++◌, length, true, refl, sym, ap, subst, ◌∙◌, arith, take, append-nil}
+use Rattle.std.specs.Prelude.{Option, Some, None, is_some, Result, IfOk, IfErr}
 use Rattle.std.proofs.lemmas.List.{take_all, length-take}
+use Rattle.std.proofs.lemmas.Result.{IfOk-weaker, IfErr-weaker}
 use Rattle.fsfs_tree.specs.Revisions.{Revision}
 use Rattle.fsfs_tree.specs.Histories.{IsHistory}
 use Rattle.fsfs_model.specs.Transactions.{IsNext}
@@ -34,7 +35,6 @@ use Rattle.fsfs_turn.proofs.Reading.{course_on, begins_on}
 use Rattle.fsfs_turn.proofs.Doubts.{same_faults, looked_doubtless, taken_doubtless, found_doubtless, given_doubtless}
 use Rattle.fsfs_commit.proofs.Doubts.{stopped_doubtless, unless_on}
 use Rattle.fsfs_turn.proofs.Longer.{txn_later}
-use Rattle.fsfs_turn.proofs.Stepping.{take_drop}
 use Rattle.fsfs_commit.proofs.Handing.{entry_back}
 
 -- ---- what a pass drifts by
@@ -131,10 +131,6 @@ by_stopping place v u l = record {
   grows = none_more u.seen v.seen (ap {A = View} (λ z. z.seen) l.is);
   course = course_on v l.before u l.course (one_step [] (ends_at place v.number) outcome.Done l.before u l.last.turned);
 }
-
--- what a draft means stays, as more is seen
-pub begins_take : (n : ℕ) (h : List Recorded) → Begins h (take n h)
-begins_take n h = (drop n h, take_drop n h)
 
 -- ---- landings, as more is seen
 
@@ -584,19 +580,6 @@ short_grows Says (fault.DiskFault place) v u s = (by_stopping place v u s).grows
 
 -- ---- for answers
 
--- what a call says, where its answer is known
-pub on_ok : {X E : Type 0} (r : Result X E) (x : X) (P : Type 0) → r ≡ Ok x → OnOk r P → P
-on_ok r x P e w = subst (λ z. OnOk z P) e w
-
-pub on_err : {X E : Type 0} (r : Result X E) (x : E) (P : Type 0) → r ≡ Err x → OnErr r P → P
-on_err r x P e w = subst (λ z. OnErr z P) e w
-
-pub if_ok : {X E : Type 0} (r : Result X E) (x : X) (P : X → Type 0) → r ≡ Ok x → IfOk r P → P x
-if_ok r x P e w = subst (λ z. IfOk z P) e w
-
-pub if_err : {X E : Type 0} (r : Result X E) (x : E) (P : E → Type 0) → r ≡ Err x → IfErr r P → P x
-if_err r x P e w = subst (λ z. IfErr z P) e w
-
 pub not_lost : (rev : ℕ) → Some rev ≡ None → ⊥
 not_lost rev none = cc
 
@@ -609,23 +592,15 @@ can_next p q v m x y same l = subst (λ z. CanCommit m y z) (sym same) l.can
 pub turn_after : (came : Option ℕ) (p q : List (List ℕ × List ℕ)) (v m o : View) (x y z : Txn) → q ≡ p → Lost p v m x y → IsTurn came q m o y z → IsTurn came p v o x z
 turn_after came p q v m o x y z same l t = turn_on came p v m o x y z l (subst (λ r. IsTurn came r m o y z) same t)
 
-pub if_ok_then : {X E : Type 0} (r : Result X E) (P Q : X → Type 0) → ((x : X) → P x → Q x) → IfOk r P → IfOk r Q
-if_ok_then (Ok x) P Q f p = f x p
-if_ok_then (Err e) P Q f p = tt
-
-pub if_err_then : {X E : Type 0} (r : Result X E) (P Q : E → Type 0) → ((e : E) → P e → Q e) → IfErr r P → IfErr r Q
-if_err_then (Ok x) P Q f p = tt
-if_err_then (Err e) P Q f p = f e p
-
 module _ (K : View → Type 0) (M : List Recorded → Txn → Type 0) (p q : List (List ℕ × List ℕ)) (v m : View) (x y : Txn) (same : q ≡ p) (l : Lost p v m x y) where
   pub all_turns : {E : Type 0} (r : Result (Option ℕ) E) → IfOk r (λ came. (u : View) × (z : Txn) × K u × M u.seen z × IsTurn came q m u y z) → IfOk r (λ came. (u : View) × (z : Txn) × K u × M u.seen z × IsTurn came p v u x z)
-  all_turns r w = if_ok_then r _ _ (λ came a. (a.0, a.1, a.2, a.3, turn_after came p q v m a.0 x y a.1 same l a.4)) w
+  all_turns r w = IfOk-weaker r _ _ (λ came a. (a.0, a.1, a.2, a.3, turn_after came p q v m a.0 x y a.1 same l a.4)) w
 
   pub all_commits : {E : Type 0} (r : Result ℕ E) → IfOk r (λ rev. (u : View) × (z : Txn) × K u × M u.seen z × Committed rev q m u y z) → IfOk r (λ rev. (u : View) × (z : Txn) × K u × M u.seen z × Committed rev p v u x z)
-  all_commits r w = if_ok_then r _ _ (λ rev a. (a.0, a.1, a.2, a.3, turn_after (Some rev) p q v m a.0 x y a.1 same l a.4)) w
+  all_commits r w = IfOk-weaker r _ _ (λ rev a. (a.0, a.1, a.2, a.3, turn_after (Some rev) p q v m a.0 x y a.1 same l a.4)) w
 
   pub all_refusals : {X E : Type 0} (Says : Refusals E) (r : Result X (CommitFault E)) → IfErr r (λ f. (u : View) × (z : Txn) × K u × M u.seen z × Refused Says f m u y z) → IfErr r (λ f. (u : View) × (z : Txn) × K u × M u.seen z × Refused Says f v u x z)
-  all_refusals Says r w = if_err_then r _ _ (λ f a. (a.0, a.1, a.2, a.3, refused_after f p v m a.0 x y a.1 l a.4)) w
+  all_refusals Says r w = IfErr-weaker r _ _ (λ f a. (a.0, a.1, a.2, a.3, refused_after f p v m a.0 x y a.1 l a.4)) w
 
 pub of_rev : (rev same : ℕ) (p : List (List ℕ × List ℕ)) (v u : View) (x y : Txn) → same ≡ rev → Committed rev p v u x y → Committed same p v u x y
 of_rev rev same p v u x y e c = subst (λ n. Committed n p v u x y) (sym e) c

@@ -2,9 +2,9 @@
 use Rattle.std.specs.Prelude.{◌+◌, ◌*◌, ◌≤◌, ℕ, List, length, Option, Some, None, sum_by}
 use Rattle.fsfs_noderev.specs.declared.item.ChangeItem.{ChangeItem}
 use Rattle.fsfs_revision.specs.ShowsReading.{Pairs, DirEntry}
+use Rattle.fsfs_revision.specs.EntryRooms.{pairs_room, entries_room}
 use Rattle.fsfs_draft.specs.Own.{Own}
 use Rattle.fsfs_draft.specs.Drafts.{Kept}
-use Rattle.fsfs_final.specs.Entries.{pairs_room, entries_room}
 use Rattle.fsfs_final.specs.Orders.{IsOrder}
 
 -- a list in its representation

@@ -1,5 +1,5 @@
 -- What more revisions leave of those that were there, and of what their bytes show.
-use Rattle.std.proofs.Common.{◌≡◌, ◌<◌, ◌≤◌, ℕ, suc, zero, List, [], ◌∷◌, ◌++◌, length, refl, sym, ap, subst, ◌∙◌, arith, length-append}
+use Rattle.std.proofs.Common.{◌≡◌, ◌<◌, ℕ, suc, zero, List, [], ◌∷◌, ◌++◌, length, refl, sym, ap, subst, ◌∙◌, arith}
 use Rattle.std.specs.Prelude.{Result, Ok, Err, Some, None, slice_get, codes}
 use Rattle.std.proofs.lemmas.Option.{slice_get_past, slice_get_within}
 use Rattle.std.specs.FinMap.{get}
@@ -21,6 +21,7 @@ use Rattle.fsfs_turn.specs.Bytes.{bytes_beside, bytes_of, ShowsOne, BytesShow}
 use Rattle.fsfs_turn.specs.Views.{Begins}
 use Rattle.fsfs_turn.proofs.Longer.{tree_first}
 use Rattle.fsfs_turn.proofs.Standings.{there_below}
+use Rattle.fsfs_turn.proofs.Alone.{no_shorter}
 
 got_first : (h more : List Recorded) (r : ℕ) → r < length h → slice_get (h ++ more) r ≡ slice_get h r
 got_first [] more r less = absurd (omega (arith, less))
@@ -32,9 +33,6 @@ got_same h g r b less = ap (λ l. slice_get l r) b.1 ∙ got_first h b.0 r less
 
 pub bytes_same : (h g : List Recorded) (r : ℕ) → Begins g h → r < length h → bytes_of h r ≡ bytes_of g r
 bytes_same h g r b less = ap (λ o. bytes_beside r o) (sym (got_same h g r b less))
-
-pub no_shorter : (h g : List Recorded) → Begins g h → length h ≤ length g
-no_shorter h g b = let e : length g ≡ length (h ++ b.0) = ap length b.1 in omega (arith, e, length-append h b.0)
 
 pub is_youngest : (h : List Recorded) → IsYoungest (bytes_of h) (last_of (revisions h))
 is_youngest h rev bytes above is =

@@ -1,8 +1,7 @@
 -- A transaction stands for the same as more revisions are known.
-use Rattle.std.proofs.Common.{◌≡◌, ◌≤◌, ℕ, List, [], ◌∷◌, refl, sym, ap, subst, ◌∙◌, arith}
+use Rattle.std.proofs.Common.{◌≤◌, ℕ, List, [], ap, subst, ◌∙◌, arith}
 use Rattle.std.specs.Prelude.{Option, Some, None}
 use Rattle.std.specs.FinMap.{get}
-use Rattle.fsfs_base.specs.Paths.{Path}
 use Rattle.fsfs_base.specs.declared.failed.Failed.{Failed}
 use Rattle.fsfs_tree.specs.Nodes.{TreeFunction}
 use Rattle.fsfs_tree.specs.Revisions.{tree_of}
@@ -10,17 +9,13 @@ use Rattle.fsfs_tree.specs.Dated.{last_of}
 use Rattle.fsfs_model.specs.declared.mark.Mark.{Mark}
 use Rattle.fsfs_base.specs.declared.txn_name.TxnName.{TxnName}
 use Rattle.fsfs_revision.specs.Told.{RevisionBytes}
-use Rattle.fsfs_noderev.specs.declared.node_id.NodeId.{NodeId}
-use Rattle.fsfs_noderev.specs.declared.node_rev.CopySource.{CopySource}
-use Rattle.fsfs_noderev.specs.declared.node_rev.NodeRev.{NodeRev}
 use Rattle.fsfs_revision.specs.ShowsReading.{StandsAt}
-use Rattle.fsfs_draft.specs.Own.{OwnNode, Own, below, shared_from, shared_under, shared_at}
-use Rattle.fsfs_draft.specs.Rules.{Above, at_top, ComesBy, Change, Copied, Made, stands_under, above_under, head_at, NodeRule, Rules}
+use Rattle.fsfs_draft.specs.Rules.{at_top}
 use Rattle.fsfs_draft.specs.Drafts.{Folder, bare}
 use Rattle.fsfs_draft.specs.Sides.{AreMarksOf, source_here}
 use Rattle.fsfs_draft.specs.Edits.{IsDraftAfter}
 use Rattle.fsfs_draft.specs.Staying.{IsLater}
-use Rattle.fsfs_draft.proofs.StayLaw.{drafts_stay}
+use Rattle.fsfs_draft.proofs.StayLaw.{drafts_stay, copies_within, shared_at_same}
 use Rattle.fsfs_machine.specs.declared.machine.Recorded.{Recorded}
 use Rattle.fsfs_machine.specs.declared.machine.Txn.{Txn}
 use Rattle.fsfs_machine.specs.Machine.{revisions}
@@ -28,46 +23,14 @@ use Rattle.fsfs_machine.proofs.Growing.{goes_on, revisions_length}
 use Rattle.fsfs_turn.specs.Bytes.{bytes_of}
 use Rattle.fsfs_turn.specs.Views.{Begins}
 use Rattle.fsfs_turn.proofs.Reading.{begins_on}
+use Rattle.fsfs_turn.proofs.Alone.{no_shorter}
 use Rattle.fsfs_commit.specs.declared.open_txn.OpenTxn.{OpenTxn}
 use Rattle.fsfs_commit.specs.declared.txn_draft.Stage.{Stage}
 use Rattle.fsfs_commit.specs.declared.txn_draft.Stage.TheVariants.{Open, Ended}
 use Rattle.fsfs_commit.specs.declared.standing.Standing.{Standing}
 use Rattle.fsfs_commit.specs.Meaning.{IsTxnOf, Means, IfOpen}
 use Rattle.fsfs_commit.specs.Pinned.{IsPinned}
-use Rattle.fsfs_commit.specs.SeenLemmas.{later, no_shorter}
-
--- ---- copies are of revisions up to the youngest
-
-copy_within : (look : RevisionBytes) (top : ℕ) (S : Path → NodeRev → Type 0) (above : Above) (v : OwnNode) (from : CopySource) → ComesBy look top S above v → v.node.copy_from ≡ Some from → from.rev ≤ top
-copy_within look top S above v from (Change u at no_copy on keeps root part) is = let e = sym no_copy ∙ is in absurd cc
-copy_within look top S above v from (Copied u other copy le at on keeps root part) is = let same : other ≡ from = (let e = sym copy ∙ is in cc) in subst (λ (c : CopySource). c.rev ≤ top) same le
-copy_within look top S above v from (Made no_copy no_pred count root copy part) is = let e = sym no_copy ∙ is in absurd cc
-
-abbrev AreWithin : ℕ → Own → Type 0
-AreWithin top own = (p : Path) (v : OwnNode) (from : CopySource) → own p ≡ Some v → v.node.copy_from ≡ Some from → from.rev ≤ top
-
-are_within : (look : RevisionBytes) (top : ℕ) (p : Path) (own : Own) (above : Above) (S : Path → NodeRev → Type 0) → Rules look top own above S → (v : OwnNode) (from : CopySource) → own p ≡ Some v → v.node.copy_from ≡ Some from → from.rev ≤ top
-are_within look top [] own above S rules v from here is = copy_within look top S above v from (subst (λ (o : Option OwnNode). NodeRule look top o (λ name. head_at (own (name ∷ []))) above S) here (rules [])).0 is
-are_within look top (x ∷ p) own above S rules v from here is = are_within look top p (below x own) (above_under (own []) above) (λ q u. stands_under look (own []) S (x ∷ q) u) (λ q. rules (x ∷ q)) v from here is
-
--- so what stands where nothing of the transaction's stands is the same in the later trees
-module _ (top : ℕ) (trees more : ℕ → TreeFunction) (same : (r : ℕ) → r ≤ top → trees r ≡ more r) where
-  under_same : (o : Option OwnNode) (S T : TreeFunction) → ((v : OwnNode) (from : CopySource) → o ≡ Some v → v.node.copy_from ≡ Some from → from.rev ≤ top) → ((q : Path) → S q ≡ T q) → (q : Path) → shared_under trees o S q ≡ shared_under more o T q
-  under_same None S T within as_before q = as_before q
-  under_same (Some v) S T within as_before q = by v.node.copy_from v.node.predecessor refl
-    where
-      by : (c : Option CopySource) (id : Option NodeId) → v.node.copy_from ≡ c → shared_from trees c id S q ≡ shared_from more c id T q
-      by None None e = refl
-      by None (Some id) e = as_before q
-      by (Some from) id e = ap (λ (t : TreeFunction). shared_from (λ r. t) (Some from) id S q) (same from.rev (within v from refl e))
-
-  shared_same : (p : Path) (own : Own) (S T : TreeFunction) → AreWithin top own → ((q : Path) → S q ≡ T q) → (q : Path) → shared_at trees p own S q ≡ shared_at more p own T q
-  shared_same [] own S T within as_before q = as_before q
-  shared_same (x ∷ p) own S T within as_before q =
-      shared_same p (below x own) (below x (shared_under trees (own []) S)) (below x (shared_under more (own []) T)) (λ r v from. within (x ∷ r) v from)
-      (λ r. under_same (own []) S T (λ v from. within [] v from) as_before (x ∷ r)) q
-
--- ---- the whole
+use Rattle.fsfs_commit.specs.SeenLemmas.{later}
 
 pub draft_stays : (look other : RevisionBytes) (trees more : ℕ → TreeFunction) (top later base : ℕ) (txn : TxnName) (f : Folder) (tree : TreeFunction) (marks : List Mark) → IsLater look other trees more top later → base ≤ top
     → IsDraftAfter look trees top base txn f tree marks → IsDraftAfter other more later base txn f tree marks
@@ -83,8 +46,8 @@ draft_stays look other trees more top later base txn f tree marks is le a = (
     once = a.0.once;
     says = subst (λ (t : TreeFunction). AreMarksOf t marks a.0.shows.own) (is.same_trees base le) a.0.says;
     sources = λ p v here. a.0.sources p v here
-        ∙ ap (source_here v.node.copy_from v.node.predecessor) (shared_same top trees more is.same_trees p a.0.shows.own (trees base) (more base)
-        (λ q w from at copied. are_within look top q a.0.shows.own at_top (StandsAt look base) a.0.shows.is_draft.rules w from at copied) (λ q i. is.same_trees base le i q) []);
+        ∙ ap (source_here v.node.copy_from v.node.predecessor) (shared_at_same top trees more is.same_trees p a.0.shows.own (trees base) (more base)
+        (λ q w from at copied. copies_within look top q a.0.shows.own at_top (StandsAt look base) a.0.shows.is_draft.rules w from at copied) (λ q i. is.same_trees base le i q) []);
   },
   a.1,
 )

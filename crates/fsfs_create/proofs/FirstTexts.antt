@@ -24,6 +24,7 @@ use Rattle.fsfs_noderev.specs.declared.rep.Contents.{Contents}
 use Rattle.fsfs_noderev.specs.declared.rep.Contents.TheVariants as contents
 use Rattle.fsfs_noderev.specs.declared.node_rev.NodeRev.{NodeRev}
 use Rattle.fsfs_revision.specs.Trailers.{IsTrailer}
+use Rattle.fsfs_revision.proofs.FirstRevision.{root_text}
 use Rattle.fsfs_create.specs.FirstRoot.{IsFirstRoot, first_id, first_rep, digest_of_end}
 
 -- ---- numbers
@@ -174,9 +175,6 @@ said a b c d e fields (_, s1, (_, id, id_is, e1), (_, s2, (_, kind, kind_is, e2)
     }
 
 -- ---- the text of the root
-
-abbrev pub root_text : List ℕ
-root_text = codes "id: 0.0.r0/17\ntype: dir\ncount: 0\ntext: 0 0 4 4 2d2977d1c96f487abe4a1e202dd03b4e\ncpath: /\n\n"
 
 pub first_root_text : (text : List ℕ) (node : NodeRev) → IsFirstRoot 4 17 node → IsWritten text node → text ≡ root_text
 first_root_text text node first w =

@@ -6,10 +6,10 @@ use Rattle.std.proofs.lemmas.List.{length-append}
 use Rattle.std.proofs.lemmas.List.Folds.{list_all-append}
 use Rattle.std.proofs.lemmas.List.Filters.{length-filter_both}
 use Rattle.fsfs_base.specs.Paths.{PathName, same_name}
-use Rattle.fsfs_base.proofs.PathLemmas.{same_name-is}
+use Rattle.fsfs_base.proofs.PathLemmas.{same_name-is, same_name-symm}
 use Rattle.fsfs_revision.specs.ShowsReading.{DirEntry, named}
 use Rattle.fsfs_dag.specs.Lists.{IsPut, IsChangedList, IsSameList, kept_names, all_names, is_other, is_below, is_from}
-use Rattle.fsfs_dag.proofs.Lists.{or_other, or_none, same_turned, named_append, none_named, kept_named, kept_all, count_others}
+use Rattle.fsfs_dag.proofs.Lists.{or_other, or_none, named_append, none_named, kept_named, kept_all, count_others}
 
 all_append : (is : PathName → Bool) (a b : List DirEntry) → all_names is (a ++ b) ≡ (all_names is a && all_names is b)
 all_append is a b = list_all-append (λ (e : DirEntry). is e.name) a b
@@ -34,10 +34,10 @@ put_in_leaf name es e is = record { put = put; keeps = keeps; count = count }
       where
         by : (b : Bool) → same_name name y ≡ b → or_other (cond (not (same_name y name)) (named y es) None) (cond (same_name e.name y) (Some e) None) ≡ cond (same_name name y) (Some e) (named y es)
         by true same =
-            (λ i. or_other (cond (not ((same_turned y name ∙ same) i)) (named y es) None) (cond (((ap (λ (x : PathName). same_name x y) is) ∙ same) i) (Some e) None))
+            (λ i. or_other (cond (not ((same_name-symm y name ∙ same) i)) (named y es) None) (cond (((ap (λ (x : PathName). same_name x y) is) ∙ same) i) (Some e) None))
             ∙ sym (ap (λ (b : Bool). cond b (Some e) (named y es)) same)
         by false same =
-            (λ i. or_other (cond (not ((same_turned y name ∙ same) i)) (named y es) None) (cond (((ap (λ (x : PathName). same_name x y) is) ∙ same) i) (Some e) None))
+            (λ i. or_other (cond (not ((same_name-symm y name ∙ same) i)) (named y es) None) (cond (((ap (λ (x : PathName). same_name x y) is) ∙ same) i) (Some e) None))
             ∙ or_none (named y es) ∙ sym (ap (λ (b : Bool). cond b (Some e) (named y es)) same)
 
     keeps : (also : PathName → Bool) → all_names also es ≡ true → also name ≡ true → all_names also (Others ++ e ∷ []) ≡ true
@@ -55,8 +55,8 @@ gone_in_leaf name es = record {
 }
   where
     by : (y : PathName) (b : Bool) → same_name name y ≡ b → cond (not (same_name y name)) (named y es) None ≡ cond (same_name name y) None (named y es)
-    by y true same = (λ i. cond (not ((same_turned y name ∙ same) i)) (named y es) None) ∙ sym (ap (λ (b : Bool). cond b None (named y es)) same)
-    by y false same = (λ i. cond (not ((same_turned y name ∙ same) i)) (named y es) None) ∙ sym (ap (λ (b : Bool). cond b None (named y es)) same)
+    by y true same = (λ i. cond (not ((same_name-symm y name ∙ same) i)) (named y es) None) ∙ sym (ap (λ (b : Bool). cond b None (named y es)) same)
+    by y false same = (λ i. cond (not ((same_name-symm y name ∙ same) i)) (named y es) None) ∙ sym (ap (λ (b : Bool). cond b None (named y es)) same)
 
 -- the entries in two parts
 pub same_parts : (middle : ℕ) (es : List DirEntry) → IsSameList es (kept_names (is_below middle) es ++ kept_names (is_from middle) es)

@@ -3,7 +3,6 @@ use Rattle.std.proofs.Common.{◌≡◌, ◌≤◌, ◌+◌, ℕ, Bool, true, fa
 use Rattle.std.specs.Prelude.{Option, Some, None, is_some, option_map}
 use Rattle.std.proofs.lemmas.Bool.{and_parts}
 use mathlib.Core.Bool.{false≢true}
-use Rattle.std.specs.Cmp.Lexicographic.{nat_list_eq_equiv}
 use Rattle.fsfs_base.specs.Paths.{PathName, same_name}
 use Rattle.fsfs_base.proofs.PathLemmas.{same_name-is}
 use Rattle.fsfs_revision.specs.ShowsReading.{DirEntry, named}
@@ -22,9 +21,6 @@ or_none (Some e) = refl
 pub none_both : (b : Bool) → ◌≡◌ {A = Option DirEntry} (cond b None None) None
 none_both true = refl
 none_both false = refl
-
-pub same_turned : (x y : PathName) → same_name x y ≡ same_name y x
-same_turned x y = nat_list_eq_equiv.symm x y
 
 -- what is said of a name is said of the same name
 pub same_said : (is : PathName → Bool) (x y : PathName) (b : Bool) → same_name x y ≡ true → is y ≡ b → is x ≡ b

@@ -1,7 +1,7 @@
 -- Which labels are kept after one was made or dropped.
 use Rattle.std.proofs.Common.{◌≡◌, List, [], ◌∷◌, ◌++◌, Bool, true, false, cond, refl, sym, ap, ◌∙◌, eq-eqb}
 use Rattle.std.specs.Prelude.{◌==◌, ◌&&◌, ◌||◌, not}
-use Rattle.std.proofs.lemmas.Bool.{eqb-true, and_from}
+use Rattle.std.proofs.lemmas.Bool.{eqb-true, and_from, and_parts}
 use Rattle.fsfs_disk.specs.Labels.{Label, Txn, Pack, HotCopy, same_label, has_label, without_label, with_label, AreLeft}
 use Rattle.fsfs_disk.specs.Trace.{NameChange, Put, Adopt, Rename, Remove, FirmNames, KeepLabel, DropLabel, relabelled}
 use Rattle.fsfs_disk.specs.Crash.{labels_amid}
@@ -50,12 +50,8 @@ has-with l ls =
     ∙ ap (λ b. has_label l (without_label l ls) || (b || false)) (same_label-itself l)
     ∙ or_true (has_label l (without_label l ls))
 
-and_true : (a b : Bool) → (a && b) ≡ true → (a ≡ true) × (b ≡ true)
-and_true true b p = (refl, p)
-and_true false b p = cc
-
 pub same_label-same : (k l : Label) → same_label k l ≡ true → k ≡ l
-same_label-same (Txn a m) (Txn b n) is = let both = and_true (a == b) (m == n) is in λ i. Txn (eqb-true a b both.0 i) (eqb-true m n both.1 i)
+same_label-same (Txn a m) (Txn b n) is = let both = and_parts (a == b) (m == n) is in λ i. Txn (eqb-true a b both.0 i) (eqb-true m n both.1 i)
 same_label-same (Txn a m) (Pack b) is = cc
 same_label-same (Txn a m) HotCopy is = cc
 same_label-same (Pack a) (Txn b n) is = cc
@@ -139,3 +135,12 @@ amid_after (Adopt name bytes) ls l h = h
 amid_after (Rename from to) ls l h = h
 amid_after (Remove name) ls l h = h
 amid_after FirmNames ls l h = h
+
+-- a label that came and went
+pub without-with : (l : Label) (ls : List Label) → without_label l (with_label l ls) ≡ without_label l ls
+without-with l [] = ap (λ b. cond b [] (l ∷ [])) (same_label-itself l)
+without-with l (k ∷ ls) = by_test (same_label k l) (without-with l ls) refl where
+  by_test : (b : Bool) → without_label l (with_label l ls) ≡ without_label l ls → same_label k l ≡ b
+      → without_label l (cond b (without_label l ls) (k ∷ without_label l ls) ++ l ∷ []) ≡ cond b (without_label l ls) (k ∷ without_label l ls)
+  by_test true rest is = rest
+  by_test false rest is = ap (λ b. cond b (without_label l (with_label l ls)) (k ∷ without_label l (with_label l ls))) is ∙ ap (λ xs. k ∷ xs) rest

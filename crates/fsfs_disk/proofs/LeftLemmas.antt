@@ -90,3 +90,8 @@ amid_made k Q q ls all l has = by_either (has_label l ls) (same_label k l) (all 
 -- a call that makes no label makes none that lacks it
 pub amid_same : (change : NameChange) (Q : Label → Type 0) → ((ls : List Label) → labels_amid change ls ≡ ls) → (ls : List Label) → AreAll Q ls → AreAll Q (labels_amid change ls)
 amid_same change Q same ls all = subst (λ ks. AreAll Q ks) (sym (same ls)) all
+
+pub both_with : (a b : Option Trace) (P Q : Files → List Label → Type 0) → ((m : Files) (ls : List Label) → P m ls → Q m ls) → LeavesBoth a b P → LeavesBoth a b Q
+both_with None b P Q f w = tt
+both_with (Some t) None P Q f w = absurd w
+both_with (Some t) (Some u) P Q f w = record { later = w.later; each = λ n m ls le since. ⊎_elim (λ before. inl before) (λ p. inr (f m ls p)) (w.each n m ls le since) }

@@ -73,8 +73,8 @@ ok_of (Ok x) is p = p
 ok_of (Err e) is p = cc
 
 -- two pieces are one
-pub filled : (old mid new : Option Files) (name a b : List ℕ) → mid ≡ option_map (appended name a) old → new ≡ option_map (appended name b) mid → new ≡ option_map (appended name (a ++ b)) old
-filled old mid new name a b first second = second ∙ ap (λ o. option_map (appended name b) o) first ∙ by_old old where
+pub two_pieces : (old mid new : Option Files) (name a b : List ℕ) → mid ≡ option_map (appended name a) old → new ≡ option_map (appended name b) mid → new ≡ option_map (appended name (a ++ b)) old
+two_pieces old mid new name a b first second = second ∙ ap (λ o. option_map (appended name b) o) first ∙ by_old old where
   by_old : (o : Option Files) → option_map (appended name b) (option_map (appended name a) o) ≡ option_map (appended name (a ++ b)) o
   by_old None = refl
   by_old (Some m) = ap (λ (z : Files). Some z) (appended_twice m name a b)
@@ -123,14 +123,14 @@ pub performed_text : (name file text : List ℕ) (before contents : Option Files
     → Performs (Adopt name (bytes_on contents file)) old new → Performs (Adopt name text) old new
 performed_text name file text before contents old new is none tells performed = performs_text name (bytes_on contents file) text contents old new tells (text_on before contents file text is none) performed
 
-old_labels : (l : Label) (old : Option Trace) → AllLabels old (IsOldOrThis l old)
+pub old_labels : (l : Label) (old : Option Trace) → AllLabels old (IsOldOrThis l old)
 old_labels l None = tt
 old_labels l (Some t) = λ k has. inr has
 
-makes_label : (l : Label) (first old new : Option Trace) → FailsAt (KeepLabel l) old new → KeepsLabels old new (IsOldOrThis l first)
+pub makes_label : (l : Label) (first old new : Option Trace) → FailsAt (KeepLabel l) old new → KeepsLabels old new (IsOldOrThis l first)
 makes_label l first old new made = keeps_labels_at (KeepLabel l) (IsOldOrThis l first) old new made (amid_made l (IsOldOrThis l first) (inl refl))
 
-drops_label : (l : Label) (first old new : Option Trace) → FailsAt (DropLabel l) old new → KeepsLabels old new (IsOldOrThis l first)
+pub drops_label : (l : Label) (first old new : Option Trace) → FailsAt (DropLabel l) old new → KeepsLabels old new (IsOldOrThis l first)
 drops_label l first old new dropped = keeps_labels_at (DropLabel l) (IsOldOrThis l first) old new dropped (amid_same (DropLabel l) (IsOldOrThis l first) (λ ls. refl))
 
 names_no_label : (l : Label) (name text : List ℕ) (first old new : Option Trace) → EndsNaming name text old new → KeepsLabels old new (IsOldOrThis l first)

@@ -21,6 +21,10 @@ labels_left (txn ∷ txns) labels = if has_label (txn_label txn) labels then lab
 abbrev pub HasLabels : (List Label → List Label) → Option Trace → Option Trace → Type 0
 HasLabels left old new = option_map labels_now new ≡ option_map (λ t. left (labels_now t)) old
 
+-- the labels are those before
+abbrev pub HasSameLabels : Option Trace → Option Trace → Type 0
+HasSameLabels old new = option_map labels_now new ≡ option_map labels_now old
+
 -- All were removed, or those before the first that there isn't. A failure leaves what removing some first of them leaves.
 abbrev pub Removes : List (ℕ × ℕ) → Option Trace → Option Trace → Result (Unit {0}) RemovalFault → Type 0
 Removes txns old new (Ok done) = HasLabels (labels_left txns) old new × IfSome old (λ t. first_lacking txns (labels_now t) ≡ None)

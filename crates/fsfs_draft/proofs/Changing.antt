@@ -29,13 +29,14 @@ use Rattle.fsfs_draft.specs.Own.{OwnNode, Own, shared_under, has_entry, draft_tr
 use Rattle.fsfs_draft.specs.Rules.{CopyPartOf, ComesBy, Change, Head, head_at, IsEntryOf, above_of, stands_under, stands_at}
 use Rattle.fsfs_draft.specs.Drafts.{Kept, Folder, kept_of, IsLasting, Lasting, IsDraftText, HasContent, IsBelow, IsDraft, ShowTrees}
 use Rattle.fsfs_draft.specs.Agreeing.{IsContentOf, Agrees}
-use Rattle.fsfs_draft.specs.Steps.{same_value, same_key, with_kept, kept_at, EntriesHere, Listed, Read, Empty, IsReplaced, IsSuccessor}
+use Rattle.fsfs_draft.specs.Steps.{same_value, same_key, with_kept, kept_at, EntriesHere, Listed, Read, Empty, IsSuccessor}
 use Rattle.fsfs_draft.specs.Laying.{laid_in, stands_in, IsLaid, IsLaying, Step}
 use Rattle.fsfs_draft.specs.Edits.{IsOpening}
 use Rattle.fsfs_draft.proofs.Files.{same_value-is, same_files, put_files, other_files}
 use Rattle.fsfs_draft.proofs.Here.{under_is, head_none, old_here, agrees_below, AreHere, are_here}
 use Rattle.fsfs_draft.proofs.Laying.{laid_draft, went_on_shows}
 use Rattle.fsfs_draft.proofs.StepLaw.{shown_there}
+use Rattle.fsfs_dag.specs.Entries.{HasPut}
 
 -- ---- a node-revision that a revision may have
 
@@ -85,7 +86,7 @@ below_more m n (ids.Made k rev) le h = tt
 module _ (look : RevisionBytes) (top base : ℕ) (trees : ℕ → TreeFunction) (shown : ShowTrees look top trees) (le : base ≤ top) (txn : TxnName) (f : Folder) (own : Own) (draft : IsDraft look top base txn f own)
     (p : Path) (d : OwnNode) (here : own p ≡ Some d) (dir : d.node.kind ≡ Dir) (x : PathName) (entries : List DirEntry) (listed : EntriesHere look (kept_of d) entries)
     (e : DirEntry) (found : named x entries ≡ Some e) (lasting : is_revision_id e.id ≡ true) (u w : NodeRev) (read : OfId look e.id (Ok u)) (succ : IsSuccessor txn d.node u w x) (part : CopyPartOf look (above_of d.node) u (part_value w.id.copy))
-    (fresh : kept_at f.nodes w.id ≡ None) (new : List DirEntry) (replaced : IsReplaced entries x e.kind w.id new) (after : Folder)
+    (fresh : kept_at f.nodes w.id ≡ None) (new : List DirEntry) (replaced : HasPut entries x e.kind w.id new) (after : Folder)
     (files : (node copy : PartValue) → after.nodes node copy ≡ with_kept d.node.id (kept_of (opened d new)) (with_kept w.id (record { node = w; entries = None; props = None }) f.nodes) node copy)
     (proto : after.proto ≡ f.proto) (more : (f.next_node ≤ after.next_node) × (f.next_copy ≤ after.next_copy)) (w_drawn : IsBelow after.next_node (part_value w.id.node) × IsBelow after.next_copy (part_value w.id.copy)) where
   abbrev Old : Own

@@ -7,7 +7,7 @@ use Rattle.fsfs_tree.specs.Nodes.{Node, TreeFunction}
 use Rattle.fsfs_model.specs.Edits.{copied_node}
 use Rattle.fsfs_model.specs.declared.mark.Mark.{Mark}
 use Rattle.fsfs_model.specs.Marks.{effects}
-use Rattle.fsfs_base.proofs.PathLemmas.{covers-refl, covers-trans, covers-antisym, same_name-refl}
+use Rattle.fsfs_base.proofs.PathLemmas.{covers-refl, covers-trans, covers-antisym, same_name-refl, covers_front}
 use Rattle.fsfs_base.specs.declared.txn_name.TxnName.{TxnName}
 use Rattle.fsfs_revision.specs.Told.{RevisionBytes}
 use Rattle.fsfs_noderev.specs.declared.node_id.NodeId.{NodeId}
@@ -35,7 +35,6 @@ use Rattle.fsfs_draft.proofs.HangLaw.{resolved, root_resolved, some_same, both_e
 use Rattle.fsfs_draft.proofs.HangLaw as hanging
 use Rattle.fsfs_draft.proofs.Lasting.{lasting}
 use Rattle.fsfs_draft.proofs.SideLaw.{HeldAt, held_at, held_under, none_held}
-use Rattle.fsfs_draft.proofs.MarkLaw.{covers_front}
 use Rattle.std.proofs.lemmas.Bool.{and_from, cases_Bool}
 
 -- ---- plain facts

@@ -1,12 +1,11 @@
 -- What an edit of one directory makes of the tree that is shown.
 use Rattle.std.proofs.Common.{◌≡◌, ℕ, Bool, true, false, ◌&&◌, cond, List, [], ◌∷◌, ◌++◌, refl, sym, ap, subst, ◌∙◌}
 use Rattle.std.specs.Prelude.{Option, Some, None, is_some}
-use Rattle.std.specs.Cmp.Lexicographic.{nat_list_eq_equiv}
 use Rattle.fsfs_base.specs.Paths.{PathName, Path, same_name, same_path, covers}
 use Rattle.fsfs_tree.specs.Nodes.{Node, TreeFunction}
 use Rattle.fsfs_model.specs.Edits as edits
 use Rattle.fsfs_model.specs.Edits.{copied_node, rest_after}
-use Rattle.fsfs_base.proofs.PathLemmas.{same_name-is, same_name-refl}
+use Rattle.fsfs_base.proofs.PathLemmas.{same_name-is, same_name-refl, same_name-symm}
 use Rattle.fsfs_noderev.specs.declared.node_id.NodeId.{NodeId}
 use Rattle.fsfs_noderev.specs.declared.node_rev.CopySource.{CopySource}
 use Rattle.fsfs_revision.specs.ShowsReading.{DirEntry, named}
@@ -14,9 +13,6 @@ use Rattle.fsfs_draft.specs.Own.{OwnNode, Own, below, shared_from, shared_under,
 use Rattle.fsfs_draft.proofs.Grafts.{nothing_tree, alone_tree, graft_tree, graft_back}
 
 -- ---- paths
-
-pub same_name-symm : (x y : PathName) → same_name x y ≡ same_name y x
-same_name-symm x y = nat_list_eq_equiv.symm x y
 
 and_assoc : (a b c : Bool) → (a && (b && c)) ≡ ((a && b) && c)
 and_assoc true b c = refl

@@ -1,12 +1,12 @@
 -- Where what is met in a draft is what marks say of its base, the marks say what the draft holds.
-use Rattle.std.proofs.Common.{◌≡◌, ◌≤◌, ◌⊎◌, ℕ, not, Bool, true, false, ◌&&◌, List, [], ◌∷◌, ◌++◌, refl, sym, ap, subst, ◌∙◌, inl, inr, append-nil, append_assoc}
+use Rattle.std.proofs.Common.{◌≡◌, ◌≤◌, ℕ, not, Bool, true, false, ◌&&◌, List, [], ◌∷◌, ◌++◌, refl, sym, ap, subst, ◌∙◌, inl, inr, append-nil, append_assoc}
 use Rattle.std.specs.Prelude.{Option, Some, None, is_some, if◌then◌else◌}
 use mathlib.Core.Bool.{false≢true}
 use Rattle.fsfs_base.specs.Paths.{PathName, Path, covers, is_above}
 use Rattle.fsfs_tree.specs.Nodes.{Node, TreeFunction}
 use Rattle.fsfs_model.specs.declared.mark.Mark.{Mark}
 use Rattle.fsfs_model.specs.Marks.{effects}
-use Rattle.fsfs_base.proofs.PathLemmas.{same_name-is, covers-refl}
+use Rattle.fsfs_base.proofs.PathLemmas.{covers-refl, covers_front}
 use Rattle.fsfs_base.specs.declared.txn_name.TxnName.{TxnName}
 use Rattle.fsfs_revision.specs.Told.{RevisionBytes}
 use Rattle.fsfs_noderev.specs.declared.node_id.NodeId.{NodeId}
@@ -34,18 +34,6 @@ use Rattle.fsfs_draft.proofs.HangLaw.{some_same, both_ends}
 use Rattle.fsfs_draft.proofs.HangLaw as hanging
 use Rattle.fsfs_draft.proofs.SideLaw.{HeldAt, held_at, held_under, of_revision}
 use Rattle.std.proofs.lemmas.Bool.{and_from, and_parts, cases_Bool}
-
-pub covers_front : (q p : Path) (name : PathName) → covers q (p ++ name ∷ []) ≡ true → (covers q p ≡ true) ⊎ (q ≡ p ++ name ∷ [])
-covers_front [] p name c = inl refl
-covers_front (x ∷ q) [] name c = inr (by q (same_name-is x name (and_parts _ _ c).0) (and_parts _ _ c).1)
-  where
-    by : (q : Path) → x ≡ name → covers q [] ≡ true → x ∷ q ≡ name ∷ []
-    by [] e c = ap (λ (y : PathName). y ∷ []) e
-    by (z ∷ q) e c = absurd (false≢true c)
-covers_front (x ∷ q) (y ∷ p) name c = elim (covers_front q p name (and_parts _ _ c).1) [
-  | inl w ↦ inl (and_from _ _ (and_parts _ _ c).0 w)
-  | inr e ↦ inr (λ i. same_name-is x y (and_parts _ _ c).0 i ∷ e i)
-]
 
 above_front : (q p : Path) (name : PathName) → is_above q (p ++ name ∷ []) ≡ true → covers q p ≡ true
 above_front q p name a = elim (covers_front q p name (and_parts _ _ a).0) [

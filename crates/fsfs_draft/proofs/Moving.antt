@@ -5,14 +5,13 @@ use Rattle.std.proofs.lemmas.Bool.{and_from, and_parts, and_right}
 use Rattle.std.proofs.lemmas.List.{length-append}
 use mathlib.Core.Bool.{false≢true, true≢false}
 use Rattle.fsfs_base.specs.Paths.{PathName, Path, same_name, covers, is_above}
-use Rattle.fsfs_base.proofs.PathLemmas.{same_name-is, same_name-refl, covers-length}
+use Rattle.fsfs_base.proofs.PathLemmas.{same_name-is, same_name-refl, covers-length, same_name-symm}
 use Rattle.fsfs_tree.specs.Nodes.{Node, TreeFunction}
 use Rattle.fsfs_noderev.specs.declared.node_id.NodeId.{NodeId}
 use Rattle.fsfs_noderev.specs.declared.node_rev.CopySource.{CopySource}
 use Rattle.fsfs_draft.specs.Own.{OwnNode, Own, below, shared_from, shared_under, graft, under, with_node, lives_in, lives, shared_at}
 use Rattle.fsfs_draft.specs.Sides.{goes_on_here, has_here, held}
 use Rattle.fsfs_draft.proofs.Grafts.{inner_lives}
-use Rattle.fsfs_draft.proofs.Edited.{same_name-symm}
 
 -- ---- tests
 

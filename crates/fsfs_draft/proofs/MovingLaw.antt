@@ -6,7 +6,7 @@ use Rattle.std.proofs.lemmas.Bool.{and_from, and_parts, and_left, and_right, cas
 use mathlib.Core.Bool.{false≢true}
 use Rattle.fsfs_base.specs.Paths.{PathName, Path, same_name, covers}
 use Rattle.fsfs_base.specs.declared.kind.Kind.{Kind}
-use Rattle.fsfs_base.proofs.PathLemmas.{same_name-is, same_name-refl, covers-refl, covers-trans, covers-antisym, covers-longer, split_at}
+use Rattle.fsfs_base.proofs.PathLemmas.{same_name-is, same_name-refl, covers-refl, covers-trans, covers-antisym, covers-longer, split_at, covers_front}
 use Rattle.fsfs_tree.specs.Nodes.{Node, TreeFunction}
 use Rattle.fsfs_model.specs.declared.mark.What.{What}
 use Rattle.fsfs_model.specs.declared.mark.What.TheVariants as whats
@@ -29,7 +29,7 @@ use Rattle.fsfs_model.proofs.LandedContents as landed
 use Rattle.fsfs_draft.proofs.StepLaw.{no_head, was_shared}
 use Rattle.fsfs_draft.proofs.SettingLaw.{stays_set}
 use Rattle.fsfs_draft.proofs.SideLaw.{none_held}
-use Rattle.fsfs_draft.proofs.MarkLaw.{covers_front, held_front}
+use Rattle.fsfs_draft.proofs.MarkLaw.{held_front}
 use Rattle.fsfs_draft.proofs.Moving.{same_choice, covers_same, above_more, above_child, longer_covers_not, held_goes, held_has, goes_shared, shared_held, live_above, held_graft, held_off, set_off}
 
 module _ (look : RevisionBytes) (trees : ℕ → TreeFunction) (top base : ℕ) (txn : TxnName) (s : Step look trees top base txn) where

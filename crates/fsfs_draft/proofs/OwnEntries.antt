@@ -1,5 +1,5 @@
 -- What an own directory of a draft has, by its entries as they are read.
-use Rattle.std.proofs.Common.{◌≡◌, ◌≤◌, ℕ, Bool, true, false, ◌&&◌, cond, List, [], ◌∷◌, ◌++◌, refl, sym, ap, subst, ◌∙◌, inl, inr, append_assoc}
+use Rattle.std.proofs.Common.{◌≡◌, ◌≤◌, ℕ, true, false, ◌&&◌, cond, List, [], ◌∷◌, ◌++◌, refl, sym, ap, subst, ◌∙◌, inl, inr, append_assoc}
 use Rattle.std.specs.Prelude.{Option, Some, None, Ok, Err, is_some}
 use Rattle.std.proofs.lemmas.Bool.{and_parts}
 use Rattle.fsfs_base.specs.Paths.{PathName, Path}
@@ -17,6 +17,7 @@ use Rattle.fsfs_revision.specs.declared.wrong.Wrong.{Wrong}
 use Rattle.fsfs_revision.specs.ShowsReading.{DirEntry, named, EntriesOf, OfId, OfEntry, kind_checks, StandsAt, offset_of}
 use Rattle.fsfs_revision.proofs.OneAnswer.{ok_same, pass_or_fail}
 use Rattle.fsfs_revision.proofs.OneWalk.{of_id_one}
+use Rattle.fsfs_revision.proofs.DamageLemmas.{no_both}
 use Rattle.fsfs_draft.specs.Own.{OwnNode, Own, below, shared_under, node_here, in_own, draft_tree, under, shared_at}
 use Rattle.fsfs_draft.specs.Rules.{Above, head_at, IsEntryOf, stands_under, above_at, stands_at, at_top}
 use Rattle.fsfs_draft.specs.Drafts.{Kept, Folder, kept_of, IsDraft, ShowTrees}
@@ -53,10 +54,6 @@ lasting_parts id h =
     let a = and_parts (is_lasting_part id.node && is_lasting_part id.copy) (is_revision_place id.place) h in
     let b = and_parts (is_lasting_part id.node) (is_lasting_part id.copy) a.0 in
     record { node = b.0; copy = b.1; place = a.1 }
-
-true_or : {A : Type 0} (b : Bool) → b ≡ true → b ≡ false → A
-true_or true h g = absurd cc
-true_or false h g = absurd cc
 
 -- ---- in an own directory
 
@@ -228,7 +225,7 @@ module _ (look : RevisionBytes) (top base : ℕ) (trees : ℕ → TreeFunction) 
       own_entry is_own = by (Old (name ∷ [])) refl entry_of
         where
           by : (o : Option OwnNode) → Old (name ∷ []) ≡ o → IsEntryOf (λ v. StandsBelow (name ∷ []) v) (Some e) (head_at o) → (v : OwnNode) × (own (p ++ name ∷ []) ≡ Some v) × (v.node.id ≡ e.id)
-          by None is h = true_or (is_revision_id e.id) (subst (λ (i : NodeId). is_revision_id i ≡ true) (sym h.2) (stands_lasting h.0 h.1)) is_own
+          by None is h = no_both (is_revision_id e.id) (subst (λ (i : NodeId). is_revision_id i ≡ true) (sym h.2) (stands_lasting h.0 h.1)) is_own
           by (Some v) is h = (v, sym (under_is p own (name ∷ [])) ∙ is, sym h.0)
 
       -- and stands there
@@ -236,7 +233,7 @@ module _ (look : RevisionBytes) (top base : ℕ) (trees : ℕ → TreeFunction) 
       own_child is_own = by (Old (name ∷ [])) refl entry_of
         where
           by : (o : Option OwnNode) → Old (name ∷ []) ≡ o → IsEntryOf (λ v. StandsBelow (name ∷ []) v) (Some e) (head_at o) → IsChild look trees base own (p ++ name ∷ []) (Ok (Some (record { step = steps.Own e.id; kind = e.kind })))
-          by None is h = true_or (is_revision_id e.id) (subst (λ (i : NodeId). is_revision_id i ≡ true) (sym h.2) (stands_lasting h.0 h.1)) is_own
+          by None is h = no_both (is_revision_id e.id) (subst (λ (i : NodeId). is_revision_id i ≡ true) (sym h.2) (stands_lasting h.0 h.1)) is_own
           by (Some v) is h =
               let there : own (p ++ name ∷ []) ≡ Some v = sym (under_is p own (name ∷ [])) ∙ is in
               ((v, there, sym h.0), has_kind _ v.shown e.kind (own_shown look top base trees shown le txn f own draft (p ++ name ∷ []) v there) ((draft.contents (p ++ name ∷ []) v there).kind ∙ sym h.1))

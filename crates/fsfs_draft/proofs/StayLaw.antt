@@ -29,7 +29,7 @@ use Rattle.fsfs_draft.specs.Staying.{IsYoungest, DraftsStay}
 
 -- ---- copies are of revisions up to the youngest
 
-abbrev AreCopiesWithin : ℕ → Own → Type 0
+abbrev pub AreCopiesWithin : ℕ → Own → Type 0
 AreCopiesWithin top own = (p : Path) (v : OwnNode) (from : CopySource) → own p ≡ Some v → v.node.copy_from ≡ Some from → from.rev ≤ top
 
 copy_within : (look : RevisionBytes) (top : ℕ) (S : Path → NodeRev → Type 0) (above : Above) (v : OwnNode) (from : CopySource) → ComesBy look top S above v → v.node.copy_from ≡ Some from → from.rev ≤ top
@@ -37,7 +37,7 @@ copy_within look top S above v from (Change u at no_copy on keeps root part) is 
 copy_within look top S above v from (Copied u other copy le at on keeps root part) is = let same : other ≡ from = (let e = sym copy ∙ is in cc) in subst (λ (c : CopySource). c.rev ≤ top) same le
 copy_within look top S above v from (Made no_copy no_pred count root copy part) is = let e = sym no_copy ∙ is in absurd cc
 
-copies_within : (look : RevisionBytes) (top : ℕ) (p : Path) (own : Own) (above : Above) (S : Path → NodeRev → Type 0) → Rules look top own above S → (v : OwnNode) (from : CopySource) → own p ≡ Some v → v.node.copy_from ≡ Some from → from.rev ≤ top
+pub copies_within : (look : RevisionBytes) (top : ℕ) (p : Path) (own : Own) (above : Above) (S : Path → NodeRev → Type 0) → Rules look top own above S → (v : OwnNode) (from : CopySource) → own p ≡ Some v → v.node.copy_from ≡ Some from → from.rev ≤ top
 copies_within look top [] own above S rules v from here is = copy_within look top S above v from (subst (λ (o : Option OwnNode). NodeRule look top o (λ name. head_at (own (name ∷ []))) above S) here (rules [])).0 is
 copies_within look top (x ∷ p) own above S rules v from here is = copies_within look top p (below x own) (above_under (own []) above) (λ q u. stands_under look (own []) S (x ∷ q) u) (λ q. rules (x ∷ q)) v from here is
 
@@ -60,7 +60,7 @@ module _ (top : ℕ) (trees more : ℕ → TreeFunction) (same : (r : ℕ) → r
       (λ q. under_same (own []) S T (λ v from. within [] v from) as_before (x ∷ q)) in
       λ i. in_own (own []) x (as_before (x ∷ p) i) (inner i)
 
-  shared_at_same : (p : Path) (own : Own) (S T : TreeFunction) → AreCopiesWithin top own → ((q : Path) → S q ≡ T q) → (q : Path) → shared_at trees p own S q ≡ shared_at more p own T q
+  pub shared_at_same : (p : Path) (own : Own) (S T : TreeFunction) → AreCopiesWithin top own → ((q : Path) → S q ≡ T q) → (q : Path) → shared_at trees p own S q ≡ shared_at more p own T q
   shared_at_same [] own S T within as_before q = as_before q
   shared_at_same (x ∷ p) own S T within as_before q =
       shared_at_same p (below x own) (below x (shared_under trees (own []) S)) (below x (shared_under more (own []) T)) (λ r v from. within (x ∷ r) v from)

@@ -1,14 +1,13 @@
 -- One step of the way down a path on which each directory becomes the transaction's own.
 use Rattle.std.specs.Prelude.{◌≡◌, ◌==◌, ◌+◌, ◌-◌, ◌^◌, ◌++◌, min, Bool, false, ◌&&◌, List, [], ◌∷◌, Option, Some, None, Ok, if◌then◌else◌}
-use Rattle.fsfs_base.specs.Paths.{PathName, same_name}
-use Rattle.fsfs_base.specs.declared.kind.Kind.{Kind}
+use Rattle.fsfs_base.specs.Paths.{PathName}
 use Rattle.fsfs_base.specs.declared.txn_name.TxnName.{TxnName}
 use Rattle.fsfs_revision.specs.Told.{RevisionBytes}
 use Rattle.fsfs_noderev.specs.Ids.{PartValue, New, Old, Made, part_value}
 use Rattle.fsfs_noderev.specs.declared.node_id.Place.TheVariants as places
 use Rattle.fsfs_noderev.specs.declared.node_id.NodeId.{NodeId}
 use Rattle.fsfs_noderev.specs.declared.node_rev.NodeRev.{NodeRev}
-use Rattle.fsfs_revision.specs.ShowsReading.{DirEntry, named, EntriesOf, OfId}
+use Rattle.fsfs_revision.specs.ShowsReading.{DirEntry, EntriesOf, OfId}
 use Rattle.fsfs_draft.specs.Rules.{draft_root, root_after}
 use Rattle.fsfs_draft.specs.Drafts.{Kept}
 
@@ -45,10 +44,6 @@ pub data EntriesHere (look : RevisionBytes) (k : Kept) (entries : List DirEntry)
   Listed : k.entries ≡ Some entries → EntriesHere look k entries
   Read : (id : NodeId) (u : NodeRev) → k.entries ≡ None → k.node.predecessor ≡ Some id → OfId look id (Ok u) → EntriesOf look u (Ok entries) → EntriesHere look k entries
   Empty : k.entries ≡ None → k.node.predecessor ≡ None → entries ≡ [] → EntriesHere look k entries
-
--- the entries with another node behind a name
-abbrev pub IsReplaced : List DirEntry → PathName → Kind → NodeId → List DirEntry → Type 0
-IsReplaced entries name kind id new = (y : PathName) → named y new ≡ (if same_name name y then Some (record { name = name; kind = kind; id = id }) else named y entries)
 
 -- ---- the new node-revision
 

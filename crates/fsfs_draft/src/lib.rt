@@ -15,6 +15,7 @@ mod laws;
 mod names;
 mod own;
 mod properties;
+mod roots;
 mod walk;
 
 pub use drafts_laws::{
@@ -29,4 +30,5 @@ pub use laws::{ids_tell_what_a_head_changed, untouched_is_shared};
 pub use names::room_in;
 pub use own::{KeptNode, Own, OwnError};
 pub use properties::properties_in;
+pub use roots::lasting_root;
 pub use walk::{Child, Found, Step, met, next, root_id};

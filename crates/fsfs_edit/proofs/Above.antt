@@ -5,8 +5,8 @@ use Rattle.std.proofs.lemmas.List.{drop_more, take_more}
 use Rattle.std.specs.Cmp.Lexicographic.{nat_list_eq_equiv}
 use Rattle.fsfs_base.specs.Paths.{Path, same_name, same_path, covers, is_above}
 use Rattle.fsfs_noderev.specs.declared.item.ChangeItem.{ChangeItem}
-use Rattle.fsfs_edit.specs.FoldedItems.{is_delete}
 use Rattle.fsfs_edit.specs.Lasting.{any_above, is_deleted_at, is_deleted_above}
+use Rattle.fsfs_model.specs.Folding.{deletes}
 
 -- ---- any test
 
@@ -56,8 +56,8 @@ above_if true q p = above_one q p
 pub deleted_above : (p : Path) (items : List ChangeItem) → any_above (λ q. is_deleted_at q items) p ≡ is_deleted_above p items
 deleted_above p [] = never_above p
 deleted_above p (item ∷ items) =
-    any_above_or (λ q. is_delete item.action && same_path item.path q) (λ q. is_deleted_at q items) p
-    ∙ (λ i. above_if (is_delete item.action) item.path p i || deleted_above p items i)
+    any_above_or (λ q. deletes item.action && same_path item.path q) (λ q. is_deleted_at q items) p
+    ∙ (λ i. above_if (deletes item.action) item.path p i || deleted_above p items i)
 
 -- ---- a walk down the names
 

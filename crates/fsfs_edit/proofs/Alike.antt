@@ -9,15 +9,15 @@ use Rattle.fsfs_noderev.specs.declared.node_rev.CopySource.{CopySource}
 use Rattle.fsfs_noderev.specs.declared.node_rev.NodeRev.{NodeRev}
 use Rattle.fsfs_revision.specs.ShowsReading.{DirEntry, named}
 use Rattle.fsfs_draft.specs.Drafts.{Folder}
-use Rattle.fsfs_draft.specs.Steps.{IsReplaced}
 use Rattle.fsfs_draft.specs.Taken.{IsEntryTaken}
 use Rattle.fsfs_draft.specs.declared.error.EditError.{EditError}
 use Rattle.fsfs_edit.specs.Mutable.{IsChildChanged}
 use Rattle.fsfs_edit.specs.Made.{IsChildMade}
 use Rattle.fsfs_edit.specs.Copied.{IsCopyPut}
+use Rattle.fsfs_dag.specs.Entries.{HasPut}
 
 module _ (entries others : List DirEntry) (alike : (y : PathName) → named y entries ≡ named y others) where
-  replaced_as : (name : PathName) (kind : Kind) (id : NodeId) (new : List DirEntry) → IsReplaced entries name kind id new → IsReplaced others name kind id new
+  replaced_as : (name : PathName) (kind : Kind) (id : NodeId) (new : List DirEntry) → HasPut entries name kind id new → HasPut others name kind id new
   replaced_as name kind id new put = λ y. put y ∙ ap (λ (o : Option DirEntry). cond (same_name name y) (Some (record { name = name; kind = kind; id = id })) o) (alike y)
 
   pub made_as : (before after : Folder) (txn : TxnName) (dir : NodeId) (name : PathName) (kind : Kind) (result : Result NodeId EditError)

@@ -38,9 +38,9 @@ bare_kind (Some m) None kind e has = absurd cc
 bare_kind (Some m) (Some n) kind e has =
     sym (ap (λ (z : Node). z.kind) (same_Some (record m { added = 0; props_changed = 0; last_changed = 0 }) (record n { added = 0; props_changed = 0; last_changed = 0 }) e)) ∙ has
 
-node_kind : (o : Option Node) → is_dir_node o ≡ true → HasKind o Dir
-node_kind None is = absurd cc
-node_kind (Some n) is = by n.kind is
+pub dir_kind : (o : Option Node) → is_dir_node o ≡ true → HasKind o Dir
+dir_kind None is = absurd cc
+dir_kind (Some n) is = by n.kind is
   where
     by : (k : Kind) → is_dir_node (Some (record n { kind = k })) ≡ true → k ≡ Dir
     by File h = absurd cc
@@ -72,7 +72,7 @@ module _ (a b : TreeFunction) (each : (q : Path) → bare (a q) ≡ bare (b q)) 
 
   pub leads_over : (p : Path) → LeadsTo a p → LeadsTo b p
   leads_over p leads = λ front x rest parts. (
-    dir_node (b front) (bare_kind (a front) (b front) Dir (each front) (node_kind (a front) (leads front x rest parts).0)),
+    dir_node (b front) (bare_kind (a front) (b front) Dir (each front) (dir_kind (a front) (leads front x rest parts).0)),
     bare_some (a (front ++ x ∷ [])) (b (front ++ x ∷ [])) (each (front ++ x ∷ [])) (leads front x rest parts).1,
   )
 

@@ -5,9 +5,10 @@ use Rattle.std.specs.List.{AllByRecursion}
 use Rattle.fsfs_base.specs.Paths.{Path, same_path, covers, is_above, names_text}
 use Rattle.fsfs_base.proofs.PathLemmas.{same_path-is, same_path-refl, covers-refl, covers-antisym}
 use Rattle.fsfs_noderev.specs.declared.item.ChangeItem.{ChangeItem}
-use Rattle.fsfs_edit.specs.FoldedItems.{FoldedItem, is_delete, joined, fold_item, fold_items_from}
+use Rattle.fsfs_edit.specs.FoldedItems.{FoldedItem, joined, fold_item, fold_items_from}
 use Rattle.fsfs_edit.specs.Lasting.{is_deleted_above, lasting, say_all_by_key}
 use Rattle.fsfs_edit.proofs.KeyTexts.{IsWhole, same_key}
+use Rattle.fsfs_model.specs.Folding.{deletes}
 
 -- what is said of a path by items of it, whatever is deleted above
 abbrev pub say_at : Path → Option FoldedItem → ChangeItem → Option FoldedItem
@@ -50,10 +51,10 @@ step_here : (q : Path) (o : Option FoldedItem) (m : ChangeItem) (ms : List Chang
     → say_all_at q (cond (is_deleted_above q ms) None (fold_item q o m)) (lasting ms) ≡ say_all_at q (cond (is_deleted_above q (m ∷ ms)) None o) (lasting (m ∷ ms))
 step_here q o m ms e =
     let same : m.path ≡ q = same_path-is m.path q e in
-    let dead : (is_delete m.action && is_above m.path q) ≡ false =
-    ap (λ (r : Path). is_delete m.action && is_above r q) same ∙ ap (λ (b : Bool). is_delete m.action && b) (above_itself q) ∙ and_false (is_delete m.action) in
+    let dead : (deletes m.action && is_above m.path q) ≡ false =
+    ap (λ (r : Path). deletes m.action && is_above r q) same ∙ ap (λ (b : Bool). deletes m.action && b) (above_itself q) ∙ and_false (deletes m.action) in
     let later : is_deleted_above m.path ms ≡ is_deleted_above q ms = ap (λ (r : Path). is_deleted_above r ms) same in
-    ap (λ (b : Bool). say_all_at q (cond (is_deleted_above q ms) None (cond b (joined o m) (cond (is_delete m.action && covers m.path q) None o))) (lasting ms)) e
+    ap (λ (b : Bool). say_all_at q (cond (is_deleted_above q ms) None (cond b (joined o m) (cond (deletes m.action && covers m.path q) None o))) (lasting ms)) e
     ∙ here_by q o m (lasting ms) e (is_deleted_above q ms)
     ∙ sym (λ i. say_all_at q (cond (dead i || is_deleted_above q ms) None o) (cond (later i) (lasting ms) (m ∷ lasting ms)))
 
@@ -69,9 +70,9 @@ step_apart : (q : Path) (o : Option FoldedItem) (m : ChangeItem) (ms : List Chan
     → say_all_at q (cond (is_deleted_above q ms) None (fold_item q o m)) (lasting ms) ≡ say_all_at q (cond (is_deleted_above q (m ∷ ms)) None o) (lasting (m ∷ ms))
 step_apart q o m ms n =
     let above : is_above m.path q ≡ covers m.path q = and_not (covers m.path q) (covers q m.path) (not_below q m n) in
-    ap (λ (b : Bool). say_all_at q (cond (is_deleted_above q ms) None (cond b (joined o m) (cond (is_delete m.action && covers m.path q) None o))) (lasting ms)) n
-    ∙ ap (λ (b : Bool). say_all_at q (cond (is_deleted_above q ms) None (cond (is_delete m.action && b) None o)) (lasting ms)) (sym above)
-    ∙ ap (λ (p : Option FoldedItem). say_all_at q p (lasting ms)) (cond_twice (is_deleted_above q ms) (is_delete m.action && is_above m.path q) o)
+    ap (λ (b : Bool). say_all_at q (cond (is_deleted_above q ms) None (cond b (joined o m) (cond (deletes m.action && covers m.path q) None o))) (lasting ms)) n
+    ∙ ap (λ (b : Bool). say_all_at q (cond (is_deleted_above q ms) None (cond (deletes m.action && b) None o)) (lasting ms)) (sym above)
+    ∙ ap (λ (p : Option FoldedItem). say_all_at q p (lasting ms)) (cond_twice (is_deleted_above q ms) (deletes m.action && is_above m.path q) o)
     ∙ sym (skipped q (cond (is_deleted_above q (m ∷ ms)) None o) m (lasting ms) n (is_deleted_above m.path ms))
 
 -- ---- all items

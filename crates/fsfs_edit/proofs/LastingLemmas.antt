@@ -6,10 +6,11 @@ use Rattle.std.specs.Borrow.{Bor}
 use Rattle.fsfs_base.specs.Paths.{Path, names_text}
 use Rattle.fsfs_noderev.specs.declared.item.ChangeItem.{ChangeItem}
 use Rattle.fsfs_base.proofs.PathTextLemmas.{names_whole}
-use Rattle.fsfs_edit.specs.FoldedItems.{is_delete, HasPath}
+use Rattle.fsfs_edit.specs.FoldedItems.{HasPath}
 use Rattle.fsfs_edit.specs.Lasting.{any_above, is_deleted_at, is_deleted_above, is_deleted_after, lasting}
 use Rattle.fsfs_edit.proofs.Above.{any_above_agree, deleted_above}
 use Rattle.fsfs_edit.proofs.KeyTexts.{IsWhole, same_key, whole_prefix}
+use Rattle.fsfs_model.specs.Folding.{deletes}
 
 abbrev pub items_found : List (Bor ChangeItem) → List ChangeItem
 items_found found = reverse (map (λ item. item.now) found)
@@ -34,7 +35,7 @@ lasting_more items before left item found new deleted now below w split whole is
   behind = item ∷ w.behind;
   parts = w.parts ∙ ap (λ (t : List ChangeItem). t ++ w.behind) split ∙ append_assoc before (item ∷ []) w.behind;
   lasting_is = kept ∙ (λ i. cond (test i) (w.lasting_is i) (item ∷ w.lasting_is i));
-  deleted_is = λ q v. noted (names_text q) ∙ (λ i. (is_delete item.action && same_key item.path q whole v i) || w.deleted_is q v i);
+  deleted_is = λ q v. noted (names_text q) ∙ (λ i. (deletes item.action && same_key item.path q whole v i) || w.deleted_is q v i);
 }
   where
     test : below ≡ is_deleted_above item.path w.behind

@@ -9,9 +9,10 @@ use Rattle.fsfs_model.specs.declared.mark.Mark.{Mark}
 use Rattle.fsfs_model.specs.declared.mark.What.{What}
 use Rattle.fsfs_model.specs.declared.mark.What.TheVariants.{Make, Gone, Text, Prop}
 use Rattle.fsfs_model.specs.declared.folded.Folded.{Folded}
+use Rattle.fsfs_model.specs.Folding.{deletes}
 use Rattle.fsfs_model.specs.Folding as flat
 use Rattle.fsfs_noderev.specs.declared.item.ChangeItem.{ChangeItem}
-use Rattle.fsfs_edit.specs.FoldedItems.{FoldedItem, begun, after_delete, after_add, flagged, after_modify, joined_by, joined, is_delete, fold_item, fold_items_from, item_in, fold_items}
+use Rattle.fsfs_edit.specs.FoldedItems.{FoldedItem, begun, after_delete, after_add, flagged, after_modify, joined_by, joined, fold_item, fold_items_from, item_in, fold_items}
 use Rattle.fsfs_edit.specs.Marks.{Tells, SaysMark, AgreesWith}
 
 -- what the items say of a path, and what the marks do
@@ -109,18 +110,18 @@ joins (Some f) (Some g) item kind Prop t was = subst (λ (a : Action). Agrees (j
 
 -- of another path: a delete takes away what was said below it
 forgets : (o : Option FoldedItem) (p : Option Folded) (action : Action) (kind : Kind) (what : What) (below : Bool) → action ≡ (flat.change_of kind what).action → Agrees o p
-    → Agrees (cond (is_delete action && below) None o) (flat.forgotten p what below)
-forgets o p action kind (Make source) below e was = subst (λ (a : Action). Agrees (cond (is_delete a && below) None o) p) (sym e) was
-forgets o p action kind Text below e was = subst (λ (a : Action). Agrees (cond (is_delete a && below) None o) p) (sym e) was
-forgets o p action kind Prop below e was = subst (λ (a : Action). Agrees (cond (is_delete a && below) None o) p) (sym e) was
-forgets o p action kind Gone true e was = subst (λ (a : Action). Agrees (cond (is_delete a && true) None o) None) (sym e) tt
-forgets o p action kind Gone false e was = subst (λ (a : Action). Agrees (cond (is_delete a && false) None o) p) (sym e) was
+    → Agrees (cond (deletes action && below) None o) (flat.forgotten p what below)
+forgets o p action kind (Make source) below e was = subst (λ (a : Action). Agrees (cond (deletes a && below) None o) p) (sym e) was
+forgets o p action kind Text below e was = subst (λ (a : Action). Agrees (cond (deletes a && below) None o) p) (sym e) was
+forgets o p action kind Prop below e was = subst (λ (a : Action). Agrees (cond (deletes a && below) None o) p) (sym e) was
+forgets o p action kind Gone true e was = subst (λ (a : Action). Agrees (cond (deletes a && true) None o) None) (sym e) tt
+forgets o p action kind Gone false e was = subst (λ (a : Action). Agrees (cond (deletes a && false) None o) p) (sym e) was
 
 goes_on : (q : Path) (o : Option FoldedItem) (p : Option Folded) (item : ChangeItem) (m : Mark) → SaysMark item m → Agrees o p → Agrees (fold_item q o item) (flat.fold_mark q p m)
 goes_on q o p item m says was =
-    subst (λ (r : Path). Agrees (cond (same_path r q) (joined o item) (cond (is_delete item.action && covers r q) None o)) (flat.fold_mark q p m)) (sym says.path) (by (same_path m.path q))
+    subst (λ (r : Path). Agrees (cond (same_path r q) (joined o item) (cond (deletes item.action && covers r q) None o)) (flat.fold_mark q p m)) (sym says.path) (by (same_path m.path q))
   where
-    by : (b : Bool) → Agrees (cond b (joined o item) (cond (is_delete item.action && covers m.path q) None o)) (cond b (flat.joined p m.kind m.what) (flat.forgotten p m.what (covers m.path q)))
+    by : (b : Bool) → Agrees (cond b (joined o item) (cond (deletes item.action && covers m.path q) None o)) (cond b (flat.joined p m.kind m.what) (flat.forgotten p m.what (covers m.path q)))
     by true = joins o p item m.kind m.what says.change was
     by false = forgets o p item.action m.kind m.what (covers m.path q) says.change.action was
 

@@ -14,7 +14,7 @@ use Rattle.fsfs_revision.specs.ShowsReading.{DirEntry}
 use Rattle.fsfs_draft.specs.Own.{Own}
 use Rattle.fsfs_draft.specs.Rules.{draft_root}
 use Rattle.fsfs_draft.specs.Drafts.{Kept, Folder, IsItemOf}
-use Rattle.fsfs_draft.specs.Steps.{with_kept, kept_at, IsReplaced}
+use Rattle.fsfs_draft.specs.Steps.{with_kept, kept_at}
 use Rattle.fsfs_draft.specs.Views.{new_kept, opened_kept}
 use Rattle.fsfs_edit.specs.Mutable.{drawn}
 use Rattle.fsfs_model.specs.declared.mark.Mark.{Mark}
@@ -24,6 +24,7 @@ use Rattle.fsfs_draft.specs.Edits.{IsEdited, IsOpenedTo, IsDraftAfter}
 use Rattle.fsfs_draft.specs.Errors.{IsFailure}
 use Rattle.fsfs_draft.specs.Items.{with_item, IsFileAt}
 use Rattle.fsfs_draft.specs.declared.error.EditError.{EditError}
+use Rattle.fsfs_dag.specs.Entries.{HasPut}
 
 -- a copy of u, from there, under the name of the directory
 pub record IsCopyNode (txn : TxnName) (dir u w : NodeRev) (from : CopySource) (name : PathName) : Type 0 where
@@ -48,7 +49,7 @@ pub record IsCopyPut (before after : Folder) (txn : TxnName) (dir : NodeId) (ent
   pub part : part_value child.id.copy ≡ New before.next_copy
   pub free : kept_at before.nodes child.id ≡ None
   pub new : List DirEntry
-  pub replaced : IsReplaced entries name u.kind child.id new
+  pub replaced : HasPut entries name u.kind child.id new
   pub after_is : after ≡ record (drawn before) { nodes = with_kept dir (opened_kept k new) (with_kept child.id (new_kept child) before.nodes) }
 
 -- in the course of any edit that came down to the directory: with the item of it the folder holds a draft, and the tree and the marks

@@ -1,11 +1,12 @@
 -- What the items of a transaction come to, path by path: one item at most. (The libsvn_fs_fs structure file, "Revision file format",
 -- on changed-path data; the pairs of changes are folded as libsvn_fs_fs folds them.)
-use Rattle.std.specs.Prelude.{Bool, true, false, ◌||◌, ◌&&◌, List, [], ◌∷◌, ℕ, Option, Some, None, if◌then◌else◌}
+use Rattle.std.specs.Prelude.{◌||◌, ◌&&◌, List, [], ◌∷◌, ℕ, Option, Some, None, if◌then◌else◌}
 use Rattle.fsfs_base.specs.declared.action.Action.{Action}
 use Rattle.fsfs_base.specs.declared.action.Action.TheVariants.{Add, Delete, Replace, Modify}
 use Rattle.fsfs_base.specs.Paths.{Path, covers, same_path, path_text}
 use Rattle.fsfs_base.specs.PathTexts.{IsPath}
 use Rattle.fsfs_noderev.specs.declared.item.ChangeItem.{ChangeItem}
+use Rattle.fsfs_model.specs.Folding.{deletes}
 
 -- its path is within the limits of paths
 abbrev pub HasPath : ChangeItem → Type 0
@@ -60,15 +61,9 @@ abbrev pub joined : Option FoldedItem → ChangeItem → Option FoldedItem
 joined None item = Some (begun item)
 joined (Some f) item = joined_by item.action f item
 
-abbrev pub is_delete : Action → Bool
-is_delete Delete = true
-is_delete Add = false
-is_delete Replace = false
-is_delete Modify = false
-
 -- what is said of the path q after one more item: a delete takes away what was said of the paths below it
 abbrev pub fold_item : Path → Option FoldedItem → ChangeItem → Option FoldedItem
-fold_item q o item = if same_path item.path q then joined o item else (if is_delete item.action && covers item.path q then None else o)
+fold_item q o item = if same_path item.path q then joined o item else (if deletes item.action && covers item.path q then None else o)
 
 abbrev pub fold_items_from : Path → Option FoldedItem → List ChangeItem → Option FoldedItem
 fold_items_from q o [] = o

@@ -4,7 +4,8 @@ use Rattle.std.specs.List.{list_any}
 use Rattle.std.specs.Str.{bytes_eq}
 use Rattle.fsfs_base.specs.Paths.{Path, is_above, same_path, names_text}
 use Rattle.fsfs_noderev.specs.declared.item.ChangeItem.{ChangeItem}
-use Rattle.fsfs_edit.specs.FoldedItems.{FoldedItem, is_delete, joined}
+use Rattle.fsfs_edit.specs.FoldedItems.{FoldedItem, joined}
+use Rattle.fsfs_model.specs.Folding.{deletes}
 
 -- f holds of a path above p
 abbrev pub any_above : (Path → Bool) → Path → Bool
@@ -13,15 +14,15 @@ any_above f (x ∷ p) = f [] || any_above (λ q. f (x ∷ q)) p
 
 -- an item deletes what is above the path
 abbrev pub is_deleted_above : Path → List ChangeItem → Bool
-is_deleted_above p items = list_any (λ item. is_delete item.action && is_above item.path p) items
+is_deleted_above p items = list_any (λ item. deletes item.action && is_above item.path p) items
 
 -- an item deletes what is at the path
 abbrev pub is_deleted_at : Path → List ChangeItem → Bool
-is_deleted_at p items = list_any (λ item. is_delete item.action && same_path item.path p) items
+is_deleted_at p items = list_any (λ item. deletes item.action && same_path item.path p) items
 
 -- the same of a path's key, once one more item was looked at
 abbrev pub is_deleted_after : List ℕ → ChangeItem → Bool → Bool
-is_deleted_after key item was = (is_delete item.action && bytes_eq (names_text item.path) key) || was
+is_deleted_after key item was = (deletes item.action && bytes_eq (names_text item.path) key) || was
 
 -- the items behind which nothing above their path is deleted
 abbrev pub lasting : List ChangeItem → List ChangeItem

@@ -15,7 +15,7 @@ use Rattle.fsfs_revision.specs.ShowsReading.{DirEntry}
 use Rattle.fsfs_draft.specs.Own.{Own}
 use Rattle.fsfs_draft.specs.Rules.{draft_root}
 use Rattle.fsfs_draft.specs.Drafts.{Kept, Folder, IsItemOf}
-use Rattle.fsfs_draft.specs.Steps.{with_kept, kept_at, IsReplaced}
+use Rattle.fsfs_draft.specs.Steps.{with_kept, kept_at}
 use Rattle.fsfs_draft.specs.Views.{new_kept, opened_kept}
 use Rattle.fsfs_model.specs.declared.mark.Mark.{Mark}
 use Rattle.fsfs_model.specs.declared.mark.What.TheVariants as whats
@@ -24,6 +24,7 @@ use Rattle.fsfs_draft.specs.Edits.{IsEdited, IsOpenedTo, IsDraftAfter}
 use Rattle.fsfs_draft.specs.Errors.{IsFailure}
 use Rattle.fsfs_draft.specs.Items.{with_item, IsFileAt}
 use Rattle.fsfs_draft.specs.declared.error.EditError.{EditError}
+use Rattle.fsfs_dag.specs.Entries.{HasPut}
 
 abbrev pub drawn_node : Folder → Folder
 drawn_node f = record f { next_node = f.next_node + 1 }
@@ -55,7 +56,7 @@ pub record IsChildMade (before after : Folder) (txn : TxnName) (dir : NodeId) (e
   pub part : part_value child.id.node ≡ New before.next_node
   pub free : kept_at before.nodes child.id ≡ None
   pub new : List DirEntry
-  pub replaced : IsReplaced entries name kind child.id new
+  pub replaced : HasPut entries name kind child.id new
   pub after_is : after ≡ record (drawn_node before) { nodes = with_kept dir (opened_kept k new) (with_kept child.id (new_kept child) before.nodes) }
 
 -- in the course of any edit that came down to the directory: with the item of it the folder holds a draft, and the tree and the marks

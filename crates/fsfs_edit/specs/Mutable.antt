@@ -17,8 +17,9 @@ use Rattle.fsfs_draft.specs.Edits.{IsOpenedTo}
 use Rattle.fsfs_model.specs.declared.mark.Mark.{Mark}
 use Rattle.fsfs_draft.specs.declared.error.EditError.{EditError}
 use Rattle.fsfs_draft.specs.Errors.{IsFailure}
-use Rattle.fsfs_draft.specs.Steps.{with_kept, kept_at, IsReplaced, IsSuccessor}
+use Rattle.fsfs_draft.specs.Steps.{with_kept, kept_at, IsSuccessor}
 use Rattle.fsfs_draft.specs.Views.{new_kept, opened_kept}
+use Rattle.fsfs_dag.specs.Entries.{HasPut}
 
 abbrev pub drawn : Folder → Folder
 drawn f = record f { next_copy = f.next_copy + 1 }
@@ -48,7 +49,7 @@ pub record IsChildChanged (before after : Folder) (txn : TxnName) (dir : NodeId)
   pub between : Folder
   pub part : IsPartFrom before between dir.copy u.id child.id.copy
   pub new : List DirEntry
-  pub replaced : IsReplaced entries name kind child.id new
+  pub replaced : HasPut entries name kind child.id new
   pub after_is : after ≡ record between { nodes = with_kept dir (opened_kept k new) (with_kept child.id (new_kept child) between.nodes) }
 
 -- ---- what is left in the draft

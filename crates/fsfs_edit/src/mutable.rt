@@ -15,12 +15,12 @@ ghost use Rattle.fsfs_edit.specs.Mutable.{drawn, IsPartFrom, IsAmiss, IsChildCha
 ghost use Rattle.fsfs_draft.specs.Causes.{HasDiskCause, HasBenchCause};
 
 use crate::ids::{id_of, id_with};
-use crate::successor::{is_after, own_rev, root_rev, successor};
+use crate::successor::{is_after, root_rev, successor};
 use fsfs_base::{Kind, RevNum};
 use fsfs_dag::{Listing, named_node};
 use fsfs_draft::{EditError, Own, listed_in};
 use fsfs_noderev::{NodeId, NodeRev, Part};
-use fsfs_revision::{Book, is_revision_id};
+use fsfs_revision::{Book, is_revision_id, own_rev};
 use std::alloc::Global;
 
 // A copy part that is drawn for a node part.

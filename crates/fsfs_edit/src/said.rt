@@ -4,7 +4,7 @@ ghost use Rattle.fsfs_edit.specs.FoldedItems.{begun, after_delete, after_add, af
 ghost use Rattle.fsfs_edit.specs.Views.{said_value};
 
 use fsfs_base::Action;
-use fsfs_noderev::{ChangeItem, CopySource};
+use fsfs_noderev::{ChangeItem, same_source};
 use std::alloc::AllocError;
 
 /// What is said of a path so far, by items of it.
@@ -96,18 +96,6 @@ pub(crate) fn joined<'a>(before: Option<Said<'a>>, item: &'a ChangeItem) -> Opti
     }
 }
 
-fn source_of(source: &Option<CopySource>) -> Result<Option<CopySource>, AllocError>
-    ensures { IfOk result (λ copy. copy ≡ source.now) }
-{
-    match source {
-        None => Ok(None),
-        Some(source) => Ok(Some(CopySource {
-            rev: source.rev,
-            path: source.path.clone()?,
-        })),
-    }
-}
-
 /// It as an item.
 pub(crate) fn item_of(said: &Said<'_>) -> Result<ChangeItem, AllocError>
     ensures { IfOk result (λ item. item ≡ (said_value said.now).item) }
@@ -119,6 +107,6 @@ pub(crate) fn item_of(said: &Said<'_>) -> Result<ChangeItem, AllocError>
         text_changed: said.text_changed,
         props_changed: said.props_changed,
         path: said.item.path.clone()?,
-        source: source_of(&said.item.source)?,
+        source: same_source(&said.item.source)?,
     })
 }

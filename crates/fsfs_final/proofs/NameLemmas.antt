@@ -22,12 +22,13 @@ use Rattle.fsfs_noderev.specs.declared.rep.Contents.TheVariants as contents
 use Rattle.fsfs_noderev.specs.declared.node_rev.NodeRev.{NodeRev}
 use Rattle.fsfs_revision.specs.Nodes.{is_revision_id, is_lasting_part, is_revision_place, is_before, place_before}
 use Rattle.fsfs_revision.specs.ShowsReading.{Pairs, DirEntry, named, offset_of}
+use Rattle.fsfs_revision.specs.Frames.{framed_text}
 use Rattle.fsfs_dag.specs.declared.directory.DirEntry.{DirEntry as Listed}
 use Rattle.fsfs_dag.specs.Views.{entry_value, entry_values}
 use Rattle.fsfs_draft.specs.OwnSides.{in_txn}
 use Rattle.fsfs_final.specs.Final.{final_part}
 use Rattle.fsfs_layout.specs.Dump.{dump_text}
-use Rattle.fsfs_final.specs.Lists.{framed_text, list_of, AreContentsPut}
+use Rattle.fsfs_final.specs.Lists.{list_of, AreContentsPut}
 use Rattle.fsfs_final.specs.Naming.{FinalIds, final_entry}
 use Rattle.fsfs_final.specs.Nodes.{IsNodePut}
 use Rattle.fsfs_final.proofs.NodeLaws.{grown}

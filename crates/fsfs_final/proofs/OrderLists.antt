@@ -1,7 +1,7 @@
 -- Paths with a name more, and lists of node-revisions with one more.
-use Rattle.std.proofs.Common.{◌≡◌, ◌∙◌, Bool, true, false, ◌||◌, List, [], ◌∷◌, ◌++◌, map, reverse, refl, sym, ap, subst, inl, inr, ◌⊎◌}
+use Rattle.std.proofs.Common.{◌≡◌, ◌∙◌, Bool, true, false, List, [], ◌∷◌, ◌++◌, map, reverse, refl, sym, ap, subst, inl, inr, ◌⊎◌}
 use Rattle.std.specs.Borrow.{Bor}
-use Rattle.std.proofs.lemmas.Bool.{or_cases}
+use Rattle.std.proofs.lemmas.Bool.{or_cases, or_left, or_right, false_from_ne_true, or_from, or_parts}
 use Rattle.std.proofs.lemmas.List.{map-append, reverse-append}
 use Rattle.std.proofs.lemmas.List.Folds.{list_any-append}
 use mathlib.Core.Bool.{false≢true}
@@ -16,26 +16,6 @@ use Rattle.fsfs_final.specs.Orders.{path_of, last_first, is_in}
 
 pub differ : (b : Bool) → b ≡ true → b ≡ false → ⊥
 differ b e f = false≢true (sym f ∙ e)
-
-pub is_false : (b : Bool) → (b ≡ true → ⊥) → b ≡ false
-is_false false h = refl
-is_false true h = absurd (h refl)
-
-pub or_left : (a b : Bool) → a ≡ true → (a || b) ≡ true
-or_left true b e = refl
-or_left false b e = absurd (false≢true e)
-
-pub or_right : (a b : Bool) → b ≡ true → (a || b) ≡ true
-or_right true b e = refl
-or_right false b e = e
-
-pub neither : (a b : Bool) → a ≡ false → b ≡ false → (a || b) ≡ false
-neither true b e h = e
-neither false b e h = h
-
-or_none : (a b : Bool) → (a || b) ≡ false → (a ≡ false) × (b ≡ false)
-or_none true b h = absurd (false≢true (sym h))
-or_none false b h = (refl, h)
 
 -- ---- paths
 
@@ -71,10 +51,10 @@ in_either k ks p h = elim (or_cases (same_path (path_of k) p) (is_in ks p) h) [
 ]
 
 pub in_none : (k : Kept) (ks : List Kept) (p : Path) → is_in (k ∷ ks) p ≡ false → (path_of k ≡ p → ⊥) × (is_in ks p ≡ false)
-in_none k ks p h = ((λ e. differ (is_in (k ∷ ks) p) (in_front k ks p e) h), (or_none (same_path (path_of k) p) (is_in ks p) h).1)
+in_none k ks p h = ((λ e. differ (is_in (k ∷ ks) p) (in_front k ks p e) h), (or_parts (same_path (path_of k) p) (is_in ks p) h).1)
 
 pub out_of : (k : Kept) (ks : List Kept) (p : Path) → (path_of k ≡ p → ⊥) → is_in ks p ≡ false → is_in (k ∷ ks) p ≡ false
-out_of k ks p other h = neither (same_path (path_of k) p) (is_in ks p) (is_false (same_path (path_of k) p) (λ e. other (same_path-is (path_of k) p e))) h
+out_of k ks p other h = or_from (same_path (path_of k) p) (is_in ks p) (false_from_ne_true (same_path (path_of k) p) (λ e. other (same_path-is (path_of k) p e))) h
 
 pub in_left : (ks more : List Kept) (p : Path) → is_in ks p ≡ true → is_in (ks ++ more) p ≡ true
 in_left ks more p h = list_any-append (λ (k : Kept). same_path (path_of k) p) ks more ∙ or_left (is_in ks p) (is_in more p) h
@@ -83,7 +63,7 @@ pub in_right : (ks more : List Kept) (p : Path) → is_in more p ≡ true → is
 in_right ks more p h = list_any-append (λ (k : Kept). same_path (path_of k) p) ks more ∙ or_right (is_in ks p) (is_in more p) h
 
 pub in_neither : (ks more : List Kept) (p : Path) → is_in ks p ≡ false → is_in more p ≡ false → is_in (ks ++ more) p ≡ false
-in_neither ks more p h g = list_any-append (λ (k : Kept). same_path (path_of k) p) ks more ∙ neither (is_in ks p) (is_in more p) h g
+in_neither ks more p h g = list_any-append (λ (k : Kept). same_path (path_of k) p) ks more ∙ or_from (is_in ks p) (is_in more p) h g
 
 -- one more at the end of a list is its last
 pub last_pushed : (ks : List (Bor KeptNode)) (k : Bor KeptNode) → last_first (ks ++ k ∷ []) ≡ kept_value k.now ∷ last_first ks

@@ -3,12 +3,7 @@ use Rattle.std.proofs.Common.{◌≡◌, ◌∙◌, ◌≤◌, ◌+◌, ◌-◌,
 use Rattle.std.specs.Prelude.{option_map, if◌then◌else◌}
 use Rattle.std.specs.List.{AllByRecursion}
 use Rattle.std.proofs.lemmas.List.{take_all, take_more}
-use Rattle.std.specs.BTreeMap.{BTreeMap, IsEmpty, is_at, get_by_text}
-use Rattle.std.specs.Map.{lookup}
-use Rattle.std.specs.Ordering.{nat_cmp}
-use Rattle.std.specs.Cmp.Lexicographic.{slice_cmp}
-use Rattle.std.specs.String.{string_bytes}
-use Rattle.std.specs.declared.string.String.{String}
+use Rattle.std.proofs.lemmas.Bool.{or_left, or_right, false_from_ne_true, or_from}
 use Rattle.fsfs_base.specs.Paths.{PathName, same_name}
 use Rattle.fsfs_base.proofs.PathLemmas.{same_name-refl, same_name-is}
 use Rattle.fsfs_noderev.specs.declared.node_id.NodeId.{NodeId}
@@ -22,7 +17,7 @@ use Rattle.fsfs_final.specs.Orders.{AreHeld}
 use Rattle.fsfs_final.specs.Children.{IdsByName, id_named, Child, is_named, HaveNamesOnce, IsChild, IsPushed, ArePushed, IfLacking}
 use Rattle.fsfs_final.specs.declared.error.OrderError.{OrderError}
 use Rattle.fsfs_final.specs.declared.error.OrderError.TheVariants as errors
-use Rattle.fsfs_final.proofs.OrderLists.{differ, is_false, or_left, or_right, neither}
+use Rattle.fsfs_final.proofs.OrderLists.{differ}
 
 pub record ArePushing (files : Files) (ids left : IdsByName) (old new : List Kept) : Type 0 where
   pub children : List Child
@@ -104,7 +99,7 @@ module _ (files : Files) (ids left now : IdsByName) (old new : List Kept) (x : P
 
   fresh : (cs : List Child) → AllByRecursion (λ (c : Child). left c.0 ≡ None) cs → is_named cs x ≡ false
   fresh [] a = refl
-  fresh (c ∷ cs) a = neither (same_name c.0 x) (is_named cs x) (is_false (same_name c.0 x) other) (fresh cs a.1)
+  fresh (c ∷ cs) a = or_from (same_name c.0 x) (is_named cs x) (false_from_ne_true (same_name c.0 x) other) (fresh cs a.1)
     where
       other : same_name c.0 x ≡ true → ⊥
       other e = let clash : None ≡ Some id = sym a.0 ∙ ap left (same_name-is c.0 x e) ∙ has in cc
@@ -155,10 +150,6 @@ put_front name e done o h = by (same_name (entry_value e).name name)
     by : (b : Bool) → cond b (Some e.id) o ≡ option_map (λ (x : DirEntry). x.id) (if b then Some (entry_value e) else named name (entry_values done))
     by true = refl
     by false = h
-
--- a map without entries has nothing
-pub empty_map : {Y X : Type 0} (m : BTreeMap (String Y) X) (name : PathName) → IsEmpty m → get_by_text m name ≡ None
-empty_map m name e = ap (λ es. lookup (is_at (λ k. slice_cmp nat_cmp name (string_bytes k))) es) e
 
 -- when none is left all were put
 pub whole_list : (name : PathName) (all left done : List Listed) → all ≡ left ++ done → left ≡ [] → id_named (Some (entry_values done)) name ≡ id_named (Some (entry_values all)) name

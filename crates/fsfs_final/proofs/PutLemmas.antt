@@ -19,8 +19,9 @@ use Rattle.fsfs_revision.specs.Nodes.{is_revision_id}
 use Rattle.fsfs_revision.specs.Trailers.{IsOffset, IsTrailer}
 use Rattle.fsfs_revision.proofs.TrailerLemmas.{written}
 use Rattle.fsfs_revision.specs.ShowsReading.{Pairs, kind_word, IsEntryValue}
+use Rattle.fsfs_revision.specs.Frames.{framed_text}
 use Rattle.fsfs_final.specs.Finishing.{final_root, finish}
-use Rattle.fsfs_final.specs.Lists.{framed_text, IsListPut, AreContentsPut}
+use Rattle.fsfs_final.specs.Lists.{IsListPut, AreContentsPut}
 use Rattle.fsfs_final.specs.Nodes.{IsNodePut}
 use Rattle.fsfs_final.specs.Endings.{IsEndPut}
 

@@ -2,6 +2,7 @@
 use Rattle.std.proofs.Common.{◌≡◌, ◌∙◌, ◌+◌, ◌≤◌, ◌<◌, ℕ, suc, Bool, true, false, cond, List, [], ◌∷◌, ◌++◌, map, length, Option, Some, None, refl, sym, ap, subst, arith}
 use Rattle.std.specs.Prelude.{option_map, is_some, unwrap_or, if◌then◌else◌}
 use Rattle.std.proofs.lemmas.List.{length-append}
+use Rattle.std.proofs.lemmas.Bool.{false_from_ne_true}
 use Rattle.fsfs_base.specs.Paths.{PathName, Path, same_path}
 use Rattle.fsfs_base.proofs.PathLemmas.{same_path-is, same_path-refl}
 use Rattle.fsfs_base.specs.declared.txn_name.TxnName.{TxnName}
@@ -33,7 +34,6 @@ use Rattle.fsfs_draft.proofs.WholeLaw.{drafts_are_handed}
 use Rattle.fsfs_draft.proofs.OwnEntries.{lasting_parts}
 use Rattle.fsfs_final.specs.Laid.{Laid, with_laid, IsFramed}
 use Rattle.fsfs_final.proofs.LaidLaw.{loop_laws}
-use Rattle.fsfs_final.specs.Entries.{MayStand, ListsEntries}
 use Rattle.fsfs_final.specs.Lists.{list_of}
 use Rattle.fsfs_final.specs.Naming.{FinalIds, final_id, final_entry}
 use Rattle.fsfs_final.specs.Nodes.{HasTextBefore, HasList, IsNodeLaid}
@@ -42,13 +42,14 @@ use Rattle.fsfs_final.proofs.NodeLaws.{put_nodes_are_laid}
 use Rattle.fsfs_final.proofs.TextsLaw.{draft_texts_stand_before}
 use Rattle.fsfs_final.specs.Orders.{path_of, is_in}
 use Rattle.fsfs_final.specs.Children.{id_named}
-use Rattle.fsfs_final.proofs.OrderLists.{differ, is_false, not_itself, in_front, in_none, out_of}
+use Rattle.fsfs_final.proofs.OrderLists.{differ, not_itself, in_front, in_none, out_of}
 use Rattle.fsfs_final.proofs.OwnChildren.{Below, not_of_revision, heads, lasting, child_own}
 use Rattle.fsfs_final.proofs.Walking.{parent_in}
 use Rattle.fsfs_final.specs.Putting.{AreUtf8, AreFinalPairs, IsNextPut}
 use Rattle.fsfs_final.specs.Laying.{IsCommittable, LeadAlike, IsListPut, IsPut, AreLaid}
 use Rattle.fsfs_final.proofs.ReadNames.{read_name}
 use Rattle.fsfs_final.proofs.NameLemmas.{last_name, named_name, named_final, final_revision, plain_place, earlier_offset, earlier_place, list_grows, text_kept, node_grown, mid_within}
+use Rattle.fsfs_dag.specs.Entries.{MayStand, ListsEntries}
 
 -- the pairs of a list that was made
 record IsListed (ids : FinalIds) (dir : Path) (entries : List DirEntry) (list : Option Pairs) : Type 0 where
@@ -168,10 +169,10 @@ module _ (look : RevisionBytes) (trees : ℕ → TreeFunction) (top : ℕ) (node
 
     -- what is laid elsewhere
     laid_other : (q : Path) → (p ≡ q → ⊥) → laid_now q ≡ laid q
-    laid_other q other = ap (λ (b : Bool). if b then Some (node.off, step.done) else laid q) (is_false (same_path q p) (λ e. other (sym (same_path-is q p e))))
+    laid_other q other = ap (λ (b : Bool). if b then Some (node.off, step.done) else laid q) (false_from_ne_true (same_path q p) (λ e. other (sym (same_path-is q p e))))
 
     ids_other : (q : Path) → (p ≡ q → ⊥) → now q ≡ ids q
-    ids_other q other = step.noted q ∙ ap (λ (b : Bool). if b then Some step.done.id else ids q) (is_false (same_path p q) (λ e. other (same_path-is p q e)))
+    ids_other q other = step.noted q ∙ ap (λ (b : Bool). if b then Some step.done.id else ids q) (false_from_ne_true (same_path p q) (λ e. other (same_path-is p q e)))
 
     laid_here : laid_now p ≡ Some (node.off, step.done)
     laid_here = ap (λ (b : Bool). if b then Some (node.off, step.done) else laid p) (same_path-refl p)
@@ -226,7 +227,7 @@ module _ (look : RevisionBytes) (trees : ℕ → TreeFunction) (top : ℕ) (node
     child_out : (name : PathName) → is_in (kept_of v ∷ ks) (p ++ name ∷ []) ≡ false
     child_out name =
         out_of (kept_of v) ks (p ++ name ∷ []) (not_itself p name)
-        (is_false (is_in ks (p ++ name ∷ [])) (λ h. differ (is_in ks p) (parent_in own ks w.order.3 p name h) w.order.1))
+        (false_from_ne_true (is_in ks (p ++ name ∷ [])) (λ h. differ (is_in ks p) (parent_in own ks w.order.3 p name h) w.order.1))
 
     child_put : (name : PathName) (z : OwnNode) → own (p ++ name ∷ []) ≡ Some z → IsPut n (f.proto ++ old) laid ids (p ++ name ∷ []) z
     child_put name z at = w.each (p ++ name ∷ []) z at (child_out name)

@@ -1,7 +1,7 @@
 -- The walk through a draft's own node-revisions: what was found, and what is to be looked at next.
 use Rattle.std.proofs.Common.{◌≡◌, ◌∙◌, ◌≤◌, ℕ, true, false, List, [], ◌∷◌, ◌++◌, map, refl, sym, ap, subst, Option, Some, None, inl, inr, ◌⊎◌, append_assoc, append-nil}
 use Rattle.std.specs.List.{AllByRecursion}
-use Rattle.std.proofs.lemmas.Bool.{or_cases}
+use Rattle.std.proofs.lemmas.Bool.{or_cases, or_left, or_right, false_from_ne_true}
 use mathlib.Core.Bool.{false≢true}
 use Rattle.fsfs_base.specs.Paths.{PathName, Path, same_name}
 use Rattle.fsfs_base.proofs.PathLemmas.{same_name-refl, same_name-is}
@@ -16,7 +16,7 @@ use Rattle.fsfs_draft.specs.Steps.{kept_at}
 use Rattle.fsfs_draft.specs.Walks.{IsRootId}
 use Rattle.fsfs_final.specs.Orders.{path_of, is_in, IsKeptAt, IsInOne, AreInOrder, IsOrder}
 use Rattle.fsfs_final.specs.Children.{id_named, Child, is_named, HaveNamesOnce, IsChild, ArePushed, LacksChild}
-use Rattle.fsfs_final.proofs.OrderLists.{differ, is_false, or_left, or_right, no_push, push_same, not_itself, in_front, in_later, in_either, in_none, out_of, in_left, in_right, in_neither}
+use Rattle.fsfs_final.proofs.OrderLists.{differ, no_push, push_same, not_itself, in_front, in_later, in_either, in_none, out_of, in_left, in_right, in_neither}
 use Rattle.fsfs_final.proofs.OwnChildren.{child_own, child_named, above_own}
 
 -- it is to be looked at next
@@ -115,7 +115,7 @@ module _ (look : RevisionBytes) (top base : ℕ) (trees : ℕ → TreeFunction) 
           record { node = o.0; there = o.1; kept = same; path = ap path_of (sym same) ∙ draft.paths (p ++ c.0 ∷ []) o.0 o.1 }
 
       not_found : (name : PathName) → is_in found (p ++ name ∷ []) ≡ false
-      not_found name = is_false (is_in found (p ++ name ∷ [])) (λ h. differ (is_in found p) (parent_in own found w.found_are p name h) w.next_are.0.1)
+      not_found name = false_from_ne_true (is_in found (p ++ name ∷ [])) (λ h. differ (is_in found p) (parent_in own found w.found_are p name h) w.next_are.0.1)
 
       child_next : (c : Child) → IsAt c → IsNext own (k ∷ found) c.1
       child_next c a = (
@@ -170,7 +170,7 @@ module _ (look : RevisionBytes) (top base : ℕ) (trees : ℕ → TreeFunction) 
       all_apart [] a o = w.once.1
       all_apart (c ∷ cs) a o = (
         subst (λ (q : Path). is_in (kept_in cs ++ next) q ≡ false) (sym (child_at c a.0).path)
-            (in_neither (kept_in cs) next (p ++ c.0 ∷ []) (is_false (is_in (kept_in cs) (p ++ c.0 ∷ [])) (λ h. differ (is_named cs c.0) (named_in cs a.1 c.0 h) o.0)) (none_next next w.next_are.1 c.0)),
+            (in_neither (kept_in cs) next (p ++ c.0 ∷ []) (false_from_ne_true (is_in (kept_in cs) (p ++ c.0 ∷ [])) (λ h. differ (is_named cs c.0) (named_in cs a.1 c.0 h) o.0)) (none_next next w.next_are.1 c.0)),
         all_apart cs a.1 o.1,
       )
 

@@ -1,17 +1,14 @@
 -- A list of a directory's entries or of properties that was put behind what stands in a new revision so far.
 --
 -- The libsvn_fs_fs structure file has the form of a representation ("Revision file format").
-use Rattle.std.specs.Prelude.{◌≡◌, ◌+◌, ℕ, List, [], ◌++◌, length, Option, Some, None, unwrap_or, codes}
+use Rattle.std.specs.Prelude.{◌≡◌, ◌+◌, ℕ, List, [], ◌++◌, length, Option, Some, None, unwrap_or}
 use Rattle.fsfs_noderev.specs.declared.rep.Rep.{Rep}
 use Rattle.fsfs_noderev.specs.declared.rep.Contents.{Contents}
 use Rattle.fsfs_noderev.specs.declared.rep.Contents.TheVariants as contents
 use Rattle.fsfs_layout.specs.Dump.{Entries, IsDump, dump_text}
 use Rattle.fsfs_revision.specs.ShowsReading.{Pairs}
+use Rattle.fsfs_revision.specs.Frames.{framed_text}
 use Rattle.fsfs_final.specs.Laid.{IsRepAt, IsFramed}
-
--- with its header and its trailer
-abbrev pub framed_text : List ℕ → List ℕ
-framed_text text = codes "PLAIN\n" ++ (text ++ codes "ENDREP\n")
 
 -- the list was put behind `old`, which begins at the offset `start` of revision n
 pub record IsListPut (n start : ℕ) (old new : List ℕ) (pairs : Pairs) (rep : Rep) : Type 0 where

@@ -8,10 +8,10 @@ use Rattle.fsfs_revision.specs.ShowsReading.{Pairs, DirEntry, named}
 use Rattle.fsfs_draft.specs.Drafts.{Kept}
 use Rattle.fsfs_noderev.specs.Limits.{IsNodePast}
 use Rattle.fsfs_noderev.specs.declared.limit.PathLimit.{PathLimit}
-use Rattle.fsfs_final.specs.Entries.{ListsEntries}
 use Rattle.fsfs_final.specs.Naming.{FinalIds, final_entry}
 use Rattle.fsfs_final.specs.Nodes.{IsNodePut}
 use Rattle.fsfs_final.specs.Orders.{path_of}
+use Rattle.fsfs_dag.specs.Entries.{ListsEntries}
 
 abbrev pub no_ids : FinalIds
 no_ids p = None

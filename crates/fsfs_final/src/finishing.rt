@@ -4,7 +4,7 @@ ghost use Rattle.fsfs_final.specs.Final.{final_part};
 ghost use Rattle.fsfs_final.specs.Finishing.{final_root, finish};
 
 use fsfs_base::RevNum;
-use fsfs_noderev::{Contents, CopyRoot, CopySource, NodeId, NodeRev, Part, Place};
+use fsfs_noderev::{Contents, CopyRoot, NodeId, NodeRev, Part, Place, same_source};
 use std::alloc::AllocError;
 
 fn final_part(rev: RevNum, part: Part) -> Part
@@ -25,18 +25,6 @@ fn final_root(rev: RevNum, root: &Option<CopyRoot>) -> Result<Option<CopyRoot>, 
         Some(root) => Ok(Some(CopyRoot {
             rev: Some(root.rev.unwrap_or(rev)),
             path: root.path.clone()?,
-        })),
-    }
-}
-
-fn same_source(source: &Option<CopySource>) -> Result<Option<CopySource>, AllocError>
-    ensures { IfOk result (λ same. same ≡ source.now) }
-{
-    match source {
-        None => Ok(None),
-        Some(source) => Ok(Some(CopySource {
-            rev: source.rev,
-            path: source.path.clone()?,
         })),
     }
 }

@@ -8,7 +8,6 @@
 
 mod children;
 mod ending;
-mod entries;
 mod error;
 mod finishing;
 mod laws;
@@ -22,7 +21,6 @@ mod putting;
 mod putting_laws;
 
 pub use ending::put_end;
-pub use entries::entry_pairs;
 pub use error::OrderError;
 pub use laws::{
     begun_is_a_draft, changes_fit_the_bytes, commits_add_revisions, contents_are_read,

@@ -6,8 +6,9 @@ ghost use Rattle.fsfs_final.specs.Naming.{ids_of};
 ghost use Rattle.fsfs_final.specs.Orders.{last_first};
 ghost use Rattle.fsfs_final.specs.Putting.{IsFinalList, IsNextPut, ArePut, IsOnePast, no_ids};
 
-use crate::{entry_pairs, final_entries, put_node};
+use crate::{final_entries, put_node};
 use fsfs_base::{FsPath, Pairs, RevNum};
+use fsfs_dag::entry_pairs;
 use fsfs_draft::KeptNode;
 use fsfs_noderev::{LimitError, NodeId, check_node};
 use std::alloc::{AllocError, Global};

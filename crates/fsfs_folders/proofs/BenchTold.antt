@@ -3,18 +3,18 @@ use Rattle.std.proofs.Common.{◌≡◌, ◌⊎◌, ℕ, List, [], ◌∷◌, �
 use Rattle.std.proofs.lemmas.Option.{same_Some, none-some}
 use Rattle.std.specs.Prelude.{◌≤◌, ◌^◌, length, Option, Some, None, option_map, unwrap_or, IfSome, is_some, is_err, Result, Ok, Err, IfOk, OnOk, OnErr}
 use Rattle.std.specs.FinMap.{get}
-use Rattle.fsfs_base.specs.Files.{Files}
+use Rattle.fsfs_base.specs.Files.{Files, same_text}
 use Rattle.fsfs_base.proofs.FileLemmas.{same_files}
 use Rattle.fsfs_disk.specs.Benches.{with_file, appended, written, removed, bytes_in, bytes_on, Spoils}
 use Rattle.fsfs_disk.specs.Trace.{IsThere}
-use Rattle.fsfs_folders.specs.Paths.{same_text}
 use Rattle.fsfs_folders.specs.Listing.{is_entry}
 use Rattle.fsfs_folders.specs.CallRecord.{CallRecord, Contents, no_contents, more_bytes, made_firm, made_lost, names_now, contents_now}
 use Rattle.fsfs_folders.proofs.PathLemmas.{same_itself}
 use Rattle.fsfs_folders.specs.SameText.{text_cases}
 use Rattle.fsfs_folders.specs.BenchFiles.{file_held, file_or_new, bytes_of, files_held, bench_told, firm_part, firm_held, Follows, Sets, SetsAny, AreShort, AreKept}
 use Rattle.fsfs_folders.specs.Writing.{bytes_there}
-use Rattle.fsfs_folders.proofs.HeldFiles.{get_with, files_told, held_outside}
+use Rattle.fsfs_folders.specs.Laws.{get_with}
+use Rattle.fsfs_folders.proofs.HeldFiles.{files_told, held_outside}
 
 chosen : (b : Bool) (file was : Option Contents) → bytes_of (cond b file was) ≡ cond b (bytes_of file) (bytes_of was)
 chosen true file was = refl

@@ -4,7 +4,6 @@ use Rattle.std.proofs.lemmas.Bool.{eq-eqb}
 use Rattle.std.proofs.lemmas.List.{length-append}
 use Rattle.std.proofs.lemmas.Option.{same_Some, none-some}
 use Rattle.std.specs.Prelude.{◌≤◌, ◌^◌, length, is_some, Option, Some, None, option_map, unwrap_or, IfSome, Result, Ok, Err, IfOk, OnOk, OnErr}
-use Rattle.fsfs_folders.specs.Paths.{same_text}
 use Rattle.fsfs_folders.specs.Listing.{is_entry}
 use Rattle.fsfs_folders.specs.CallRecord.{CallRecord, Named, Create, Remove, SyncFile, FailSync, Does, made_firm, made_lost, Contents, Standing, no_contents, more_bytes, add_call, names_now, contents_now, new_number, Makes, MayMake}
 use Rattle.fsfs_folders.proofs.NameLemmas.{given_at}
@@ -12,6 +11,7 @@ use Rattle.fsfs_folders.specs.Writing.{Writes, WritesSome}
 use Rattle.fsfs_folders.specs.BenchFiles.{file_held, file_or_new, Follows, Sets, SetsAny, Opens}
 use Rattle.fsfs_folders.proofs.HeldFiles.{held_at, held_none, created, gone, wrote, synced, lost}
 use Rattle.fsfs_folders.proofs.BenchTold.{sets_as, sets_then, sets_same, any_none}
+use Rattle.fsfs_base.specs.Files.{same_text}
 
 module _ (name : List ℕ) (entry : is_entry name ≡ true) where
   new_here : (r : CallRecord) → (names_now r).files name ≡ None → file_or_new r name ≡ no_contents

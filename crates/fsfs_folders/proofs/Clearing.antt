@@ -4,9 +4,9 @@ use Rattle.std.proofs.lemmas.Bool.{and_parts, leb-true}
 use Rattle.std.proofs.lemmas.Option.{same_Some, none-some}
 use Rattle.std.specs.Prelude.{◌≤◌, ◌^◌, ◌==◌, nat_le, length, if◌then◌else◌, ◌||◌, is_some, option_map, Option, Some, None, IfSome, Result, Ok, Err, IfOk, OnOk}
 use Rattle.std.specs.FinMap.{empty, get-empty}
-use Rattle.fsfs_base.specs.Files.{Files, NamedFile}
+use Rattle.fsfs_base.specs.Files.{Files, NamedFile, same_text}
 use Rattle.fsfs_base.proofs.FileLemmas.{same_files}
-use Rattle.fsfs_folders.specs.Paths.{same_text, has_path}
+use Rattle.fsfs_folders.specs.Paths.{has_path}
 use Rattle.fsfs_folders.specs.Listing.{is_entry, has_file, IsListOf}
 use Rattle.fsfs_folders.specs.CallRecord.{CallRecord, Contents, Begins, are_short, first_bytes, names_now}
 use Rattle.fsfs_folders.specs.SameText.{text_cases}

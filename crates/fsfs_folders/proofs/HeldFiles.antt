@@ -3,12 +3,10 @@ use Rattle.std.proofs.Common.{◌≡◌, ◌⊎◌, ℕ, List, [], ◌∷◌, �
 use Rattle.std.proofs.lemmas.Bool.{ne_eqb, eq-eqb}
 use Rattle.std.proofs.lemmas.Option.{same_Some, none-some}
 use Rattle.std.specs.Prelude.{◌||◌, length, Option, Some, None, option_map, unwrap_or}
-use Rattle.std.specs.Cmp.Lexicographic.{nat_list_cmp_total}
-use Rattle.std.specs.FinMap.{get, get-insert, get-remove, get-empty}
-use Rattle.fsfs_base.specs.Files.{Files}
+use Rattle.std.specs.FinMap.{get, get-empty}
 use Rattle.fsfs_base.proofs.FileLemmas.{same_files}
-use Rattle.fsfs_disk.specs.Benches.{with_file}
-use Rattle.fsfs_folders.specs.Paths.{same_text, has_path}
+use Rattle.fsfs_base.specs.Files.{same_text}
+use Rattle.fsfs_folders.specs.Paths.{has_path}
 use Rattle.fsfs_folders.specs.Listing.{is_entry}
 use Rattle.fsfs_folders.specs.Named.{named_paths}
 use Rattle.fsfs_folders.specs.CallRecord.{CallRecord, Call, Named, Create, Remove, SyncFile, FailSync, Append, Contents, Standing, no_contents, more_bytes, made_firm, made_lost, given, add_call, names_now, contents_now, new_number, Makes, Does}
@@ -19,11 +17,8 @@ use Rattle.fsfs_folders.proofs.LeftLemmas.{now_is_left, number_within}
 use Rattle.fsfs_folders.proofs.OneName.{one_name}
 use Rattle.fsfs_folders.specs.BenchFiles.{file_held, bytes_of, gathered, files_held, firm_part, firm_held, Sets}
 use Rattle.fsfs_folders.specs.Writing.{joined, with_pieces, Writes}
+use Rattle.fsfs_folders.specs.Laws.{get_with}
 use Rattle.fsfs_folders.proofs.WritingLemmas.{pieces_names, pieces_bytes, pieces_others}
-
-pub get_with : (m : Files) (p : List ℕ) (file : Option (List ℕ)) (q : List ℕ) → get (with_file p file m) q ≡ cond (same_text q p) file (get m q)
-get_with m p None q = get-remove nat_list_cmp_total m p q
-get_with m p (Some bytes) q = get-insert nat_list_cmp_total m p bytes q
 
 gathered_has : (names : List (List ℕ)) (file_of : List ℕ → Option (List ℕ)) (q : List ℕ) → has_path names q ≡ true → get (gathered names file_of) q ≡ file_of q
 gathered_has [] file_of q has = let h : false ≡ true = has in cc

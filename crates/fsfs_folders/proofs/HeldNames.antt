@@ -4,9 +4,8 @@ use Rattle.std.proofs.lemmas.Bool.{ne_eqb, cases_Bool, and_parts, or_cases, not-
 use Rattle.std.specs.Prelude.{◌^◌, ◌||◌, ◌&&◌, ◌==◌, not, nat_le, is_some, length, Option, Some, None, option_map, unwrap_or}
 use Rattle.std.specs.Cmp.Lexicographic.{nat_list_cmp_total}
 use Rattle.std.specs.FinMap.{get, insert, remove, get-insert, get-remove}
-use Rattle.fsfs_base.specs.Files.{Files, renamed}
+use Rattle.fsfs_base.specs.Files.{Files, renamed, same_text}
 use Rattle.fsfs_disk.specs.Trace.{Operation, Done, Put, Rename, Remove, files_after}
-use Rattle.fsfs_folders.specs.Paths.{same_text}
 use Rattle.fsfs_folders.specs.CallRecord as system
 use Rattle.fsfs_folders.specs.CallRecord.{Call, Named, MakeFolder, Create, Beginning, Standing, Contents, is_reachable, given, names_after, contents_after, no_contents, file_count}
 use Rattle.fsfs_folders.specs.Remains.{AreNamesLeft}

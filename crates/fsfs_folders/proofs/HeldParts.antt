@@ -5,7 +5,7 @@ use Rattle.std.specs.Prelude.{◌||◌, ◌&&◌, not, is_some, length, Option, 
 use Rattle.std.specs.Cmp.Lexicographic.{nat_list_cmp_total}
 use Rattle.std.specs.FinMap.{get, get-insert}
 use Rattle.fsfs_disk.specs.Trace.{Operation, Done, Adopt, files_after}
-use Rattle.fsfs_folders.specs.Paths.{same_text, has_path, is_below}
+use Rattle.fsfs_folders.specs.Paths.{has_path, is_below}
 use Rattle.fsfs_folders.specs.CallRecord.{Call, Named, DropFolder, Take, Beginning, Standing, Contents, is_reachable, given, names_after, contents_after, file_count}
 use Rattle.fsfs_folders.specs.Named.{named_paths}
 use Rattle.fsfs_folders.specs.Remains.{AreNamesLeft}
@@ -19,6 +19,7 @@ use Rattle.fsfs_folders.proofs.ApartLemmas.{bench_apart, in_bench_below, reachab
 use Rattle.fsfs_folders.proofs.ShownLemmas.{shown_alike, shown_given, put_back, backed, changed_again}
 use Rattle.fsfs_folders.proofs.Held.{Holds}
 use Rattle.fsfs_folders.proofs.HeldNames.{place_from, whole_from}
+use Rattle.fsfs_base.specs.Files.{same_text}
 
 -- of paths among which none is below a folder
 none_is_below : (names : Standing) (folder : List ℕ) (paths : List (List ℕ)) → are_none_below names folder paths ≡ true

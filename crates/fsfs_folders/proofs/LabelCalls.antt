@@ -4,7 +4,7 @@ use Rattle.std.proofs.lemmas.Bool.{and_from, or_cases, not_from_false}
 use Rattle.std.specs.Prelude.{◌||◌, ◌&&◌, not, is_some, Option, Some, None, option_map, IfSome, Result, Ok, Err, IfOk}
 use Rattle.fsfs_disk.specs.Labels.{Label, Txn, Pack, HotCopy, has_label}
 use Rattle.fsfs_disk.specs.Trace.{Trace, Operation, Done, NameChange, KeepLabel, DropLabel, Performs, labels_now}
-use Rattle.fsfs_folders.specs.Paths.{same_text, has_path, folder_of, is_below}
+use Rattle.fsfs_folders.specs.Paths.{has_path, folder_of, is_below}
 use Rattle.fsfs_folders.specs.Named.{named_paths}
 use Rattle.fsfs_folders.specs.CallRecord.{CallRecord, Named, MakeFolder, DropFolder, SyncFolder, Standing, IsEmptyAt, add_call, Makes, MayMake, Does, names_now}
 use Rattle.fsfs_folders.specs.Remains.{of_names, of_folders, are_synced}
@@ -16,6 +16,7 @@ use Rattle.fsfs_folders.proofs.LabelPathLemmas.{label_again, folder_in_bench, no
 use Rattle.fsfs_folders.proofs.KeptLabels.{kept_by_folder}
 use Rattle.fsfs_folders.proofs.QuietLemmas.{quiet_sync}
 use Rattle.fsfs_folders.proofs.SoundLemmas.{sound_parts, sound_of, sound_quiet, told_quiet, sound_bench_made, spared, noted_folder}
+use Rattle.fsfs_base.specs.Files.{same_text}
 
 abbrev told_with : CallRecord → (Label → NameChange) → Option Label → Option Trace
 told_with r change l = Some (record { first = files_of r.first.files; labels = labels_of r.first.folders; operations = on_label l change (operations_of r.first r.calls) })

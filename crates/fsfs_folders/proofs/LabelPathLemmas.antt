@@ -11,9 +11,9 @@ use Rattle.fsfs_base.proofs.Unique.{decimal_plain}
 use Rattle.fsfs_base.proofs.Base36Texts.{base36_numeral}
 use Rattle.fsfs_base.specs.RevNums.{last_rev}
 use Rattle.fsfs_base.specs.TxnNames.{txn_text, txn_name_at}
+use Rattle.fsfs_base.specs.Files.{same_text}
 use Rattle.fsfs_base.proofs.TxnNameTexts.{txn_name_spells}
 use Rattle.fsfs_disk.specs.Labels.{Label, Txn, Pack, HotCopy}
-use Rattle.fsfs_folders.specs.Paths.{same_text}
 use Rattle.fsfs_folders.proofs.PathLemmas.{same_itself}
 use Rattle.fsfs_folders.specs.SameText.{text_cases}
 use Rattle.fsfs_folders.specs.LabelPaths.{bench_folder, between, txns_of, packs_of, first_of, label_at, IsFitting}

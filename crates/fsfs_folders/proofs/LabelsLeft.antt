@@ -2,7 +2,7 @@
 use Rattle.std.proofs.Common.{◌≡◌, ◌⊎◌, ℕ, List, [], ◌∷◌, Bool, true, false, ⊎_elim, refl, sym, ap, subst, ◌∙◌}
 use Rattle.std.proofs.lemmas.Bool.{and_from, and_parts, or_cases, not_from_false}
 use Rattle.std.specs.Prelude.{◌||◌, ◌&&◌, not, option_map, Option, Some, None, IfSome}
-use Rattle.fsfs_folders.specs.Paths.{same_text, has_path, folder_of}
+use Rattle.fsfs_folders.specs.Paths.{has_path, folder_of}
 use Rattle.fsfs_folders.specs.CallRecord.{NameCall, MakeFolder, DropFolder, Create, Take, Rename, Remove, Call, Named, Append, SyncFile, FailSync, SyncFolder, Firmed, Beginning, CallRecord, Standing, renamed_by, names_after, file_count, add_call, Makes, Does}
 use Rattle.fsfs_folders.specs.Remains.{AreNamesLeft, are_firm, are_synced, folders_of}
 use Rattle.fsfs_folders.proofs.PathLemmas.{or_right, has_head}
@@ -13,6 +13,7 @@ use Rattle.fsfs_folders.specs.Told.{is_in_bench}
 use Rattle.fsfs_folders.specs.LabelsLeft.{of_drops, are_drops_firm, LeavesLabels, KeepsDropsFirm}
 use Rattle.fsfs_folders.proofs.LabelPathLemmas.{label_again, folder_in_bench}
 use Rattle.fsfs_folders.proofs.KeptLabels.{kept_by_folder}
+use Rattle.fsfs_base.specs.Files.{same_text}
 
 module _ (p : List ℕ) (bench : is_in_bench p ≡ true) where
   -- a folder that is there stays, where a drop isn't firm

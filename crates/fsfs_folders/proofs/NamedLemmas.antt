@@ -5,16 +5,16 @@ use Rattle.std.specs.Prelude.{Some, length}
 use Rattle.fsfs_base.specs.Files.{NamedFile}
 use Rattle.fsfs_folders.specs.Paths.{has_path}
 use Rattle.fsfs_folders.specs.CallRecord.{MakeFolder, DropFolder, Create, Take, Rename, Remove, Call, Named, Append, SyncFile, FailSync, SyncFolder, Firmed, Beginning, first_number, names_after, file_count}
-use Rattle.fsfs_folders.specs.Named.{paths_of, named_paths}
+use Rattle.fsfs_folders.specs.Named.{file_paths, named_paths}
 use Rattle.fsfs_folders.proofs.PathLemmas.{has_head, has_tail}
 use Rattle.fsfs_folders.specs.SameText.{text_cases}
 use Rattle.fsfs_folders.proofs.NameLemmas.{comes_from}
 
-first_named : (files : List NamedFile) (q : List ℕ) (k : ℕ) → first_number files q ≡ Some k → has_path (paths_of files) q ≡ true
+pub first_named : (files : List NamedFile) (q : List ℕ) (k : ℕ) → first_number files q ≡ Some k → has_path (file_paths files) q ≡ true
 first_named [] q k e = absurd (none-some k e)
 first_named (file ∷ files) q k e =
-    ⊎_elim (λ s. ap (λ p. has_path (file.0 ∷ paths_of files) p) s.0 ∙ has_head file.0 (paths_of files))
-    (λ o. has_tail file.0 q (paths_of files) (first_named files q k (sym (ap (λ b. cond b (Some (length files)) (first_number files q)) o.1) ∙ e))) (text_cases q file.0)
+    ⊎_elim (λ s. ap (λ p. has_path (file.0 ∷ file_paths files) p) s.0 ∙ has_head file.0 (file_paths files))
+    (λ o. has_tail file.0 q (file_paths files) (first_named files q k (sym (ap (λ b. cond b (Some (length files)) (first_number files q)) o.1) ∙ e))) (text_cases q file.0)
 
 at_head : (path q : List ℕ) (paths : List (List ℕ)) → q ≡ path → has_path (path ∷ paths) q ≡ true
 at_head path q paths same = ap (λ p. has_path (path ∷ paths) p) same ∙ has_head path paths

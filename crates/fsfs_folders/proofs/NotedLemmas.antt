@@ -2,9 +2,10 @@
 use Rattle.std.proofs.Common.{◌≡◌, ◌⊎◌, ℕ, zero, suc, List, [], ◌∷◌, ◌++◌, Bool, true, false, inl, inr, ⊎_elim, refl, sym, ap, length, get_or, ◌∙◌, arith}
 use Rattle.std.proofs.lemmas.Bool.{or_cases}
 use Rattle.std.specs.Prelude.{◌||◌, ◌<◌}
-use Rattle.fsfs_folders.specs.Paths.{same_text, has_path}
+use Rattle.fsfs_folders.specs.Paths.{has_path}
 use Rattle.fsfs_folders.specs.Remains.{AreWithin}
 use Rattle.fsfs_folders.proofs.PathLemmas.{has_head, has_tail, or_right}
+use Rattle.fsfs_base.specs.Files.{same_text}
 
 pub has_last : (paths : List (List ℕ)) (path : List ℕ) → has_path (paths ++ path ∷ []) path ≡ true
 has_last [] path = has_head path []

@@ -2,8 +2,7 @@
 use Rattle.std.proofs.Common.{◌≡◌, ◌⊎◌, ℕ, List, [], ◌∷◌, Bool, true, false, cond, inl, inr, ⊎_elim, refl, sym, ap, ◌∙◌, arith}
 use Rattle.std.proofs.lemmas.Option.{same_Some, none-some}
 use Rattle.std.specs.Prelude.{◌<◌, length, Option, Some, None}
-use Rattle.fsfs_base.specs.Files.{NamedFile}
-use Rattle.fsfs_folders.specs.Paths.{same_text}
+use Rattle.fsfs_base.specs.Files.{NamedFile, same_text}
 use Rattle.fsfs_folders.specs.CallRecord.{MakeFolder, DropFolder, Create, Take, Rename, Remove, Call, Named, Append, SyncFile, FailSync, SyncFolder, Firmed, Beginning, Standing, given, first_number, names_after, file_count}
 use Rattle.fsfs_folders.specs.SameText.{text_cases}
 use Rattle.fsfs_folders.proofs.NameLemmas.{given_at, given_from, first_within}

@@ -4,19 +4,20 @@ use Rattle.std.proofs.lemmas.Option.{same_Some, none-some}
 use Rattle.std.specs.Prelude.{◌||◌, length, is_some, Option, Some, None, option_map, unwrap_or, IfSome, Result, Ok, Err, OnOk, OnErr, IfOk}
 use Rattle.std.specs.Cmp.Lexicographic.{nat_list_cmp_total}
 use Rattle.std.specs.FinMap.{get, insert, empty, get-empty}
-use Rattle.fsfs_base.specs.Files.{Files}
-use Rattle.fsfs_base.proofs.FileLemmas.{same_files}
+use Rattle.fsfs_base.specs.Files.{Files, same_text}
+use Rattle.fsfs_base.proofs.FileLemmas.{same_files, same_is}
 use Rattle.fsfs_disk.specs.Benches.{with_file, appended, written, removed, bytes_in, bytes_on, Spoils, IsFirmFile}
 use Rattle.fsfs_disk.specs.Trace.{Trace, Adopt, Performs, FailsToAdopt}
 use Rattle.fsfs_disk.proofs.BenchLemmas.{get-appended}
-use Rattle.fsfs_folders.specs.Paths.{same_text, has_path}
+use Rattle.fsfs_folders.specs.Paths.{has_path}
 use Rattle.fsfs_folders.specs.CallRecord.{CallRecord}
 use Rattle.fsfs_folders.proofs.PathLemmas.{same_itself}
-use Rattle.fsfs_folders.specs.SameText.{text_cases, same_is}
+use Rattle.fsfs_folders.specs.SameText.{text_cases}
 use Rattle.fsfs_folders.specs.BenchFiles.{file_held, bytes_of, bench_told, firm_held}
 use Rattle.fsfs_folders.specs.Prototypes.{proto_name, is_elsewhere, elsewhere, with_proto, firm_with_proto, whole_told, whole_firm}
 use Rattle.fsfs_folders.specs.Standing.{told}
-use Rattle.fsfs_folders.proofs.HeldFiles.{get_with, files_told}
+use Rattle.fsfs_folders.specs.Laws.{get_with}
+use Rattle.fsfs_folders.proofs.HeldFiles.{files_told}
 
 -- a file that was given something twice has the second
 with_again : (m : Files) (k : List ℕ) (x y : Option (List ℕ)) → with_file k x (with_file k y m) ≡ with_file k x m

@@ -4,9 +4,8 @@ use Rattle.std.proofs.lemmas.Bool.{cases_Bool, ne_eqb, eq-eqb}
 use Rattle.std.specs.Prelude.{◌<◌, length, Option, Some, None, option_map}
 use Rattle.std.specs.Cmp.Lexicographic.{nat_list_cmp_total}
 use Rattle.std.specs.FinMap.{get, insert, remove, empty, get-insert, get-remove, get-empty}
-use Rattle.fsfs_base.specs.Files.{Files, NamedFile}
+use Rattle.fsfs_base.specs.Files.{Files, NamedFile, same_text}
 use Rattle.fsfs_base.proofs.FileLemmas.{same_files}
-use Rattle.fsfs_folders.specs.Paths.{same_text}
 use Rattle.fsfs_folders.specs.CallRecord.{Standing, given, first_number, first_bytes}
 use Rattle.fsfs_folders.specs.SameText.{text_cases}
 use Rattle.fsfs_folders.proofs.NameLemmas.{given_apart, first_within}

@@ -2,10 +2,11 @@
 use Rattle.std.proofs.Common.{◌≡◌, ◌⊎◌, ℕ, zero, suc, List, [], ◌∷◌, Bool, true, false, ⊎_elim, refl, sym, ap, get_or, ◌∙◌, arith}
 use Rattle.std.proofs.lemmas.Bool.{and_parts, not-true, eq-eqb, le-leb}
 use Rattle.std.specs.Prelude.{◌<◌, ◌≤◌, ◌==◌, ◌||◌, ◌&&◌, not, nat_le, length}
-use Rattle.fsfs_folders.specs.Paths.{has_slash, same_text}
+use Rattle.fsfs_folders.specs.Paths.{has_slash}
 use Rattle.fsfs_folders.specs.Listing.{is_entry}
 use Rattle.fsfs_folders.proofs.PathLemmas.{or_right, lacks_slash}
 use Rattle.fsfs_folders.specs.Told.{is_in_bench, is_inner_folder}
+use Rattle.fsfs_base.specs.Files.{same_text}
 
 slash_at : (text : List ℕ) (k : ℕ) → k < length text → get_or text k 0 ≡ 47 → has_slash text ≡ true
 slash_at [] k lt e = absurd (omega (arith, lt))

@@ -19,15 +19,17 @@ use Rattle.fsfs_base.proofs.Spelling.{plain_lacks}
 use Rattle.fsfs_base.specs.RevNums.{IsRev, last_rev}
 use Rattle.fsfs_base.proofs.RevNumTexts.{rev_text_lacks}
 use Rattle.fsfs_base.specs.TxnNames.{IsTxnName, txn_text, txn_name_at}
+use Rattle.fsfs_base.specs.Files.{same_text}
 use Rattle.fsfs_base.proofs.TxnNameTexts.{txn_name_spells}
+use Rattle.fsfs_base.proofs.FileLemmas.{same_is}
 use Rattle.fsfs_disk.specs.Labels.{Label, Txn, Pack, HotCopy, same_label, has_label, with_label, without_label, txn_entries, IsListing}
 use Rattle.fsfs_disk.specs.Trace.{labels_after, labels_now}
 use Rattle.fsfs_disk.proofs.LabelLemmas.{same_label-itself, same_label-same, has-without_label, has-without}
-use Rattle.fsfs_folders.specs.Paths.{same_text, has_path, has_slash, within}
+use Rattle.fsfs_folders.specs.Paths.{has_path, has_slash, within}
 use Rattle.fsfs_folders.specs.Listing.{is_entry, are_apart, IsListOf}
 use Rattle.fsfs_folders.specs.CallRecord.{CallRecord, IsEmptyAt, names_now}
 use Rattle.fsfs_folders.proofs.PathLemmas.{has_head, has_tail, or_right}
-use Rattle.fsfs_folders.specs.SameText.{text_cases, same_is}
+use Rattle.fsfs_folders.specs.SameText.{text_cases}
 use Rattle.fsfs_folders.specs.LabelPaths.{bench_folder, between, txns_of, packs_of, first_of, label_at, IsFitting}
 use Rattle.fsfs_folders.specs.TxnEntries.{is_txn_entry, txns_among}
 use Rattle.fsfs_folders.specs.Told.{labels_of, operations_of, trace_of}

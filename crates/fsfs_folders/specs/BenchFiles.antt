@@ -1,9 +1,9 @@
 -- What a bench tells that stands on calls on its folder: the files that stand right in it.
 use Rattle.std.specs.Prelude.{◌≡◌, ◌⊎◌, ◌≤◌, ◌+◌, ◌^◌, ℕ, List, [], ◌∷◌, length, false, cond, if◌then◌else◌, Option, Some, None, option_map, unwrap_or}
 use Rattle.std.specs.FinMap.{empty}
-use Rattle.fsfs_base.specs.Files.{Files}
+use Rattle.fsfs_base.specs.Files.{Files, same_text}
 use Rattle.fsfs_disk.specs.Benches.{with_file}
-use Rattle.fsfs_folders.specs.Paths.{same_text, has_path}
+use Rattle.fsfs_folders.specs.Paths.{has_path}
 use Rattle.fsfs_folders.specs.Listing.{is_entry}
 use Rattle.fsfs_folders.specs.Named.{named_paths}
 use Rattle.fsfs_folders.specs.CallRecord.{CallRecord, Contents, no_contents, names_now, contents_now}

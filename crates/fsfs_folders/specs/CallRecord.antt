@@ -1,7 +1,7 @@
 -- The record of bare calls of the system, made on what stands below one folder: what a call asks for, and what stands after all.
 use Rattle.std.specs.Prelude.{◌≡◌, ◌⊎◌, ◌^◌, nat_le, ℕ, suc, List, [], ◌∷◌, ◌++◌, length, Bool, true, false, not, cond, ◌==◌, ◌||◌, ◌&&◌, if◌then◌else◌, Option, Some, None, option_map, is_some, IsSome}
-use Rattle.fsfs_base.specs.Files.{NamedFile}
-use Rattle.fsfs_folders.specs.Paths.{same_text, has_path, is_below}
+use Rattle.fsfs_base.specs.Files.{NamedFile, same_text}
+use Rattle.fsfs_folders.specs.Paths.{has_path, is_below}
 
 -- the bytes of a file, how many of them are firm, and whether a sync of it failed
 pub record Contents : Type 0 where

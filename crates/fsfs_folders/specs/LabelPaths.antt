@@ -4,8 +4,8 @@ use Rattle.std.specs.Fmt.{decimal}
 use Rattle.fsfs_base.specs.Numeral.{numeral_at}
 use Rattle.fsfs_base.specs.RevNums.{last_rev}
 use Rattle.fsfs_base.specs.TxnNames.{txn_text, txn_name_at}
+use Rattle.fsfs_base.specs.Files.{same_text}
 use Rattle.fsfs_disk.specs.Labels.{Label, Txn, Pack, HotCopy}
-use Rattle.fsfs_folders.specs.Paths.{same_text}
 
 -- where the bench of a label stands
 abbrev pub bench_folder : Label → List ℕ

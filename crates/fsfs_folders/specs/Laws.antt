@@ -5,14 +5,14 @@ use Rattle.std.proofs.lemmas.Option.{none-some}
 use Rattle.std.specs.Prelude.{◌≤◌, ◌^◌, ◌==◌, ◌&&◌, ◌||◌, not, nat_le, length, is_some, Option, Some, None, option_map, unwrap_or, IfSome}
 use Rattle.std.specs.Cmp.Lexicographic.{nat_list_cmp_total}
 use Rattle.std.specs.FinMap.{get, insert, get-insert, get-remove, get-empty}
-use Rattle.fsfs_base.specs.Files.{Files, NamedFile}
+use Rattle.fsfs_base.specs.Files.{Files, NamedFile, same_text}
 use Rattle.fsfs_disk.specs.Labels.{Label}
 use Rattle.fsfs_disk.specs.Benches.{HasShortFiles, with_file}
 use Rattle.fsfs_disk.specs.Short.{IsShortChange}
 use Rattle.fsfs_disk.specs.Crash.{AllImages}
 use Rattle.fsfs_disk.specs.Trace.{NameChange, Operation, Done, Put, Adopt, Rename, Remove, FirmNames, KeepLabel, DropLabel, IsImage, files_after}
 use Rattle.fsfs_disk.proofs.ShortLemmas.{short_empty, short_insert, short_changed, short_image}
-use Rattle.fsfs_folders.specs.Paths.{same_text, has_path}
+use Rattle.fsfs_folders.specs.Paths.{has_path}
 use Rattle.fsfs_folders.specs.Named.{named_paths}
 use Rattle.fsfs_folders.specs.CallRecord as system
 use Rattle.fsfs_folders.specs.CallRecord.{Call, Named, MakeFolder, DropFolder, Create, Take, Append, SyncFile, FailSync, SyncFolder, Firmed, Beginning, CallRecord, Contents, Standing, is_reachable, names_after, contents_after}
@@ -98,15 +98,15 @@ pub images_are_short : (calls : Option CallRecord) (changed : List (List ℕ)) (
 images_are_short None changed settled sound = tt
 images_are_short (Some r) changed settled sound = (all_short r.first r.calls (and_parts (keeps r.first r.calls) (are_names_firm changed r.calls && (not settled || are_folders_firm r.calls)) sound).0).images
 
-with_one : (m : Files) (p : List ℕ) (file : Option (List ℕ)) (q : List ℕ) → get (with_file p file m) q ≡ cond (same_text q p) file (get m q)
-with_one m p None q = get-remove nat_list_cmp_total m p q
-with_one m p (Some bytes) q = get-insert nat_list_cmp_total m p bytes q
+pub get_with : (m : Files) (p : List ℕ) (file : Option (List ℕ)) (q : List ℕ) → get (with_file p file m) q ≡ cond (same_text q p) file (get m q)
+get_with m p None q = get-remove nat_list_cmp_total m p q
+get_with m p (Some bytes) q = get-insert nat_list_cmp_total m p bytes q
 
 -- what is gathered is a file's
 gathered_only : (names : List (List ℕ)) (file_of : List ℕ → Option (List ℕ)) (q bytes : List ℕ) → get (gathered names file_of) q ≡ Some bytes → file_of q ≡ Some bytes
 gathered_only [] file_of q bytes e = absurd (none-some bytes (sym (get-empty _ q) ∙ e))
 gathered_only (p ∷ ps) file_of q bytes e =
-    let now : cond (same_text q p) (file_of p) (get (gathered ps file_of) q) ≡ Some bytes = sym (with_one (gathered ps file_of) p (file_of p) q) ∙ e in
+    let now : cond (same_text q p) (file_of p) (get (gathered ps file_of) q) ≡ Some bytes = sym (get_with (gathered ps file_of) p (file_of p) q) ∙ e in
     ⊎_elim (λ s. ap file_of s.0 ∙ sym (ap (λ b. cond b (file_of p) (get (gathered ps file_of) q)) s.1) ∙ now)
     (λ o. gathered_only ps file_of q bytes (sym (ap (λ b. cond b (file_of p) (get (gathered ps file_of) q)) o.1) ∙ now)) (text_cases q p)
 

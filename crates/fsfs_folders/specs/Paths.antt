@@ -1,10 +1,6 @@
 -- Paths below one folder: `/` between names. The empty path is the folder itself, `..` the one that it stands in.
 use Rattle.std.specs.Prelude.{ℕ, List, [], ◌∷◌, ◌++◌, Bool, false, ◌==◌, ◌||◌, ◌&&◌, if◌then◌else◌, codes}
-use Rattle.std.specs.Ordering.{nat_cmp, is_eq}
-use Rattle.std.specs.Cmp.Lexicographic.{slice_cmp}
-
-abbrev pub same_text : List ℕ → List ℕ → Bool
-same_text a b = is_eq (slice_cmp nat_cmp a b)
+use Rattle.fsfs_base.specs.Files.{same_text}
 
 abbrev pub has_path : List (List ℕ) → List ℕ → Bool
 has_path [] p = false

@@ -2,10 +2,9 @@
 use Rattle.std.proofs.Common.{◌≡◌, ℕ, List, Bool, true, false, cond, refl, sym, subst, ◌∙◌}
 use Rattle.std.specs.Prelude.{codes, is_some, Option, Some, None, option_map, IfSome}
 use Rattle.std.specs.FinMap.{get}
-use Rattle.fsfs_base.specs.Files.{Files}
+use Rattle.fsfs_base.specs.Files.{Files, same_text}
 use Rattle.fsfs_disk.specs.Benches.{with_file, HasShortFiles}
 use Rattle.fsfs_disk.proofs.ShortLemmas.{short_insert, short_remove}
-use Rattle.fsfs_folders.specs.Paths.{same_text}
 use Rattle.fsfs_folders.specs.CallRecord.{CallRecord}
 use Rattle.fsfs_folders.specs.BenchFiles.{bench_told, firm_held}
 

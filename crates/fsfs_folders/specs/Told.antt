@@ -3,10 +3,9 @@
 use Rattle.std.specs.Prelude.{◌≡◌, ℕ, List, [], ◌∷◌, Bool, true, false, not, nat_eq, ◌||◌, ◌&&◌, if◌then◌else◌, Option, Some, None, option_map, unwrap_or, codes}
 use Rattle.std.specs.List.{starts_with, ends_with}
 use Rattle.std.specs.FinMap.{get, insert, empty}
-use Rattle.fsfs_base.specs.Files.{Files, NamedFile}
+use Rattle.fsfs_base.specs.Files.{Files, NamedFile, same_text}
 use Rattle.fsfs_disk.specs.Labels.{Label, with_label}
 use Rattle.fsfs_disk.specs.Trace.{NameChange, Operation, Done, Trace, Put, Adopt, Rename, Remove, FirmNames, KeepLabel, DropLabel, IsImage}
-use Rattle.fsfs_folders.specs.Paths.{same_text}
 use Rattle.fsfs_folders.specs.CallRecord as system
 use Rattle.fsfs_folders.specs.Remains.{IsLeft}
 use Rattle.fsfs_folders.specs.CallRecord.{Beginning, CallRecord, Call, Named, Firmed, Standing, is_reachable, names_after, contents_after}

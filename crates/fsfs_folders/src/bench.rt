@@ -6,11 +6,10 @@ ghost use Rattle.fsfs_disk.specs.Trace.{Adopt, Performs, FailsToAdopt, IsRead, I
 ghost use Rattle.fsfs_folders.specs.Prototypes.{is_elsewhere as elsewhere, whole_told, whole_firm};
 ghost use Rattle.fsfs_folders.specs.Standing.{told};
 
-use crate::faults::counted;
 use crate::folders::Folders;
 use crate::part::BenchPart;
 use crate::{CallError, Calls};
-use fsfs_base::{Failed, Name};
+use fsfs_base::{Failed, Name, counted};
 use fsfs_disk::Bench;
 
 /// The name that a transaction's prototype revision file has in its bench.

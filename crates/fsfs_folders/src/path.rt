@@ -1,6 +1,6 @@
 // A path below one folder, kept by value.
 ghost use Rattle.std.specs.Prelude.{◌≡◌, ◌≤◌, ◌+◌, ◌++◌, ◌↔◌, ℕ, List, length, IsTrue, codes, true, false, MatchOption};
-ghost use Rattle.fsfs_folders.specs.Paths.{before_slash, folder_of, same_text};
+ghost use Rattle.fsfs_folders.specs.Paths.{before_slash, folder_of};
 
 use arrayvec::ArrayString;
 use fsfs_base::Name;

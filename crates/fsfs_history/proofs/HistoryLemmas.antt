@@ -1,11 +1,11 @@
 -- Steps of the walks of a history.
-use Rattle.std.proofs.Common.{◌≡◌, ◌≤◌, ◌<◌, ℕ, zero, suc, true, ◌+◌, ◌*◌, ◌^◌, ap, inl, inr, [], ◌∷◌, length, refl, sym, subst, arith, ◌∙◌}
+use Rattle.std.proofs.Common.{◌≡◌, ◌≤◌, ◌<◌, ℕ, zero, suc, true, ◌+◌, ◌*◌, ◌^◌, ap, inl, inr, [], ◌∷◌, refl, sym, subst, arith, ◌∙◌}
 use Rattle.std.proofs.lemmas.Bool.{and_parts}
 use Rattle.std.proofs.lemmas.Bool.Decides.{nat_tests}
 use Rattle.fsfs_revision.proofs.Roots.{one_more}
 use Rattle.std.specs.Prelude.{◌⊎◌}
 use Rattle.std.specs.Prelude.{Option, Some, None, Result, Ok, Err, IfOk, IfSome, option_map}
-use Rattle.fsfs_base.specs.Paths.{PathName, Path, covers, same_name}
+use Rattle.fsfs_base.specs.Paths.{PathName, Path}
 use Rattle.fsfs_base.specs.declared.kind.Kind.TheVariants.{Dir}
 use Rattle.fsfs_revision.specs.Told.{RevisionBytes}
 use Rattle.fsfs_noderev.specs.declared.node_rev.NodeRev.{NodeRev}
@@ -31,11 +31,6 @@ use Rattle.fsfs_history.specs.Points.{LeadsLower, lead_value, point_value, root_
 use Rattle.fsfs_dag.specs.TreeWalks.{rank}
 use Rattle.fsfs_revision.specs.Chains.{copy_root_of}
 use Rattle.fsfs_revision.specs.CopyRoots.{later_root, IsRootedFrom, IsRootedAt}
-
-pub covers_longer : (q p : Path) → covers q p ≡ true → length q ≤ length p
-covers_longer [] p c = omega arith
-covers_longer (x ∷ q) [] c = absurd cc
-covers_longer (x ∷ q) (y ∷ p) c = let more = covers_longer q p (and_parts (same_name x y) (covers q p) c).1 in omega (arith, more)
 
 -- from the root on
 pub rooted_from_root : (look : RevisionBytes) (rev : ℕ) (path : Path) (a : NodeRev) (root : ℕ × Path) → RootOf look rev (Ok a) → root ≡ copy_root_of a → (v : NodeRev) (last : ℕ × Path) → IsRootedFrom look a root path v last → IsRootedAt look rev path v last

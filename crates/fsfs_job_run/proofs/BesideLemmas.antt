@@ -77,8 +77,8 @@ begins_on h m v a b = (b.0 ++ a.0, a.1 ∙ ap (λ (l : List Recorded). l ++ a.0)
 pub onward : (h : List Recorded) (m u : View) → Begins u.seen m.seen → last_known m ≤ last_known u → IsOnward u h → IsOnward m h
 onward h m u begins later on = record { begins = begins_on h u.seen m.seen on.begins begins; has = omega (arith, later, on.has) }
 
-same : (h : List Revision) → GoesOnFrom h h
-same h = ([], sym (append-nil h))
+pub goes_on_itself : (h : List Revision) → GoesOnFrom h h
+goes_on_itself h = ([], sym (append-nil h))
 
 not_so : (a b : Bool) → (a ≡ true → b ≡ true) → b ≡ false → a ≡ false
 not_so true b so none = let e : b ≡ true = so refl in absurd cc
@@ -100,7 +100,7 @@ worked moment _ _ _ _ (More job answer js answers v m u first rest) =
       each = ap suc w.each;
       lines = λ h on. (
         first.line h (onward h m u w.begins w.later on),
-        all_stay moment (revisions h) (revisions h) (last_known m) (max (last_known v) (shown_in answer)) js answers (same (revisions h)) (omega (arith, first.later, first.shown)) (w.lines h on),
+        all_stay moment (revisions h) (revisions h) (last_known m) (max (last_known v) (shown_in answer)) js answers (goes_on_itself (revisions h)) (omega (arith, first.later, first.shown)) (w.lines h on),
       );
       begins = begins_on u.seen m.seen v.seen w.begins first.grows;
       later = omega (arith, first.later, w.later);

@@ -18,7 +18,7 @@ use Rattle.fsfs_machine.specs.Machine.{World, revisions}
 use Rattle.fsfs_turn.specs.Alone.{BringsNoDoubt, brings_doubt}
 use Rattle.fsfs_turn.specs.Learning.{with_spent}
 use Rattle.fsfs_turn.specs.Views.{View, Begins}
-use Rattle.fsfs_turn.proofs.Alone.{same_by_length}
+use Rattle.fsfs_turn.proofs.Alone.{same_by_length, no_shorter}
 use Rattle.fsfs_repo.specs.BeginPurged.{HasPurged, HasNotPurged, Purges}
 use Rattle.fsfs_repo.specs.PurgeFault.{PurgeFault}
 use Rattle.fsfs_repo.specs.PurgeFault.TheVariants.{DiskFault}
@@ -35,7 +35,7 @@ use Rattle.fsfs_repo.specs.Commits.{IsDropped}
 use Rattle.fsfs_job_run.specs.Running.{Stays, HasOutsideCause}
 use Rattle.fsfs_job_run.specs.Ending.{CommitsTxn, EndsSo}
 use Rattle.fsfs_job_run.proofs.PropertyLemmas.{job_dated}
-use Rattle.fsfs_job_run.proofs.Staying.{IsCounted, IsBare, seen_same, longer, between, bare_leaves, stays_on, then_stays, purge_stays, no_purge_stays, moved_stays, commit_leaves}
+use Rattle.fsfs_job_run.proofs.Staying.{IsCounted, IsBare, seen_same, between, bare_leaves, stays_on, then_stays, purge_stays, no_purge_stays, moved_stays, commit_leaves}
 use Rattle.fsfs_job_run.proofs.Ended.{commits_added}
 
 -- what a pass knows that is alone: of what it has seen none came but its own, it was told no more than it has seen, and its number is 0
@@ -102,7 +102,7 @@ module _ (knows : View → Type 0) (lone : IsLone knows) where
       long = ap (λ (h : List Recorded). length h) c.is ∙ length-append c.before (c.next ∷ [])
 
       same : c.before ≡ v.seen
-      same = same_by_length v.seen c.before c.begins (let more = longer m.seen after.0.seen after.1 in omega (arith, more, after.2, mine, long, opened, all))
+      same = same_by_length v.seen c.before c.begins (let more = no_shorter m.seen after.0.seen after.1 in omega (arith, more, after.2, mine, long, opened, all))
 
       left : StaysKnown knows m
       left = dropped_stays gone name m (let h : length c.before ≡ length v.seen = ap (λ (g : List Recorded). length g) same in omega (arith, long, h, all, opened, mine)) c.outside dropped

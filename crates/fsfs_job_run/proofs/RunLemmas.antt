@@ -71,7 +71,7 @@ did_script moment js answers v u runs =
 
 -- ---- what is told of a run
 
-a_part : (h g : List Recorded) (d : Option Coming) → IsPart h d g → IsPartOf (revisions h) (revisions g)
+pub a_part : (h g : List Recorded) (d : Option Coming) → IsPart h d g → IsPartOf (revisions h) (revisions g)
 a_part h g d (inl (more, is)) = inl (revisions more, ap revisions is ∙ map-append (λ (x : Recorded). x.revision) g more)
 a_part h g d (inr (x, is, with)) = inr (x.revision, ap revisions with ∙ map-append (λ (r : Recorded). r.revision) h (recorded x ∷ []))
 
@@ -126,7 +126,7 @@ ran_in layout young stuck told new moment js answers youngest v same opened few 
 
 -- ---- a run, told of a count that rose as well
 
-opens_weaker : {D E : Type 0} (told : Option Trace) (why : OpenFault) → (D → E) → OpensBecause D told why → OpensBecause E told why
+pub opens_weaker : {D E : Type 0} (told : Option Trace) (why : OpenFault) → (D → E) → OpensBecause D told why → OpensBecause E told why
 opens_weaker told NotRepo f because = because
 opens_weaker told (OtherFormat number) f because = because
 opens_weaker told Linear f because = because

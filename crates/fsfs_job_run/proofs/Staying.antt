@@ -1,5 +1,5 @@
 -- What the pass knows behind calls that add nothing.
-use Rattle.std.proofs.Common.{◌≡◌, ◌≤◌, ◌+◌, ℕ, List, [], ◌∷◌, ◌++◌, length, false, refl, sym, ap, subst, ◌∙◌, append_assoc, append-nil, length-append, arith}
+use Rattle.std.proofs.Common.{◌≡◌, ◌+◌, ℕ, List, [], ◌∷◌, ◌++◌, length, false, refl, sym, ap, subst, ◌∙◌, append_assoc, append-nil, arith}
 use Rattle.std.specs.Prelude.{None}
 use Rattle.fsfs_base.specs.declared.place.DiskPlace.{DiskPlace}
 use Rattle.fsfs_machine.specs.declared.machine.Recorded.{Recorded}
@@ -9,7 +9,7 @@ use Rattle.fsfs_machine.specs.Machine.{World, revisions}
 use Rattle.fsfs_machine.proofs.Growing.{revisions_length}
 use Rattle.fsfs_tree.specs.Dated.{last_of}
 use Rattle.fsfs_turn.specs.Views.{View, Begins, Looked}
-use Rattle.fsfs_turn.proofs.Alone.{same_by_length}
+use Rattle.fsfs_turn.proofs.Alone.{same_by_length, no_shorter}
 use Rattle.fsfs_repo.specs.BeginPurged.{HasPurged, HasNotPurged}
 use Rattle.fsfs_turn.specs.Alone.{BringsNoDoubt}
 use Rattle.fsfs_repo.specs.Replies.{Committed, Moved as CommitMoved}
@@ -27,12 +27,9 @@ IsCounted v = length v.seen ≡ v.opened + length v.pass.mine
 pub seen_same : (v u : View) → IsCounted v → Begins u.seen v.seen → IsCounted u → u.opened ≡ v.opened → u.pass.mine ≡ v.pass.mine → u.seen ≡ v.seen
 seen_same v u before b after opened mine = same_by_length v.seen u.seen b (let m : length u.pass.mine ≡ length v.pass.mine = ap (λ (l : List ℕ). length l) mine in omega (arith, before, after, opened, m))
 
-pub longer : (h g : List Recorded) → Begins g h → length h ≤ length g
-longer h g b = let long : length g ≡ length h + length b.0 = ap length b.1 ∙ length-append h b.0 in omega (arith, long)
-
 -- what came between two histories of one length has that length
 pub between : (h m g : List Recorded) → Begins m h → Begins g m → length g ≡ length h → length m ≡ length h
-between h m g a b same = let x = longer h m a in let y = longer m g b in omega (arith, x, y, same)
+between h m g a b same = let x = no_shorter h m a in let y = no_shorter m g b in omega (arith, x, y, same)
 
 -- ---- one after another
 

@@ -2,7 +2,7 @@
 use Rattle.std.specs.Prelude.{◌≡◌, ◌+◌, ◌-◌, ◌^◌, ◌<◌, ◌≤◌, if◌then◌else◌, ℕ, zero, suc, List, [], ◌∷◌, length, max, min, Bool, true, false}
 use Rattle.fsfs_tree.specs.Revisions.{Revision}
 use Rattle.fsfs_tree.specs.Dated.{last_of}
-use Rattle.fsfs_machine.specs.Kept.{IsIn}
+use Rattle.fsfs_machine.specs.Kept.{IsIn, AreOnce}
 pub use Rattle.fsfs_turn.specs.Mountings.{RoseBy}
 use Rattle.fsfs_script.specs.declared.job.Job.{Job}
 use Rattle.fsfs_cli.specs.declared.faults_fault.Fault.TheVariants.{Outside}
@@ -28,11 +28,6 @@ abbrev pub dealt : {X : Type 0} → ℕ → ℕ → List X → List X
 dealt n w [] = []
 dealt n zero (x ∷ xs) = x ∷ dealt n (n - 1) xs
 dealt n (suc w) (x ∷ xs) = dealt n w xs
-
--- none of these stands there twice
-abbrev pub AreOnce : List ℕ → Type 0
-AreOnce [] = Unit {0}
-AreOnce (x ∷ xs) = (IsIn x xs → ⊥) × AreOnce xs
 
 -- THE LINES OF A RUN, in the order of its input, of jobs that were dealt out to workers: h is the history at the opening, and `now` the one that
 -- came of it.

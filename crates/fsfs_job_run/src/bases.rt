@@ -15,8 +15,8 @@ use fsfs_repo::Repo;
 use fsfs_script::Base;
 use fsfs_turn::{Owned, Turns};
 
-// The revision of this number, up to the youngest.
-fn numbered(asked: u64, youngest: RevNum) -> Result<RevNum, Fault>
+/// The revision of this number, up to the youngest.
+pub fn numbered(asked: u64, youngest: RevNum) -> Result<RevNum, Fault>
     ensures there { IfOk result (λ rev. (rev ≡ asked) × (rev ≤ youngest)) }
     ensures lacks { IfErr result (λ fault. (youngest < asked) × (fault ≡ Request (NoRev asked youngest))) }
 {

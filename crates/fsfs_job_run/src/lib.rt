@@ -21,6 +21,7 @@ mod run;
 mod running;
 mod statuses;
 
+pub use bases::numbered;
 pub use begin_faults::of_begin;
 pub use beside_laws::{
     a_job_alone_is_one_beside_others, lines_of_workers_hold, lines_of_workers_stay, lines_stay,
@@ -37,5 +38,5 @@ pub use laws::{
 };
 pub use output::print_run;
 pub use run::run_jobs;
-pub use running::run_script;
+pub use running::{JobsDone, run_script, tell};
 pub use statuses::greatest_status;

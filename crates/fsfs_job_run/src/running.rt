@@ -21,11 +21,11 @@ use fsfs_script::{Job, read_script};
 use fsfs_turn::{Owned, Turns};
 use std::alloc::{AllocError, Global};
 
-// What became of jobs, and the youngest revision behind them.
+/// What became of jobs, and the youngest revision behind them.
 #[derive(Drop)]
-struct JobsDone {
-    answers: Vec<JobAnswer>,
-    youngest: RevNum,
+pub struct JobsDone {
+    pub answers: Vec<JobAnswer>,
+    pub youngest: RevNum,
 }
 
 // Does jobs in a repository, and gives its disk back. An `Err` is for want of memory, and then no job was done.
@@ -58,8 +58,8 @@ fn do_jobs<D: Disk, G: Gate>(
     }
 }
 
-// Prints what became of jobs, and gives the greatest status that a line asks for.
-fn tell<O: Sink>(out: &mut O, done: &JobsDone) -> Result<u8, Fault>
+/// Prints what became of jobs, and gives the greatest status that a line asks for.
+pub fn tell<O: Sink>(out: &mut O, done: &JobsDone) -> Result<u8, Fault>
     ensures printed { PrintsRun done.now.answers.items done.now.youngest (O.written out.old) (O.written out.new) (O.faults out.old) (O.faults out.new) result }
 {
     match print_run(out, &done.answers, done.youngest) {

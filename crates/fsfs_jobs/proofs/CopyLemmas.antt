@@ -22,6 +22,7 @@ use Rattle.fsfs_revision.specs.ByTree.{LacksAt, IsBlockedAt}
 use Rattle.fsfs_draft.specs.Own.{Own}
 use Rattle.fsfs_draft.specs.Drafts.{Folder}
 use Rattle.fsfs_draft.specs.Walks.{HasKind}
+use Rattle.fsfs_draft.proofs.OwnEntries.{has_kind}
 use Rattle.fsfs_txn.specs.Spending.{IfStays, IsFailure}
 use Rattle.fsfs_txn.specs.Standing.{Stands, IsFree}
 use Rattle.fsfs_txn.specs.Copying.{IsCopying, MeetsEither}
@@ -42,7 +43,7 @@ use Rattle.fsfs_jobs.specs.Edits.{or_else, unfound, no_rev, make_fault, copy_fau
 use Rattle.fsfs_jobs.specs.Answers.{fault_of_failure, copied_fault, found_nothing, found_file, is_there, counts_mergeinfo, IsOrMemory, Tells}
 use Rattle.fsfs_jobs.specs.Editing.{IfRefused, Bars, IsEditing, IsNoRev, MeetsMergeinfo}
 use Rattle.fsfs_jobs.proofs.TellLemmas.{stays_refused, failure_refused, or_memory, failed_as}
-use Rattle.fsfs_jobs.proofs.MakeLemmas.{can_free, free_fits, lacks_make, file_make, there_make, there_found, lacks_unfound, file_unfound, has_kind, above_length, lacks_in_parent, blocked_make}
+use Rattle.fsfs_jobs.proofs.MakeLemmas.{can_free, free_fits, lacks_make, file_make, there_make, there_found, lacks_unfound, file_unfound, above_length, lacks_in_parent, blocked_make}
 
 pub rev_there : (rev top : ℕ) → rev ≤ top → no_rev rev top ≡ None
 rev_there rev top le = ap (λ (b : Bool). if b then None else Some (Request (NoRev rev top))) (le-leb rev top le)

@@ -11,8 +11,10 @@ use Rattle.fsfs_tree.specs.Trees.{IsTree}
 use Rattle.fsfs_model.specs.Edits.{parent, is_dir, is_dir_node, can_make}
 use Rattle.fsfs_tree.specs.Answers.{Found, Lacking, Blocked, found_at}
 use Rattle.fsfs_draft.specs.Walks.{HasKind}
+use Rattle.fsfs_draft.proofs.OwnEntries.{has_kind}
 use Rattle.fsfs_revision.specs.ByTree.{LacksAt, IsBlockedAt}
 use Rattle.fsfs_edit.specs.Ways.{IsNoDirectory}
+use Rattle.fsfs_edit.proofs.Bare.{dir_kind}
 use Rattle.fsfs_txn.specs.Standing.{IsFree}
 use Rattle.fsfs_cli.specs.declared.faults_fault.Fault.{Fault}
 use Rattle.fsfs_cli.specs.declared.faults_fault.Fault.TheVariants.{Request}
@@ -27,9 +29,6 @@ pub node_of : (o : Option Node) (kind : Kind) → HasKind o kind → (n : Node) 
 node_of None kind h = absurd h
 node_of (Some n) kind h = (n, refl, h)
 
-pub has_kind : (o : Option Node) (n : Node) (kind : Kind) → o ≡ Some n → n.kind ≡ kind → HasKind o kind
-has_kind o n kind e k = subst (λ (x : Option Node). HasKind x kind) (sym e) k
-
 pub some_node : (o : Option Node) → is_some o ≡ true → (n : Node) × (o ≡ Some n)
 some_node None h = absurd cc
 some_node (Some n) h = (n, refl)
@@ -37,14 +36,6 @@ some_node (Some n) h = (n, refl)
 pub no_node : (o : Option Node) → not (is_some o) ≡ true → o ≡ None
 no_node None h = refl
 no_node (Some n) h = absurd cc
-
-dir_of : (o : Option Node) → is_dir_node o ≡ true → HasKind o Dir
-dir_of None h = absurd cc
-dir_of (Some n) h = by n.kind h
-  where
-    by : (k : Kind) → is_dir k ≡ true → k ≡ Dir
-    by Dir h = refl
-    by File h = absurd cc
 
 -- ---- the path above
 
@@ -89,7 +80,7 @@ pub can_free : (t : TreeFunction) (path : Path) → can_make t path ≡ true →
 can_free t path h =
     let a = and_parts (not (is_root path) && not (is_some (t path))) (is_dir_node (t (parent path))) h in
     let b = and_parts (not (is_root path)) (not (is_some (t path))) a.0 in
-    (dir_of (t (parent path)) a.1, no_node (t path) b.1)
+    (dir_kind (t (parent path)) a.1, no_node (t path) b.1)
 
 pub lacks_make : (t : TreeFunction) → IsTree t → (path : Path) (depth : ℕ) → LacksAt t (parent path) depth → make_fault t path ≡ Some (found_nothing path depth)
 lacks_make t tree path depth l =

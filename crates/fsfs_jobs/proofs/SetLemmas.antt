@@ -1,12 +1,12 @@
 -- Properties and texts, from what the calls of a transaction tell.
 use Rattle.std.proofs.Common.{◌≡◌, ℕ, Bool, true, false, ◌||◌, List, [], ◌∷◌, ◌++◌, refl, sym, ap, subst, ◌∙◌, inl, inr}
-use Rattle.std.proofs.lemmas.Bool.{false≢true}
+use Rattle.std.proofs.lemmas.Bool.{false≢true, or_parts}
 use Rattle.std.specs.Prelude.{Option, Some, None, is_some, if◌then◌else◌, Result, Ok, Err, Vec}
 use Rattle.std.specs.Global.{Global}
 use Rattle.fsfs_base.specs.Paths.{Path}
 use Rattle.fsfs_base.specs.declared.kind.Kind.{Kind}
 use Rattle.fsfs_base.specs.declared.txn_name.TxnName.{TxnName}
-use Rattle.fsfs_tree.specs.Nodes.{Node, TreeFunction}
+use Rattle.fsfs_tree.specs.Nodes.{TreeFunction}
 use Rattle.fsfs_tree.specs.Trees.{IsTree}
 use Rattle.fsfs_tree.specs.Histories.{AreRevisions}
 use Rattle.fsfs_model.specs.Edits.{kind_of_node, with_node, with_prop, bytes_of, fits_value}
@@ -36,6 +36,7 @@ use Rattle.fsfs_jobs.specs.Editing.{IfRefused, Bars, IsEditing, MeetsOnWay, IsSe
 use Rattle.fsfs_txn.specs.Spending.{IsFailure}
 use Rattle.fsfs_jobs.proofs.TellLemmas.{left_refused, failure_refused, or_memory, failed_as}
 use Rattle.fsfs_jobs.proofs.MakeLemmas.{there_found, lacks_unfound, file_unfound}
+use Rattle.fsfs_edit.proofs.MakingAt.{kind_some}
 
 pub refused_more : (P Q : Type 0) (fault : Fault) → (P → Q) → IfRefused fault P → IfRefused fault Q
 refused_more P Q (Request why) f p = f p
@@ -48,14 +49,6 @@ refused_more P Q Memory f p = p
 pub memory_only : (P : Type 0) (fault : Fault) → IsOrMemory Memory fault → IfRefused fault P
 memory_only P fault (inl e) = subst (λ (f : Fault). IfRefused f P) (sym e) tt
 memory_only P fault (inr e) = subst (λ (f : Fault). IfRefused f P) (sym e) tt
-
-pub some_of : (o : Option Node) (kind : Kind) → HasKind o kind → is_some o ≡ true
-some_of None kind h = absurd h
-some_of (Some n) kind h = refl
-
-or_false : (a b : Bool) → (a || b) ≡ false → (a ≡ false) × (b ≡ false)
-or_false false b h = (refl, h)
-or_false true b h = absurd cc
 
 or_true : (a b : Bool) → (a || b) ≡ true → b ≡ false → a ≡ true
 or_true true b h not_b = refl
@@ -86,7 +79,7 @@ module _ (look : RevisionBytes) (trees : ℕ → TreeFunction) (top base : ℕ) 
   pub set_at : (outcome : Result PropertySet TxnError) (result : Result (Unit {0}) Fault) → IsSettingProp look trees top base txn tree marks moves opened set.name value before after outcome → Tells fault_of_left (property_fault set.path) outcome result
       → IsSetAt look trees top base txn tree marks opened.counted set after result
   set_at (Ok sets.Done) (Ok done) m t =
-      let plain = or_false opened.counted (is_mergeinfo set.name) m.0 in
+      let plain = or_parts opened.counted (is_mergeinfo set.name) m.0 in
       let short : too_long (Prop set) ≡ None = ap (λ (v : Option (List ℕ)). value_row (fits_value v)) (sym value_is) ∙ ap value_row m.1 in
       let first : StandsSet opened.way.path (bytes_of value) = m.2.stands in
       let there : StandsSet set.path (bytes_of value) = subst (λ (p : Path). StandsSet p (bytes_of value)) path_is first in
@@ -98,7 +91,7 @@ module _ (look : RevisionBytes) (trees : ℕ → TreeFunction) (top base : ℕ) 
   set_at (Ok sets.Mergeinfo) (Err fault) m t = barred (is_mergeinfo set.name) fault refl m.0 t
   set_at (Ok sets.TooLong) (Ok done) m t = absurd t
   set_at (Ok sets.TooLong) (Err fault) m t =
-      let plain = or_false opened.counted (is_mergeinfo set.name) m.0 in
+      let plain = or_parts opened.counted (is_mergeinfo set.name) m.0 in
       let long : too_long (Prop set) ≡ Some (Limit PropTooLong) = ap (λ (v : Option (List ℕ)). value_row (fits_value v)) (sym value_is) ∙ ap value_row m.1 in
       or_memory (RefusesProp opened.counted set) (Limit PropTooLong) fault t (OfValue (Limit PropTooLong) (plain_name set.name set.path plain.1) long)
   set_at (Err e) (Ok done) m t = absurd cc
@@ -126,8 +119,8 @@ module _ (look : RevisionBytes) (trees : ℕ → TreeFunction) (top base : ℕ) 
 
   pub set_here : (kind : Kind) (counted : Bool) (result : Result (Unit {0}) Fault) → HasKind (tree set.path) kind → Counts look trees base stands.shows.0.shows.own set.path counted → IsSetAt look trees top base txn tree marks counted set after result
       → IsEditing (Prop set) txn base after result look trees top tree marks
-  set_here kind counted (Ok done) h c s = (record { fits = set_rows (some_of (tree set.path) kind h) None s.named; space = tt; short = s.short }, s.stands)
-  set_here kind counted (Err fault) h c s = refused_more (RefusesProp counted set fault) (Bars_set fault) fault (refused_set (some_of (tree set.path) kind h) counted fault c) s
+  set_here kind counted (Ok done) h c s = (record { fits = set_rows (kind_some (tree set.path) kind h) None s.named; space = tt; short = s.short }, s.stands)
+  set_here kind counted (Err fault) h c s = refused_more (RefusesProp counted set fault) (Bars_set fault) fault (refused_set (kind_some (tree set.path) kind h) counted fault c) s
 
   pub set_nowhere : (depth : ℕ) (fault : Fault) → LacksAt tree set.path depth → IsOrMemory (found_nothing set.path depth) fault → IfRefused fault (Bars_set fault)
   set_nowhere depth fault l t = or_memory Bars_set (found_nothing set.path depth) fault t (inl (ByTrees (found_nothing set.path depth) (ap (λ (x : Option Fault). or_else x (no_mergeinfo set.name set.path)) (lacks_unfound tree Is set.path depth l))))

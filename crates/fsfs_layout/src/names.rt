@@ -1,13 +1,12 @@
 // The texts of names of files and folders that have a number, a revision or a transaction in them.
-ghost use Rattle.std.specs.Prelude.{◌≡◌, ◌≤◌, ◌<◌, ◌+◌, ◌++◌, codes, length};
+ghost use Rattle.std.specs.Prelude.{◌≡◌, ◌≤◌, ◌+◌, ◌++◌, codes, length};
 ghost use Rattle.std.specs.Fmt.{decimal};
-ghost use Rattle.fsfs_base.specs.Base36.{glyph, last_digits};
 ghost use Rattle.fsfs_base.specs.TxnNames.{txn_text};
 ghost use Rattle.fsfs_layout.specs.Names.{in_shard, in_pack, with_txn};
 
 use crate::layout::Layout;
 use crate::part_name::PartName;
-use fsfs_base::{Name, RevNum, TxnName};
+use fsfs_base::{Name, RevNum, TxnName, push_base36};
 use itoa::Buffer;
 
 // The folder of a shard's revision files.
@@ -76,36 +75,6 @@ pub(crate) fn manifest(shard: u32) -> Name
     let mut name = pack_folder(shard);
     name.push_str("/manifest");
     name
-}
-
-fn digit(d: u8) -> char
-    requires { d < 36 }
-    ensures digit { result ≡ glyph d }
-    ensures ascii { result < 128 }
-{
-    if d < 10 {
-        char::from(b'0' + d)
-    } else {
-        char::from(b'a' + (d - 10))
-    }
-}
-
-// Puts the last digits of a number in base 36 at the end.
-#[tactic(auto, unfolding(fsfs_base::specs::Base36::last_digits))]
-fn push_base36(name: &mut Name, digits: usize, number: u128)
-    requires { length name.old + digits ≤ 128 }
-    ensures text { name.new ≡ name.old ++ last_digits digits number }
-    ensures short { length name.new ≤ length name.old + digits }
-{
-    if digits == 0 {
-        return;
-    }
-    if number / 36 == 0 {
-        name.push(digit((number % 36) as u8));
-    } else {
-        push_base36(name, digits - 1, number / 36);
-        name.push(digit((number % 36) as u8));
-    }
 }
 
 fn push_txn(name: &mut Name, txn: &TxnName)

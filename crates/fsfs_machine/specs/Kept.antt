@@ -75,6 +75,11 @@ abbrev pub IsIn : ℕ → List ℕ → Type 0
 IsIn k [] = ⊥
 IsIn k (x ∷ xs) = (x ≡ k) ⊎ IsIn k xs
 
+-- no number stands there twice
+abbrev pub AreOnce : List ℕ → Type 0
+AreOnce [] = Unit {0}
+AreOnce (x ∷ xs) = (IsIn x xs → ⊥) × AreOnce xs
+
 -- each label is of a name that was given
 abbrev pub AllGiven : List ℕ → List ℕ → Type 0
 AllGiven given [] = Unit {0}

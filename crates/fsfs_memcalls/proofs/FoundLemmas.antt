@@ -3,16 +3,19 @@ use Rattle.std.proofs.Common.{◌≡◌, ◌⊎◌, ◌<◌, ℕ, List, [], ◌�
 use Rattle.std.proofs.lemmas.Bool.{and_parts, or_cases, eqb-true, eq-eqb}
 use Rattle.std.proofs.lemmas.Option.{none-some}
 use Rattle.std.specs.Prelude.{◌||◌, ◌==◌, if◌then◌else◌, drop, Option, Some, None, option_map}
-use Rattle.fsfs_base.specs.Files.{NamedFile}
-use Rattle.fsfs_folders.specs.Paths.{same_text, has_path}
+use Rattle.fsfs_base.specs.Files.{NamedFile, same_text}
+use Rattle.fsfs_base.proofs.FileLemmas.{same_is}
+use Rattle.fsfs_folders.specs.Paths.{has_path}
 use Rattle.fsfs_folders.specs.CallRecord.{Call, Named, Append, SyncFile, FailSync, SyncFolder, Firmed, Beginning, Standing, first_number, first_bytes, file_count, renamed_by, names_after, is_reachable}
 use Rattle.fsfs_folders.proofs.PathLemmas.{or_right}
-use Rattle.fsfs_folders.specs.SameText.{same_is, text_cases}
+use Rattle.fsfs_folders.specs.SameText.{text_cases}
+use Rattle.fsfs_folders.specs.Named.{file_paths}
 use Rattle.fsfs_folders.proofs.NameLemmas.{first_within, comes_from}
-use Rattle.fsfs_memcalls.specs.Places.{places_in, file_paths, paths_of}
+use Rattle.fsfs_folders.proofs.NamedLemmas.{first_named}
+use Rattle.fsfs_memcalls.specs.Places.{places_in, paths_of}
 use Rattle.fsfs_memcalls.specs.Recorded.{of_beginning, record_at}
 use Rattle.fsfs_memcalls.specs.Left.{first_pick, kept_by, left_names, picked_names, picked_bytes, bytes_of, is_found, bytes_found, IsFound, paths_such, with_file, files_such}
-use Rattle.fsfs_memcalls.proofs.PlaceLemmas.{kept, came, place_made, file_first, folder_at, file_at}
+use Rattle.fsfs_memcalls.proofs.PlaceLemmas.{kept, came, place_made, folder_at, file_at}
 
 -- ---- what is left stands at one of the paths
 
@@ -39,7 +42,7 @@ folder_left first (SyncFolder path ∷ calls) left q e = folder_left first calls
 folder_left first (Firmed ∷ calls) left q e = folder_left first calls (drop 1 left) q e
 
 file_left : (first : Beginning) (calls : List Call) (left : List Bool) (q : List ℕ) (k : ℕ) → (left_names first calls left).files q ≡ Some k → (has_path (file_paths first.files) q ≡ true) ⊎ (has_path (places_in calls) q ≡ true)
-file_left first [] left q k e = inl (file_first first.files q k e)
+file_left first [] left q k e = inl (first_named first.files q k e)
 file_left first (Named change ∷ calls) left q k e =
     ⊎_elim
     (λ new. ⊎_elim (λ was. kept (has_path (file_paths first.files) q) (Named change) calls q (file_left first calls (drop 1 left) q k was)) (λ comes. inr (came change first calls q k comes))

@@ -1,18 +1,19 @@
 -- A listing grows by a path at a time.
 use Rattle.std.proofs.Common.{◌≡◌, ◌⊎◌, ℕ, List, [], ◌∷◌, ◌++◌, Bool, true, false, inl, inr, ⊎_elim, refl, sym, ap, subst, ◌∙◌}
-use Rattle.std.proofs.lemmas.Bool.{and_parts, and_from, or_cases}
+use Rattle.std.proofs.lemmas.Bool.{and_parts, and_from, or_cases, or_parts}
 use Rattle.std.specs.Prelude.{◌||◌, not, is_some, Option, Some, None}
-use Rattle.fsfs_folders.specs.Paths.{same_text, has_path, within}
+use Rattle.fsfs_folders.specs.Paths.{has_path, within}
 use Rattle.fsfs_folders.specs.CallRecord.{Beginning, Call, names_after}
 use Rattle.fsfs_folders.specs.Listing.{IsListOf, is_entry, are_apart}
 use Rattle.fsfs_folders.proofs.PathLemmas.{or_right, same_itself}
-use Rattle.fsfs_folders.specs.SameText.{same_is}
 use Rattle.fsfs_memcalls.specs.Entries.{IsNoEntry, IsEntryAt, IsListSoFar, Lists}
 use Rattle.fsfs_memcalls.specs.Places.{paths_of}
 use Rattle.fsfs_memcalls.specs.Standing.{stands_as}
 use Rattle.fsfs_memcalls.specs.declared.listing.Kind.{Kind}
 use Rattle.fsfs_memcalls.specs.declared.listing.Kind.TheVariants.{Folder, File}
 use Rattle.fsfs_memcalls.proofs.PlaceLemmas.{folder_is_placed, file_is_placed}
+use Rattle.fsfs_base.specs.Files.{same_text}
+use Rattle.fsfs_base.proofs.FileLemmas.{same_is}
 
 -- the last of some paths
 pub in_more : (paths : List (List ℕ)) (p q : List ℕ) → has_path (paths ++ p ∷ []) q ≡ true → (has_path paths q ≡ true) ⊎ (q ≡ p)
@@ -30,16 +31,12 @@ last_more : (paths : List (List ℕ)) (p : List ℕ) → has_path (paths ++ p �
 last_more [] p = ap (λ t. t || false) (same_itself p)
 last_more (x ∷ paths) p = or_right (same_text p x) (has_path (paths ++ p ∷ []) p) (last_more paths p)
 
-false_or : (a b : Bool) → (a || b) ≡ false → (a ≡ false) × (b ≡ false)
-false_or true b e = absurd (let h : true ≡ false = e in cc)
-false_or false b e = (refl, e)
-
 -- a name that wasn't there is apart from those that were
 apart_more : (found : List (List ℕ)) (name : List ℕ) → are_apart found ≡ true → has_path found name ≡ false → are_apart (found ++ name ∷ []) ≡ true
 apart_more [] name apart new = refl
 apart_more (x ∷ found) name apart new =
     let parts = and_parts (not (has_path found x)) (are_apart found) apart in
-    let off = false_or (same_text name x) (has_path found name) new in
+    let off = or_parts (same_text name x) (has_path found name) new in
     and_from (not (has_path (found ++ name ∷ []) x)) (are_apart (found ++ name ∷ [])) (not_there (has_path (found ++ name ∷ []) x) (λ e.
     ⊎_elim (λ a. let h : false ≡ true = sym (flip (has_path found x) parts.0) ∙ a in cc) (λ b. let h : false ≡ true = sym off.0 ∙ ap (λ (t : List ℕ). same_text t x) (sym b) ∙ same_itself x in cc) (in_more found name x e)))
     (apart_more found name parts.1 off.1)

@@ -1,15 +1,15 @@
 -- Whatever stands has one of the paths of the beginning, or one at which a call made it.
-use Rattle.std.proofs.Common.{◌≡◌, ◌⊎◌, ℕ, List, [], ◌∷◌, ◌++◌, Bool, true, false, cond, inl, inr, ⊎_elim, refl, sym, ap, subst, ◌∙◌}
+use Rattle.std.proofs.Common.{◌≡◌, ◌⊎◌, ℕ, List, [], ◌∷◌, ◌++◌, Bool, true, false, inl, inr, ⊎_elim, refl, sym, ap, subst, ◌∙◌}
 use Rattle.std.proofs.lemmas.Bool.{or_cases, and_parts, cases_Bool}
-use Rattle.std.proofs.lemmas.Option.{none-some}
-use Rattle.std.specs.Prelude.{◌||◌, not, length, Option, Some, None}
-use Rattle.fsfs_base.specs.Files.{NamedFile}
-use Rattle.fsfs_folders.specs.Paths.{same_text, has_path, is_below}
-use Rattle.fsfs_folders.specs.CallRecord.{NameCall, MakeFolder, DropFolder, Create, Take, Rename, Remove, Call, Named, Append, SyncFile, FailSync, SyncFolder, Firmed, Beginning, Standing, first_number, file_count, renamed_by, names_after, IsEmptyAt}
+use Rattle.std.specs.Prelude.{◌||◌, not, Option, Some, None}
+use Rattle.fsfs_base.specs.Files.{same_text}
+use Rattle.fsfs_folders.specs.Paths.{has_path, is_below}
+use Rattle.fsfs_folders.specs.CallRecord.{NameCall, MakeFolder, DropFolder, Create, Take, Rename, Remove, Call, Named, Append, SyncFile, FailSync, SyncFolder, Firmed, Beginning, Standing, file_count, renamed_by, names_after, IsEmptyAt}
 use Rattle.fsfs_folders.proofs.PathLemmas.{or_right, has_head, has_tail}
-use Rattle.fsfs_folders.specs.SameText.{text_cases}
+use Rattle.fsfs_folders.specs.Named.{file_paths}
 use Rattle.fsfs_folders.proofs.NameLemmas.{comes_from, Comes}
-use Rattle.fsfs_memcalls.specs.Places.{place_of, with_place, places_in, file_paths, paths_of}
+use Rattle.fsfs_folders.proofs.NamedLemmas.{first_named}
+use Rattle.fsfs_memcalls.specs.Places.{place_of, with_place, places_in, paths_of}
 
 has_front : (a b : List (List ℕ)) (q : List ℕ) → has_path a q ≡ true → has_path (a ++ b) q ≡ true
 has_front [] b q e = absurd (let h : false ≡ true = e in cc)
@@ -24,13 +24,6 @@ has_behind (p ∷ a) b q e = or_right (same_text q p) (has_path (a ++ b) q) (has
 has_more : (place : Option (List ℕ)) (paths : List (List ℕ)) (q : List ℕ) → has_path paths q ≡ true → has_path (with_place place paths) q ≡ true
 has_more None paths q e = e
 has_more (Some p) paths q e = has_tail p q paths e
-
-pub file_first : (files : List NamedFile) (q : List ℕ) (k : ℕ) → first_number files q ≡ Some k → has_path (file_paths files) q ≡ true
-file_first [] q k e = absurd (none-some k e)
-file_first (file ∷ files) q k e =
-    ⊎_elim (λ s. ap (λ t. t || has_path (file_paths files) q) s.1)
-    (λ o. or_right (same_text q file.0) (has_path (file_paths files) q) (file_first files q k (sym (ap (λ b. cond b (Some (length files)) (first_number files q)) o.1) ∙ e)))
-    (text_cases q file.0)
 
 -- a call keeps what was there of the beginning or of earlier calls
 pub kept : (here : Bool) (call : Call) (calls : List Call) (q : List ℕ) → (here ≡ true) ⊎ (has_path (places_in calls) q ≡ true) → (here ≡ true) ⊎ (has_path (places_in (call ∷ calls)) q ≡ true)
@@ -68,7 +61,7 @@ came (Rename from to) first calls q k comes = let P : List ℕ → Type 0 = λ t
 came (Remove p) first calls q k comes = absurd comes
 
 file_placed : (first : Beginning) (calls : List Call) (q : List ℕ) (k : ℕ) → (names_after first calls).files q ≡ Some k → (has_path (file_paths first.files) q ≡ true) ⊎ (has_path (places_in calls) q ≡ true)
-file_placed first [] q k e = inl (file_first first.files q k e)
+file_placed first [] q k e = inl (first_named first.files q k e)
 file_placed first (Named change ∷ calls) q k e =
     ⊎_elim (λ was. kept (has_path (file_paths first.files) q) (Named change) calls q (file_placed first calls q k was))
     (λ comes. inr (came change first calls q k comes))

@@ -1,7 +1,7 @@
 -- The paths at which something may stand after some calls.
 use Rattle.std.specs.Prelude.{ℕ, List, [], ◌∷◌, ◌++◌, Option, Some, None}
-use Rattle.fsfs_base.specs.Files.{NamedFile}
 use Rattle.fsfs_folders.specs.CallRecord.{Beginning, Call, Named, Append, SyncFile, FailSync, SyncFolder, Firmed, MakeFolder, DropFolder, Create, Take, Rename, Remove}
+use Rattle.fsfs_folders.specs.Named.{file_paths}
 
 -- where a call makes something stand
 abbrev pub place_of : Call → Option (List ℕ)
@@ -24,10 +24,6 @@ with_place (Some path) paths = path ∷ paths
 abbrev pub places_in : List Call → List (List ℕ)
 places_in [] = []
 places_in (call ∷ calls) = with_place (place_of call) (places_in calls)
-
-abbrev pub file_paths : List NamedFile → List (List ℕ)
-file_paths [] = []
-file_paths (file ∷ files) = file.0 ∷ file_paths files
 
 abbrev pub paths_of : Beginning → List Call → List (List ℕ)
 paths_of first calls = first.folders ++ file_paths first.files ++ places_in calls

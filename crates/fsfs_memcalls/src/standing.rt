@@ -1,8 +1,9 @@
 // What stands after the calls that were made, the newest first.
 ghost use Rattle.std.specs.Prelude.{◌≡◌, ◌<◌, ◌^◌, ◌↔◌, [], map, IfOk, IsTrue};
-ghost use Rattle.fsfs_folders.specs.Paths.{same_text, has_path};
+ghost use Rattle.fsfs_folders.specs.Paths.{has_path};
 ghost use Rattle.fsfs_folders.specs.CallRecord.{first_number, first_bytes, file_count, names_after, contents_after, is_reachable};
 ghost use Rattle.fsfs_memcalls.specs.Told.{file_of, beginning_of, calls_of, contents_of};
+ghost use Rattle.fsfs_base.specs.Files.{same_text};
 
 use crate::made::{MemBeginning, MemCall, MemChange, MemContents, MemFile};
 use fsfs_folders::Path;

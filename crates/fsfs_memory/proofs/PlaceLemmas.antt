@@ -47,11 +47,3 @@ taken_places old new path (Some disk) emptied none at = set_places old new path 
 pub either_way : {T E : Type 0} {P Q R : Type 0} (result : Result T E) → OnOk result P → OnErr result Q → (P → R) → (Q → R) → R
 either_way (Ok x) p q f g = f p
 either_way (Err x) p q f g = g q
-
-pub some_all : {X : Type 0} (o : Option X) (P : Type 0) → P → IfSome o (λ x. P)
-some_all None P h = tt
-some_all (Some x) P h = h
-
-pub none_from : {X : Type 0} (o : Option X) (P : Type 0) → (o ≡ None → P) → IfNone o P
-none_from None P h = h (λ i. None)
-none_from (Some x) P h = tt

@@ -18,7 +18,7 @@ use Rattle.fsfs_revision.specs.ShowsReading.{ChildOf, StandsAt}
 use Rattle.fsfs_revision.specs.Chains.{own_rev, IsPred, copy_root_of}
 use Rattle.fsfs_revision.specs.IdRules.{IsBehind}
 use Rattle.fsfs_revision.proofs.OneWalk.{stands_same}
-use Rattle.fsfs_base.proofs.PathLemmas.{covers-refl, covers-trans, covers-antisym, same_name-is, covers-longer}
+use Rattle.fsfs_base.proofs.PathLemmas.{covers-refl, covers-trans, covers-antisym, covers-longer, covers_front}
 use Rattle.fsfs_model.proofs.MergeWalk.{goes_base, goes_gone, reached_above}
 use Rattle.fsfs_revision.proofs.Earlier.{stands_of_id, pred_same}
 use Rattle.fsfs_merge.specs.declared.sight.Sight.{Sight}
@@ -42,18 +42,6 @@ use Rattle.fsfs_draft.proofs.HangLaw.{some_same}
 pub reached_front : (f : Path → Bool) (p : Path) (name : PathName) → reached f (p ++ name ∷ []) ≡ true → (reached f p ≡ true) × (f p ≡ true)
 reached_front f [] name r = (refl, (and_parts _ _ r).0)
 reached_front f (x ∷ p) name r = let w = reached_front (λ q. f (x ∷ q)) p name ((and_parts _ _ r).1) in (and_from _ _ ((and_parts _ _ r).0) w.0, w.1)
-
-covers_front : (q p : Path) (name : PathName) → covers q (p ++ name ∷ []) ≡ true → (covers q p ≡ true) ⊎ (q ≡ p ++ name ∷ [])
-covers_front [] p name c = inl refl
-covers_front (x ∷ q) [] name c = inr (by q (same_name-is x name ((and_parts _ _ c).0)) ((and_parts _ _ c).1))
-  where
-    by : (q : Path) → x ≡ name → covers q [] ≡ true → x ∷ q ≡ name ∷ []
-    by [] e c = ap (λ (y : PathName). y ∷ []) e
-    by (z ∷ q) e c = absurd (false≢true c)
-covers_front (x ∷ q) (y ∷ p) name c = elim (covers_front q p name ((and_parts _ _ c).1)) [
-  | inl w ↦ inl (and_from _ _ ((and_parts _ _ c).0) w)
-  | inr e ↦ inr (λ i. same_name-is x y ((and_parts _ _ c).0) i ∷ e i)
-]
 
 -- a directory of the transaction that goes on from y in place of what it went on from
 abbrev pub Linked : NodeRev → NodeRev → NodeRev

@@ -18,6 +18,7 @@ use Rattle.fsfs_tree.specs.Histories.{AreRevisions}
 use Rattle.fsfs_model.specs.Transactions.{IsTransaction}
 use Rattle.fsfs_model.proofs.Tests.{found, found_in, other_false}
 use Rattle.fsfs_base.proofs.PathLemmas.{covers-refl, same_name-is}
+use Rattle.fsfs_base.proofs.ResultLemmas.{none_of}
 use Rattle.fsfs_model.proofs.MergeWalk.{Premises, reached_or, fresh}
 use Rattle.fsfs_model.proofs.TwoMergesLaw.{premises}
 use Rattle.fsfs_merge.specs.Walks.{Sight, merges, is_stopped, stays, down, is_own, merged}
@@ -83,10 +84,6 @@ prop_rewrites (Make src) q p h = absurd (false≢true h)
 pub kept_props : (marks : List Mark) (p : Path) → (effects marks p).rewritten ≡ false → (effects marks p).props_changed ≡ false
 kept_props marks p un = false_from_ne_true _ (λ h. let f = found (λ m. changes_props m.what m.path p) (outer marks) h in
     both_ways _ un (found_in (λ m. is_rewritten m.what m.path p) (outer marks) f.0 f.1 (prop_rewrites f.0.what f.0.path p f.2)))
-
-none_of : (o : Option Node) → is_some o ≡ false → o ≡ None
-none_of None h = refl
-none_of (Some x) h = absurd (false≢true (sym h))
 
 pub neither : (x y : Bool) → not (x || y) ≡ true → (x ≡ false) × (y ≡ false)
 neither true y h = absurd (false≢true h)

@@ -10,8 +10,7 @@ use Rattle.std.specs.declared.string.String.{String}
 use Rattle.std.specs.declared.alloc.Global.{Global}
 use Rattle.std.proofs.lemmas.Bool.{cases_Bool}
 use Rattle.fsfs_base.specs.Paths.{PathName, same_name}
-use Rattle.fsfs_base.proofs.PathLemmas.{same_name-is, same_name-refl}
-use Rattle.fsfs_draft.proofs.Edited.{same_name-symm}
+use Rattle.fsfs_base.proofs.PathLemmas.{same_name-is, same_name-refl, same_name-symm}
 use Rattle.fsfs_revision.specs.ShowsReading.{DirEntry, named}
 use Rattle.fsfs_dag.specs.declared.directory.DirEntry.{DirEntry as PlacedEntry}
 use Rattle.fsfs_dag.specs.Views.{entry_value, entry_values}

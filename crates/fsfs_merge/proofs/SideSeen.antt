@@ -6,6 +6,7 @@ use Rattle.fsfs_base.specs.declared.kind.Kind.{Kind}
 use Rattle.fsfs_base.specs.declared.kind.Kind.TheVariants.{Dir}
 use Rattle.fsfs_tree.specs.Nodes.{Node, TreeFunction}
 use Rattle.fsfs_base.specs.declared.txn_name.TxnName.{TxnName}
+use Rattle.fsfs_base.proofs.ResultLemmas.{none_of}
 use Rattle.fsfs_revision.specs.declared.wrong.Wrong.{Wrong}
 use Rattle.fsfs_revision.proofs.OneAnswer.{ok_same, ok_no_err}
 use Rattle.fsfs_revision.specs.Told.{RevisionBytes}
@@ -66,10 +67,6 @@ pub record IsOwnRead (look : RevisionBytes) (top : ℕ) (f : Folder) (met : Node
   pub names : v.kind ≡ Dir → (entries : List DirEntry) → ListOf look f v.id (Ok entries) → (name : PathName) → target_named entries name ≡ option_map node_target (met (p ++ name ∷ []))
   pub never : v.kind ≡ Dir → (w : Wrong) → ListOf look f v.id (Err w) → ⊥
 
-is_none : {X : Type 0} (o : Option X) → is_some o ≡ false → o ≡ None
-is_none None h = refl
-is_none (Some x) h = absurd cc
-
 bare_none : (o d : Option Node) → bare o ≡ bare d → d ≡ None → is_some o ≡ false
 bare_none None d same none = refl
 bare_none (Some n) d same none = let e = same ∙ ap bare none in absurd cc
@@ -82,7 +79,7 @@ module _ (look : RevisionBytes) (top base : ℕ) (trees : ℕ → TreeFunction) 
 
   -- where the draft's tree has nothing, nothing is met
   none_met : (q : Path) → draft_tree trees own (trees base) q ≡ None → met q ≡ None
-  none_met q none = is_none (met q) (paths q ∙ bare_none (tree q) (draft_tree trees own (trees base) q) (each q) none)
+  none_met q none = none_of (met q) (paths q ∙ bare_none (tree q) (draft_tree trees own (trees base) q) (each q) none)
 
   -- ---- the transaction's own
 

@@ -6,13 +6,11 @@ use Rattle.std.specs.Cmp.{both_ways as same_tests}
 use Rattle.std.proofs.lemmas.Bool.{and_parts, and_from, both_ways, cases_Bool, false_from_ne_true}
 use mathlib.Core.Bool.{false≢true}
 use Rattle.fsfs_model.specs.Edits.{is_dir, is_dir_node}
-use Rattle.fsfs_base.specs.Paths.{Path, covers, is_above}
+use Rattle.fsfs_base.specs.Paths.{Path, is_above}
 use Rattle.fsfs_tree.specs.Nodes.{Node, TreeFunction}
 use Rattle.fsfs_base.specs.declared.kind.Kind.TheVariants.{Dir}
-use Rattle.fsfs_model.specs.declared.mark.What.{What}
-use Rattle.fsfs_model.specs.declared.mark.What.TheVariants.{Make, Gone, Text, Prop}
 use Rattle.fsfs_model.specs.declared.mark.Mark.{Mark}
-use Rattle.fsfs_model.specs.Marks.{is_make, effects, outer, changes_props}
+use Rattle.fsfs_model.specs.Marks.{effects, outer, changes_props}
 use Rattle.fsfs_model.specs.Landing.{held_by_head, touched_by_head, props_changed_by_head, goes_on, reached}
 use Rattle.fsfs_revision.specs.Told.{RevisionBytes}
 use Rattle.fsfs_noderev.specs.declared.node_id.Place.{Place}
@@ -29,6 +27,7 @@ use Rattle.fsfs_draft.specs.HeadLaws.{IsHeldAbove, AgreeAt}
 use Rattle.fsfs_revision.proofs.Behind.{shown_there}
 use Rattle.fsfs_draft.proofs.HeadLaw.{head_laws}
 use Rattle.fsfs_model.proofs.Directories.{dir_kind}
+use Rattle.fsfs_model.proofs.Next.{changes_props_is}
 use Rattle.fsfs_merge.specs.Walks.{Sight}
 use Rattle.fsfs_merge.specs.Laws.{Agrees}
 use Rattle.fsfs_draft.specs.OwnSides.{NodesAt, in_txn, is_own_copy, IsAnother, AreNodesOf}
@@ -80,16 +79,10 @@ by_test false false e = absurd (false≢true (e.1 refl))
 not_true_is : (x : Bool) → (x ≡ true → ⊥) → x ≡ false
 not_true_is = false_from_ne_true
 
-props_touch : (k : What) (q p : Path) → changes_props k q p ≡ true → (is_make k ≡ true → ⊥) × (covers p q ≡ true)
-props_touch Prop q p h = (λ e. cc, (and_parts _ _ h).1)
-props_touch Text q p h = absurd (false≢true h)
-props_touch Gone q p h = absurd (false≢true h)
-props_touch (Make src) q p h = absurd (false≢true h)
-
 pub props_touched : (marks : List Mark) (p : Path) → (effects marks p).touched ≡ false → (effects marks p).props_changed ≡ false
 props_touched marks p un = false_from_ne_true _ (λ h.
     let f = found (λ m. changes_props m.what m.path p) (outer marks) h in
-    let w = props_touch f.0.what f.0.path p f.2 in
+    let w = changes_props_is f.0.what f.0.path p f.2 in
     both_ways _ un (touched_below marks f.0 p f.1 w.0 w.1))
 
 in_txn_not : (x v : NodeRev) → in_txn x.id.place ≡ false → in_txn v.id.place ≡ true → x.id ≡ v.id → ⊥

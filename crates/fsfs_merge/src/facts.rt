@@ -1,7 +1,7 @@
 //! What a merge asks of node-revisions.
 ghost use Rattle.std.specs.Prelude.{◌≡◌, ◌&&◌};
 ghost use Rattle.fsfs_model.specs.Edits.{is_dir};
-ghost use Rattle.fsfs_revision.specs.Chains.{own_rev, copy_root_of};
+ghost use Rattle.fsfs_revision.specs.Chains.{copy_root_of};
 ghost use Rattle.fsfs_draft.specs.OwnSides.{in_txn, is_own_copy};
 ghost use Rattle.fsfs_merge.specs.Sights.{facts_of, go_with, have_props_of, merge_with};
 
@@ -9,6 +9,7 @@ use crate::same::same_contents;
 use fsfs_base::{Kind, RevNum};
 use fsfs_dag::same_part;
 use fsfs_noderev::{Contents, NodeRev, Part, Place};
+use fsfs_revision::own_rev;
 
 pub(crate) fn is_dir(kind: Kind) -> bool
     ensures { result ≡ is_dir kind }
@@ -35,15 +36,6 @@ fn is_own_copy(node: &NodeRev) -> bool
     match &node.copy_root {
         None => in_txn(&node.id.place),
         Some(root) => root.rev.is_none(),
-    }
-}
-
-fn own_rev(node: &NodeRev) -> RevNum
-    ensures { result ≡ own_rev node.now }
-{
-    match &node.id.place {
-        Place::At(rev, _) => *rev,
-        Place::In(_) => RevNum::ZERO,
     }
 }
 

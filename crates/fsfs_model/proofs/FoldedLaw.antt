@@ -19,19 +19,20 @@ use Rattle.fsfs_tree.specs.Nodes.{Node, TreeFunction, Bytes, empty_node}
 use Rattle.fsfs_model.specs.Marks.{made, effects}
 use Rattle.fsfs_model.specs.Edits.{can_make, changed_props, accepts, applied, mark_of, with_text, with_prop, bytes_of, copied_node, rest_after, kind_of_node}
 use Rattle.fsfs_model.specs.Landing.{land, reached, goes_on, clashes_at, touched_by_head, held_by_head}
-use Rattle.fsfs_model.specs.Folding.{fold_mark, joined, begun, flagged, after_add, after_delete, after_modify, change_in}
+use Rattle.fsfs_model.specs.Folding.{fold_mark, joined, begun, flagged, after_add, after_delete, after_modify, change_in, deletes}
 use Rattle.fsfs_tree.specs.Histories.{AreRevisions}
 use Rattle.fsfs_model.specs.Transactions.{IsTransaction, Begun, Edited, Landed}
 use Rattle.fsfs_model.specs.Laws.{In}
 use Rattle.fsfs_model.proofs.Applied.{nothing_after, file_there}
 use Rattle.fsfs_base.proofs.PathLemmas.{covers-refl, covers-antisym, same_path-is, same_path-refl}
+use Rattle.fsfs_base.proofs.ResultLemmas.{none_of}
 use Rattle.fsfs_model.proofs.MergeWalk.{Premises, region, go, reached_or, quiet_side, touched_up, gone_down}
 use Rattle.fsfs_model.proofs.Tests.{other_false}
 use Rattle.fsfs_model.proofs.Origins.{Origin, Head, Changed, Own, origin}
 use Rattle.fsfs_model.proofs.LandedAt.{in_head, comes, all_three}
 use Rattle.fsfs_model.proofs.LandedContents.{there}
 use Rattle.fsfs_model.proofs.Contents.{KeepsContent}
-use Rattle.fsfs_model.proofs.Joined.{says, adds, deletes, fold_push, fold_here, fold_beside, fold_other, fold_below, adds_makes}
+use Rattle.fsfs_model.proofs.Joined.{says, adds, fold_push, fold_here, fold_beside, fold_other, fold_below, adds_makes}
 use Rattle.fsfs_model.proofs.Folds.{said_of, FoldTells}
 use Rattle.fsfs_model.proofs.FoldingLaw.{fold_tells}
 use Rattle.fsfs_model.proofs.TwoMergesLaw.{premises}
@@ -299,14 +300,10 @@ deletes_is Add n = refl
 deletes_is Replace n = refl
 deletes_is Modify n = refl
 
-none_at : (o : Option Node) → is_some o ≡ false → o ≡ None
-none_at None h = refl
-none_at (Some n) h = absurd (false≢true (sym h))
-
 pub folds_fit : FoldsFit
 folds_fit tree last b t marks is was = record {
   gone = λ p c e d. let f = said_change (said_of marks p) c e in
-      none_at (t p) ((fold_tells tree last b t marks is was).absent p (ap (says deletes) f.1 ∙ ap (λ (v : Change). deletes v.action) f.2 ∙ ap deletes d));
+      none_of (t p) ((fold_tells tree last b t marks is was).absent p (ap (says deletes) f.1 ∙ ap (λ (v : Change). deletes v.action) f.2 ∙ ap deletes d));
   there = λ p c e d. let f = said_change (said_of marks p) c e in
       let n = all_stand tree last b t marks is was p f.0 f.1 (ap (λ (v : Change). deletes v.action) f.2 ∙ deletes_is c.action d) in
       (n.0, n.1, n.2 ∙ ap (λ (v : Change). v.kind) f.2);

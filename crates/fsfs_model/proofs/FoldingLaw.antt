@@ -16,7 +16,7 @@ use Rattle.fsfs_tree.specs.Nodes.{Node, TreeFunction}
 use Rattle.fsfs_model.specs.Marks.{made, effects, is_make}
 use Rattle.fsfs_model.specs.Edits.{applied, mark_of}
 use Rattle.fsfs_model.specs.Landing.{land}
-use Rattle.fsfs_model.specs.Folding.{fold, fold_from, fold_mark, joined, change_in}
+use Rattle.fsfs_model.specs.Folding.{fold, fold_from, fold_mark, joined, change_in, deletes}
 use Rattle.fsfs_tree.specs.Histories.{AreRevisions, IsHistory}
 use Rattle.fsfs_tree.specs.Revisions.{Revision, tree_of}
 use Rattle.fsfs_model.specs.Transactions.{IsTransaction, Begun, Edited, Landed, Entry, IsEntry, IsNext}
@@ -31,7 +31,7 @@ use Rattle.fsfs_model.proofs.LandedAt.{lacks, in_head, missing, comes, all_three
 use Rattle.fsfs_model.proofs.TwoMergesLaw.{sound, premises, closed}
 use Rattle.fsfs_model.proofs.Origins.{Origin, Head, Changed, Own, origin}
 use Rattle.fsfs_model.proofs.Folds.{said_of, FoldTells, tells_nothing, put_tells, taken_tells, changed_tells}
-use Rattle.fsfs_model.proofs.Joined.{says, adds, deletes, modifies, says_some, adds_makes, tells_not_adds, deletes_tells, delete_undoes, modify_keeps, fold_here, fold_beside, fold_other}
+use Rattle.fsfs_model.proofs.Joined.{says, adds, modifies, says_some, adds_makes, tells_not_adds, deletes_tells, delete_undoes, modify_keeps, fold_here, fold_beside, fold_other}
 
 -- ---- landings
 

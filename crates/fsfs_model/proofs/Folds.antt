@@ -12,14 +12,14 @@ use Rattle.fsfs_model.specs.declared.folded.Folded.{Folded}
 use Rattle.fsfs_base.specs.Paths.{Path, covers, is_above, same_path}
 use Rattle.fsfs_tree.specs.Nodes.{TreeFunction}
 use Rattle.fsfs_model.specs.Marks.{outer, made, made_after, effects, any_covers, is_make, touches, is_rewritten}
-use Rattle.fsfs_model.specs.Folding.{fold_from, fold_mark, joined}
+use Rattle.fsfs_model.specs.Folding.{fold_from, fold_mark, joined, deletes}
 use Rattle.fsfs_base.proofs.PathLemmas.{covers-refl, covers-trans, covers-antisym, covers-either, same_path-is, same_path-refl}
 use Rattle.fsfs_model.specs.Laws.{In}
 use Rattle.fsfs_model.proofs.Bases.{IsClosed, DescribesBase}
 use Rattle.fsfs_model.proofs.Tests.{found, found_in}
 use Rattle.fsfs_model.proofs.MergeWalk.{gone_by, gone_from, touched_below, rewritten_by}
 use Rattle.fsfs_model.proofs.Owns.{In-append, In-left, In-right, In-filter, In-filtered, made_push, make_adds, longer, in_outer, from_outer, new_outer}
-use Rattle.fsfs_model.proofs.Joined.{says, adds, makes, deletes, tells, modifies, says_some, adds_makes, tells_not_adds, deletes_tells, add_makes, add_adds, add_tells, add_not_deletes, delete_undoes, delete_deletes, delete_not_makes, modify_some, modify_keeps, fold_push, fold_here, fold_beside, fold_other, fold_below}
+use Rattle.fsfs_model.proofs.Joined.{says, adds, makes, tells, modifies, says_some, adds_makes, tells_not_adds, deletes_tells, add_makes, add_adds, add_tells, add_not_deletes, delete_undoes, delete_deletes, delete_not_makes, modify_some, modify_keeps, fold_push, fold_here, fold_beside, fold_other, fold_below}
 
 -- what is said of a path
 abbrev pub said_of : List Mark → Path → Option Folded

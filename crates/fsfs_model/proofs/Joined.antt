@@ -12,7 +12,7 @@ use Rattle.fsfs_model.specs.declared.folded.Folded.{Folded}
 use Rattle.fsfs_base.specs.Paths.{Path, covers, same_path}
 use Rattle.fsfs_base.proofs.PathLemmas.{same_path-refl}
 use Rattle.fsfs_model.specs.Marks.{is_make}
-use Rattle.fsfs_model.specs.Folding.{fold_from, fold_mark, joined, forgotten, begun, flagged, after_add, after_delete, after_modify}
+use Rattle.fsfs_model.specs.Folding.{fold_from, fold_mark, joined, forgotten, begun, flagged, after_add, after_delete, after_modify, deletes}
 
 -- the action of what is said passes the test
 abbrev pub says : (Action → Bool) → Option Folded → Bool
@@ -30,12 +30,6 @@ makes Add = true
 makes Replace = true
 makes Delete = false
 makes Modify = false
-
-abbrev pub deletes : Action → Bool
-deletes Delete = true
-deletes Add = false
-deletes Replace = false
-deletes Modify = false
 
 -- something was taken away
 abbrev pub tells : Action → Bool

@@ -18,7 +18,7 @@ use Rattle.fsfs_model.proofs.LandedAt.{lacks, has, missing, own_has, head_only, 
 use Rattle.fsfs_model.proofs.ShapeAt.{Shape, Fresh, From, shape, numbers, since_touched, fresh, same_head, held}
 use Rattle.fsfs_model.proofs.MergeWalk.{Premises, region, made_top, touched_below, touched_made, touched_up, gone_by, gone_from, gone_down, rewritten_by, gone_make}
 
-changes_props_is : (k : What) (q p : Path) → changes_props k q p ≡ true → (is_make k ≡ true → ⊥) × (covers p q ≡ true)
+pub changes_props_is : (k : What) (q p : Path) → changes_props k q p ≡ true → (is_make k ≡ true → ⊥) × (covers p q ≡ true)
 changes_props_is Prop q p h = (λ e. cc, (and_parts _ _ h).1)
 changes_props_is (Make src) q p h = absurd (false≢true h)
 changes_props_is Gone q p h = absurd (false≢true h)

@@ -11,6 +11,12 @@ use Rattle.fsfs_tree.specs.declared.change_map.Change.{Change}
 use Rattle.fsfs_model.specs.declared.folded.Folded.{Folded}
 use Rattle.fsfs_base.specs.Paths.{Path, covers, same_path}
 
+abbrev pub deletes : Action → Bool
+deletes Delete = true
+deletes Add = false
+deletes Replace = false
+deletes Modify = false
+
 -- a mark alone, as a change
 abbrev pub change_of : Kind → What → Change
 change_of kind (Make source) = record { action = Add; kind = kind; text_changed = false; props_changed = false; source = source }

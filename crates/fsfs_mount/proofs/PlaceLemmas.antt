@@ -1,6 +1,6 @@
 -- What is told of paths, as their places are made, emptied and filled.
 use Rattle.std.proofs.Common.{◌≡◌, ◌≢◌, ℕ, List, cond, sym, ap, ⊎_elim, ◌∙◌}
-use Rattle.std.specs.Prelude.{Option, Some, None, IfSome, IfNone}
+use Rattle.std.specs.Prelude.{Option, Some, None}
 use Rattle.std.specs.Str.{bytes_eq}
 use Rattle.std.proofs.lemmas.Bool.{false_from_ne_true}
 use Rattle.std.proofs.lemmas.Slice.Eq.{bytes_eq-Decides}
@@ -9,14 +9,6 @@ use Rattle.fsfs_folders.specs.CallRecord.{CallRecord}
 use Rattle.fsfs_folders.specs.SameText.{text_cases}
 use Rattle.fsfs_folders.specs.Standing.{told}
 use Rattle.fsfs_mount.specs.Places.{held_in, Sets, told_at}
-
-pub some_all : {X : Type 0} (o : Option X) (P : Type 0) → P → IfSome o (λ x. P)
-some_all None P h = tt
-some_all (Some x) P h = h
-
-pub none_from : {X : Type 0} (o : Option X) (P : Type 0) → (o ≡ None → P) → IfNone o P
-none_from None P h = h (λ i. None)
-none_from (Some x) P h = tt
 
 module _ {A : Type 0} (old new : List ℕ → Option (Option A)) (path : List ℕ) (place : Option A) (sets : Sets old new path place) where
   pub set_here : new path ≡ Some place

@@ -10,9 +10,9 @@ ghost use Rattle.fsfs_folders.specs.OpenFiles.{is_still};
 
 use crate::found::Found;
 use crate::last_read::{read_last, size_last};
-use fsfs_base::{Failed, Name};
+use fsfs_base::{Failed, Name, counted};
 use fsfs_disk::{Disk, Label, ListFault};
-use fsfs_folders::{CallError, Calls, FolderBench, Folders, Opened, counted};
+use fsfs_folders::{CallError, Calls, FolderBench, Folders, Opened};
 use std::alloc::Global;
 
 /// The files of a repository below a folder, over the calls of the system. It tells the operations that its calls come to.

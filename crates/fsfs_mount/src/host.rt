@@ -5,8 +5,9 @@ ghost use Rattle.std.specs.BTreeMap.{get_by_text};
 use crate::disk::FolderDisk;
 use crate::file_system::FileSystem;
 use crate::mounting::{give_back, open_disk};
+use fsfs_base::counted;
 use fsfs_disk::{Access, Host, MountFault};
-use fsfs_folders::{Folders, counted};
+use fsfs_folders::Folders;
 use std::alloc::Global;
 use std::collections::BTreeMap;
 

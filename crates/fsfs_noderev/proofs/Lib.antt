@@ -17,3 +17,4 @@ pub mod PathSets
 pub mod ChangesWrites
 pub mod Rising
 pub mod Weaker
+pub mod ItemLemmas

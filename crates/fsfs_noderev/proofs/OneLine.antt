@@ -1,16 +1,12 @@
 -- No value of a field has an end of a line: each stands on one line.
-use Rattle.std.proofs.Common.{◌≡◌, ◌≤◌, ◌+◌, ℕ, suc, Bool, true, false, cond, not, List, [], ◌∷◌, length, Some, None, refl, sym, ap, subst, ◌∙◌, arith}
-use Rattle.std.specs.Prelude.{nat_lt}
-use Rattle.std.specs.List.{AllByRecursion, position, position_or_len}
-use Rattle.std.proofs.lemmas.Bool.{ne_eqb, ltb-false}
+use Rattle.std.proofs.Common.{ℕ, List, length, Some, None, refl, sym, subst, arith}
 use Rattle.fsfs_base.specs.Cuts.{Lacks, IsCutOf}
-use Rattle.fsfs_base.proofs.CutLemmas.{lacks_from, two_lack}
+use Rattle.fsfs_base.proofs.CutLemmas.{two_lack}
 use Rattle.fsfs_base.proofs.Spelling.{plain_lacks}
 use Rattle.fsfs_base.specs.Digests.{IsDigestText}
 use Rattle.fsfs_base.specs.TxnNames.{IsTxnName}
 use Rattle.fsfs_base.proofs.RevNumTexts.{rev_text_lacks}
-use Rattle.fsfs_base.specs.Paths.{Path, path_text, names_text}
-use Rattle.fsfs_base.specs.PathTexts.{IsPath, IsName, is_control}
+use Rattle.fsfs_base.proofs.PathTextLemmas.{path_text_line}
 use Rattle.fsfs_base.specs.declared.kind.Kind.TheVariants as kinds
 use Rattle.fsfs_base.specs.RevNums.{IsRev}
 use Rattle.fsfs_noderev.specs.Ids.{IsB36, IsNumber64, id_value}
@@ -73,33 +69,6 @@ values_line text (reps.At r) w = rep_line text r w
 
 pub contents_line : OneLine AreContentsText
 contents_line text k w = values_line text (contents_value k) w
-
--- no control byte, so no end of a line
-name_line : (name : List ℕ) → position is_control name ≡ None → Lacks 10 name
-name_line name e = go (nat_lt (position_or_len is_control name) (length name)) refl e
-  where
-    all : (xs : List ℕ) → length xs ≤ position_or_len is_control xs → Lacks 10 xs
-    all [] le = tt
-    all (b ∷ bs) le = here b bs (is_control b) refl le (all bs)
-      where
-        here : (b : ℕ) (bs : List ℕ) (t : Bool) → is_control b ≡ t → suc (length bs) ≤ cond (not t) (1 + position_or_len is_control bs) 0 → (length bs ≤ position_or_len is_control bs → Lacks 10 bs) → Lacks 10 (b ∷ bs)
-        here b bs true is le more = absurd (omega (arith, le))
-        here b bs false is le more = (ne_eqb b 10 (λ same. clash (sym (ap is_control same) ∙ is)), more (omega (arith, le)))
-          where
-            clash : true ≡ false → ⊥
-            clash e = cc
-
-    go : (t : Bool) → nat_lt (position_or_len is_control name) (length name) ≡ t → cond t (Some (position_or_len is_control name)) None ≡ None → Lacks 10 name
-    go true is e = absurd cc
-    go false is e = all name (ltb-false _ _ is)
-
-names_line : (p : Path) → AllByRecursion IsName p → Lacks 10 (names_text p)
-names_line [] all = tt
-names_line (x ∷ p) all = (refl, lacks_from 10 x (names_text p) (name_line x all.0.no_control) (names_line p all.1))
-
-path_text_line : (p : Path) → IsPath p → Lacks 10 (path_text p)
-path_text_line [] w = (refl, tt)
-path_text_line (x ∷ p) w = names_line (x ∷ p) w.names
 
 pub path_line : OneLine IsPathText
 path_line text p w = subst (λ (t : List ℕ). Lacks 10 t) w.text_is (path_text_line p w.path_is)

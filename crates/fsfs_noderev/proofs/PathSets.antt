@@ -2,13 +2,14 @@
 use Rattle.std.proofs.Common.{◌≡◌, ℕ, Bool, true, false, cond, ◌||◌, List, [], ◌∷◌, ◌++◌, refl, sym, ap, subst, ◌∙◌}
 use Rattle.std.proofs.lemmas.Bool.{true≢false}
 use Rattle.std.specs.List.{AllByRecursion, list_any}
-use Rattle.std.specs.Ordering.{nat_cmp, is_eq}
 use Rattle.std.specs.Cmp.{eq_by_cmp_equiv}
-use Rattle.std.specs.Cmp.Lexicographic.{slice_cmp, nat_list_cmp_total}
+use Rattle.std.specs.Cmp.Lexicographic.{nat_list_cmp_total}
 use Rattle.std.proofs.lemmas.Map.Text.{is_eq-slice_cmp}
 use Rattle.std.proofs.lemmas.Slice.Eq.{bytes_eq-Decides}
 use Rattle.fsfs_base.specs.Grammar.{Begins}
 use Rattle.fsfs_base.specs.Paths.{path_text}
+use Rattle.fsfs_base.specs.Files.{same_text}
+use Rattle.fsfs_base.proofs.FileLemmas.{same_is}
 use Rattle.fsfs_noderev.specs.Fields.{IsPathText}
 use Rattle.fsfs_noderev.proofs.FieldTexts.{path_one}
 use Rattle.fsfs_noderev.specs.Items.{IsItem}
@@ -16,9 +17,6 @@ use Rattle.fsfs_noderev.specs.Changes.{HasNewPath, Items}
 use Rattle.fsfs_noderev.specs.declared.item.ChangeItem.{ChangeItem}
 use Rattle.fsfs_noderev.proofs.ItemTexts.{item_one, item_path}
 use Rattle.fsfs_noderev.proofs.ItemLists.{HasItems}
-
-abbrev pub same_text : List ℕ → List ℕ → Bool
-same_text a b = is_eq (slice_cmp nat_cmp a b)
 
 -- an item's path has this text
 abbrev pub any_has : List ℕ → List ChangeItem → Bool
@@ -46,9 +44,6 @@ texts_more old new items item key e has more q =
     ∙ ap (λ (b : Bool). cond (same_text q key) true b) (has q)
     ∙ ap (λ (t : List ℕ). cond (same_text q t) true (any_has q items)) (sym e)
     ∙ sym (any_push q items item)
-
-same_is : (a b : List ℕ) → same_text a b ≡ true → a ≡ b
-same_is a b e = (bytes_eq-Decides a b).0 (sym (is_eq-slice_cmp a b) ∙ e)
 
 is_same : (a b : List ℕ) → a ≡ b → same_text a b ≡ true
 is_same a b e = is_eq-slice_cmp a b ∙ (bytes_eq-Decides a b).1 e

@@ -29,7 +29,7 @@ pub use fields::Fields;
 pub use item::ChangeItem;
 pub use limit::{LimitError, PathLimit, check_path};
 pub use node_id::{NodeId, Part, Place, put_id, read_id, write_id};
-pub use node_rev::{CopyRoot, CopySource, Field, NodeFault, NodeRev, Which};
+pub use node_rev::{CopyRoot, CopySource, Field, NodeFault, NodeRev, Which, same_source};
 pub use reading::{MAX_NODE_REV, NodeError, read_fields, read_noderev};
 pub use rep::{Contents, Rep, Uniquifier, put_contents, put_rep, read_contents, read_rep};
 pub use texts::{check_item, check_node, is_told};

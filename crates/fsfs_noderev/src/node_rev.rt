@@ -1,13 +1,29 @@
 //! Node-revisions and what may be wrong with their text.
+ghost use Rattle.std.specs.Prelude.{◌≡◌, IfOk};
+
 use crate::node_id::NodeId;
 use crate::rep::Contents;
 use fsfs_base::{FsPath, Kind, RevNum};
+use std::alloc::AllocError;
 
 /// The revision and path that a node was copied from.
 #[derive(Debug, Drop)]
 pub struct CopySource {
     pub rev: RevNum,
     pub path: FsPath,
+}
+
+/// A copy of what a node was copied from, if it was.
+pub fn same_source(source: &Option<CopySource>) -> Result<Option<CopySource>, AllocError>
+    ensures { IfOk result (λ same. same ≡ source.now) }
+{
+    match source {
+        None => Ok(None),
+        Some(source) => Ok(Some(CopySource {
+            rev: source.rev,
+            path: source.path.clone()?,
+        })),
+    }
 }
 
 /// The revision and path of the copy that a node came by; no revision stands for the node-revision's own transaction.

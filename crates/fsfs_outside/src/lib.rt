@@ -3,7 +3,6 @@
 #![tactic(auto)]
 
 mod arguments;
-mod faults;
 mod once;
 mod progress;
 mod standard;

@@ -40,20 +40,20 @@ first_hand : (layout : Layout) (young : ℕ) (told : Option Trace) (v : SeatView
 first_hand layout young None v k = k.1
 first_hand layout young (Some t) v k = k.1
 
-first_unfailed : (layout : Layout) (young : ℕ) (told : Option Trace) (v : SeatView) → IsFirst layout young told v → v.failures ≡ 0
+pub first_unfailed : (layout : Layout) (young : ℕ) (told : Option Trace) (v : SeatView) → IsFirst layout young told v → v.failures ≡ 0
 first_unfailed layout young None v k = k.5
 first_unfailed layout young (Some t) v k = k.9
 
-first_sound : (layout : Layout) (young : ℕ) (told : Option Trace) (v : SeatView) → IsFirst layout young told v → v.bench_failures ≡ 0
+pub first_sound : (layout : Layout) (young : ℕ) (told : Option Trace) (v : SeatView) → IsFirst layout young told v → v.bench_failures ≡ 0
 first_sound layout young None v k = k.6
 first_sound layout young (Some t) v k = k.14
 
-first_alone : (layout : Layout) (young : ℕ) (told : Option Trace) (v : SeatView) → IsFirst layout young told v → v.met ≡ told
-first_alone layout young None v k = k.2
-first_alone layout young (Some t) v k = k.4
+pub first_met : (layout : Layout) (young : ℕ) (told : Option Trace) (v : SeatView) → IsFirst layout young told v → v.met ≡ told
+first_met layout young None v k = k.2
+first_met layout young (Some t) v k = k.4
 
-first_met : (layout : Layout) (young : ℕ) (told : Option Trace) (v : SeatView) → IsFirst layout young told v → is_some v.met ≡ is_some told
-first_met layout young told v k = ap (λ o. is_some o) (first_alone layout young told v k)
+first_is_met : (layout : Layout) (young : ℕ) (told : Option Trace) (v : SeatView) → IsFirst layout young told v → is_some v.met ≡ is_some told
+first_is_met layout young told v k = ap (λ o. is_some o) (first_met layout young told v k)
 
 one_seat : (P : ℕ → SeatView → Type 0) (first : SeatView) → P 0 first → (j : ℕ) (v : SeatView) → get_elem? (first ∷ []) j ≡ some v → P j v
 one_seat P first p zero v e = subst (λ z. P 0 z) (some-injective first v e) p
@@ -113,7 +113,7 @@ begins layout young d first fits short k = record {
   later = later_as 0 (first.failures + 0) 0 (first.bench_failures + 0) d d (let none = first_unfailed layout young d.trace first k in omega (arith, none)) (let none = first_sound layout young d.trace first k in omega (arith, none)) (later_itself d);
   hands = one_seat (λ j v. HandIs 0 0 d j v.hand) first (subst (λ h. HandIs 0 0 d 0 h) (sym (first_hand layout young d.trace first k)) tt);
   told = λ j v e is_there. one_seat (λ j v. v.told ≡ is_some d.trace) first (first_told layout young d.trace first k) j v e;
-  met = λ j v e is_there. one_seat (λ j v. is_some v.met ≡ is_some d.trace) first (first_met layout young d.trace first k) j v e;
-  alone = λ j v e sits all. one_seat (λ j v. v.met ≡ d.trace) first (first_alone layout young d.trace first k) j v e;
+  met = λ j v e is_there. one_seat (λ j v. is_some v.met ≡ is_some d.trace) first (first_is_met layout young d.trace first k) j v e;
+  alone = λ j v e sits all. one_seat (λ j v. v.met ≡ d.trace) first (first_met layout young d.trace first k) j v e;
   store = λ t is. store_first layout young t first (subst (λ o. IfSome o (λ z. HasShortFiles (files_now z))) is short) (subst (λ o. IsFirst layout young o first) is k);
 }

@@ -19,7 +19,7 @@ use Rattle.fsfs_machine.specs.Kept.{AllBelow}
 use Rattle.fsfs_turn.specs.Views.{View, is_held}
 use Rattle.fsfs_turn.specs.Alone.{are_harmless, is_doubtful_at}
 use Rattle.fsfs_turn.specs.Learning.{CounterRead, drawn_of}
-use Rattle.fsfs_turn.proofs.Alone.{harmless_before}
+use Rattle.fsfs_turn.proofs.Alone.{harmless_before, either_calm}
 use Rattle.fsfs_turn.proofs.Counting.{counter, counter_turns, counter_file}
 use Rattle.fsfs_disk.specs.Seen.{DiskSeen, IsLater}
 use Rattle.fsfs_pass.specs.declared.seat_view.SeatView.{SeatView}
@@ -30,7 +30,6 @@ use Rattle.fsfs_pass.specs.Tells.{Sat}
 use Rattle.fsfs_pass.proofs.Following.{lasts_same}
 use Rattle.fsfs_pass.specs.Made.{went_of, carried, failed_of, trace_of, once}
 use Rattle.fsfs_pass.specs.SeatCallsTells.{DrawnBy, drawn_back}
-use Rattle.fsfs_pass.proofs.Doubting.{either_calm}
 use Rattle.fsfs_pass.proofs.Going.{IsShort, StaysSure, after_more, Turn, gives_so}
 
 less_or_not : (a b : ℕ) → (a < b) ⊎ (b ≤ a)

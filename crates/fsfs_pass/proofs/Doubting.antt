@@ -11,6 +11,7 @@ use Rattle.fsfs_machine.specs.declared.machine.Went.{Went}
 use Rattle.fsfs_machine.specs.declared.machine.Went.TheVariants.{Fine, Before, After, Torn}
 use Rattle.fsfs_machine.specs.Machine.{either, after, spoiled}
 use Rattle.fsfs_turn.specs.Alone.{are_harmless, brings_doubt, is_doubtful}
+use Rattle.fsfs_turn.proofs.Alone.{after_calm}
 
 -- the place of the call that is due in a section
 abbrev pub place_due : Section → DiskPlace
@@ -37,21 +38,6 @@ harmless_last (x ∷ places) place e = by_test (brings_doubt x) e (harmless_last
     by_test true e rest = absurd cc
     by_test false e rest = rest e
 
--- a section that went on isn't in doubt
-after_calm : (s : Section) → is_doubtful (after s) ≡ false
-after_calm Begun = refl
-after_calm (CountRead x) = refl
-after_calm (CountPut x) = refl
-after_calm (CountRenamed x) = refl
-after_calm (RevPut x) = refl
-after_calm (PropsPut x) = refl
-after_calm (RevFirm x) = refl
-after_calm (CurrentPut x) = refl
-after_calm (CurrentRenamed x) = refl
-after_calm (CurrentFirm x) = refl
-after_calm (Doubtful place x) = refl
-after_calm Over = refl
-
 -- one is left in doubt just by the faults that leave a revision so
 spoiled_doubtful : (s : Section) → is_doubtful (spoiled s) ≡ brings_doubt (place_due s)
 spoiled_doubtful Begun = refl
@@ -73,10 +59,3 @@ called_calm Fine s places e = after_calm s
 called_calm Before s places e = spoiled_doubtful s ∙ harmless_last places (place_due s) e
 called_calm After s places e = spoiled_doubtful s ∙ harmless_last places (place_due s) e
 called_calm (Torn any) s places e = spoiled_doubtful s ∙ harmless_last places (place_due s) e
-
--- of two sections that aren't
-pub either_calm : (went : Went) (s t : Section) → is_doubtful s ≡ false → is_doubtful t ≡ false → is_doubtful (either went s t) ≡ false
-either_calm Fine s t a b = a
-either_calm Before s t a b = b
-either_calm After s t a b = b
-either_calm (Torn any) s t a b = b

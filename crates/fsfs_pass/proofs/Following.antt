@@ -16,7 +16,7 @@ use Rattle.fsfs_turn.specs.Views.{Sees, Begins}
 use Rattle.fsfs_turn.specs.Found.{get_taken, floor_now, all_fit, history_reads}
 use Rattle.fsfs_turn.specs.Standing.{IsStore}
 use Rattle.fsfs_turn.specs.Telling.{TellsSeen}
-use Rattle.fsfs_turn.proofs.Moments.{itself}
+use Rattle.fsfs_turn.proofs.Moments.{begins_itself}
 use Rattle.fsfs_turn.proofs.Moves.{Spares}
 use Rattle.fsfs_pass.specs.declared.seat_view.SeatView.{SeatView}
 use Rattle.fsfs_pass.specs.Seats.{view_of}
@@ -41,7 +41,7 @@ pub met_now : (layout : Layout) (young : ℕ) (stuck : Option DiskPlace) (t : Tr
 met_now layout young stuck t w v s seen least = record {
   world = w;
   store = record { trace = s.trace; whole = s.whole; kept = s.kept; shown = s.shown; coming = s.coming; young_is = refl; stuck_is = refl };
-  grown = itself w.history;
+  grown = begins_itself w.history;
   seen = seen;
   least = least;
   lasts = lasts_same layout (length w.history) (files_now t);

@@ -9,6 +9,7 @@ use Rattle.fsfs_fetch.specs.Views.{Later}
 use Rattle.fsfs_disk.specs.Benches.{HasShortFiles}
 use Rattle.fsfs_disk.specs.Trace.{Trace, files_now}
 use Rattle.fsfs_base.specs.declared.place.DiskPlace.{DiskPlace}
+use Rattle.fsfs_base.proofs.ResultLemmas.{none_of}
 use Rattle.fsfs_machine.specs.declared.machine.Section.{Section}
 use Rattle.fsfs_machine.specs.declared.machine.Lock.{Lock}
 use Rattle.fsfs_machine.specs.declared.machine.Lock.TheVariants.{Held}
@@ -189,10 +190,6 @@ Turn me d t P = me.told ≡ true → (old : Trace) → t ≡ Some old → (young
 pub one_trace : (a b : Trace) → Some a ≡ Some b → a ≡ b
 one_trace a b e = cc
 
-pub none_is : {A : Type 0} (o : Option A) → is_some o ≡ false → o ≡ None
-none_is None e = refl
-none_is (Some x) e = absurd cc
-
 module _ (began : DiskSeen) (first : SeatView) (slots id : ℕ) (me : Sat) (d : DiskSeen) (sits : IsSitting me.0) (short : IsShort d) (was : DiskSeen) (k : ℕ) (room : 0 < slots) (carries : me.1 ≡ (0, Some d) ∷ []) (has : me.0.hand ≡ Out was) (later : IsLater (once d.failed) k was d)
     (same : is_some d.trace ≡ is_some was.trace) (P : View → Type 0) (turn : Turn me.0 d was.trace P) (s : St) (r : Rule began first s) (long : length s.homes ≡ slots) (at : get_elem? s.views id ≡ some me.0) where
   abbrev Goes : Type 0
@@ -233,7 +230,7 @@ module _ (began : DiskSeen) (first : SeatView) (slots id : ℕ) (me : Sat) (d : 
       let untold : me.0.told ≡ false = told_is ∙ ap (λ o. is_some o) is in
       goes_so (seat_as d.failed d.trace (counting k me.0)) refl refl refl refl refl refl refl
       (λ told. let e : true ≡ false = sym told ∙ untold in absurd cc)
-      (later_untold me.0 (seat_as d.failed d.trace (counting k me.0)) untold (none_is me.0.met (met_is ∙ untold)) refl)
+      (later_untold me.0 (seat_as d.failed d.trace (counting k me.0)) untold (none_of me.0.met (met_is ∙ untold)) refl)
       (λ told. let e : true ≡ false = sym told ∙ untold in absurd cc)
       (λ new told. let e : true ≡ false = ap (λ o. is_some o) (sym told) ∙ same ∙ ap (λ o. is_some o) is in absurd cc)
   by_trace (Some old) is =

@@ -23,7 +23,7 @@ use Rattle.fsfs_turn.specs.Bytes.{AllShow}
 use Rattle.fsfs_turn.specs.Views.{Sees, Begins, is_held, with_txns}
 use Rattle.fsfs_turn.proofs.Stepping.{kept_bare, at_itself}
 use Rattle.fsfs_turn.proofs.Locking.{there_in}
-use Rattle.fsfs_turn.proofs.Moments.{itself}
+use Rattle.fsfs_turn.proofs.Moments.{begins_itself}
 use Rattle.fsfs_turn.proofs.Moves.{Spares}
 use Rattle.fsfs_turn.proofs.TurnEnds.{at_other}
 use Rattle.fsfs_turn.specs.Found.{seen_within}
@@ -84,8 +84,8 @@ by_seen P v z less more = elim (nat_le z.pass.seen v.pass.seen) as (λ b. nat_le
 -- where the longer line begins with the shorter, it begins with both
 pub both_begin : (v z : SeatView) → Begins (longer v z) (shorter v z) → Begins (longer v z) v.seen × Begins (longer v z) z.seen
 both_begin v z = elim (nat_le z.pass.seen v.pass.seen) as (λ b. Begins (cond b v.seen z.seen) (cond b z.seen v.seen) → Begins (cond b v.seen z.seen) v.seen × Begins (cond b v.seen z.seen) z.seen) [
-  | true ↦ λ k. (itself v.seen, k)
-  | false ↦ λ k. (k, itself z.seen)
+  | true ↦ λ k. (begins_itself v.seen, k)
+  | false ↦ λ k. (k, begins_itself z.seen)
 ]
 
 -- ---- the state in which the first pass knows what both knew
@@ -166,7 +166,7 @@ module _ (first : SeatView) (views : List SeatView) (lock young : ℕ) (t : Trac
       (λ lt. subst (λ (l : List Recorded). Begins it.seen l) (sym sees.seen) (subst (λ (l : List Recorded). Begins l (take me.pass.seen w.history)) (sym knows.seen) (part_begins w.history me.pass.seen it.pass.seen (omega (arith, lt)))))
 
   join_leaves : Spares me.number w join_on
-  join_leaves = record { passes = λ q far. at_other w.passes me.number q (joined it.pass) far; count = length_at w.passes me.number (joined it.pass); grows = itself w.history; locks = λ q far. refl; still = λ q z far held. (refl, refl); floor = refl; given = λ k i. i }
+  join_leaves = record { passes = λ q far. at_other w.passes me.number q (joined it.pass) far; count = length_at w.passes me.number (joined it.pass); grows = begins_itself w.history; locks = λ q far. refl; still = λ q z far held. (refl, refl); floor = refl; given = λ k i. i }
 
   -- ---- what it has met
 

@@ -3,6 +3,7 @@ use Rattle.std.proofs.Common.{◌≡◌, List, true, false, refl, sym, ap, subst
 use Rattle.std.specs.Prelude.{Option, Some, None, Bool, Result, Ok, Err, OnOk, OnErr, IfOk, IfSome, is_some, not, option_map}
 use Rattle.std.specs.FinMap as finmap
 use Rattle.fsfs_base.specs.Files.{Files}
+use Rattle.fsfs_base.proofs.ResultLemmas.{none_of}
 use Rattle.fsfs_disk.specs.Labels.{Label}
 use Rattle.fsfs_disk.specs.Trace.{Trace, files_now, labels_now}
 use Rattle.fsfs_machine.specs.declared.machine.Went.{Went}
@@ -15,7 +16,6 @@ use Rattle.fsfs_pass.specs.Seats.{view_of}
 use Rattle.fsfs_pass.specs.Met.{seat_store, seat_labels}
 use Rattle.fsfs_pass.specs.Made.{went_of}
 use Rattle.fsfs_pass.specs.SeatCallsTells.{GivenBack}
-use Rattle.fsfs_pass.proofs.Going.{none_is}
 
 -- ---- what is told of the files
 
@@ -31,7 +31,7 @@ of_files u taken left P is same k = subst (λ o. IfSome (option_map files_now o)
 
 -- where the disk tells nothing no labels are met
 unmet : (v : SeatView) (taken : Option Trace) → v.told ≡ is_some taken → is_some v.met ≡ v.told → v.told ≡ false → option_map labels_now taken ≡ seat_labels v
-unmet v None told was free = sym (ap (λ o. option_map labels_now o) (none_is v.met (was ∙ free)))
+unmet v None told was free = sym (ap (λ o. option_map labels_now o) (none_of v.met (was ∙ free)))
 unmet v (Some t) told was free = let e : true ≡ false = sym told ∙ free in absurd cc
 
 module _ (v u : SeatView) (taken left : Option Trace) (told : v.told ≡ is_some taken) (was : is_some v.met ≡ v.told) (is : u.met ≡ left) where

@@ -13,7 +13,7 @@ use Rattle.fsfs_pass.specs.Met.{known_last, seat_store}
 use Rattle.fsfs_pass.specs.Tells.{TellsIt}
 use Rattle.fsfs_pass.specs.Passes.{is_sitting, reach_by, pass_store, KnowsIt, split_off, Joins}
 use Rattle.fsfs_pass.specs.PassLemmas.{pass_tells}
-use Rattle.fsfs_pass.proofs.Turning.{none_of}
+use Rattle.fsfs_base.proofs.ResultLemmas.{none_of}
 
 -- ---- a seat that was split
 

@@ -14,13 +14,14 @@ use Rattle.fsfs_disk.specs.Benches.{HasShortFiles}
 use Rattle.fsfs_disk.specs.Trace.{Trace, files_now}
 use Rattle.fsfs_layout.specs.declared.layout.Layout.{Layout}
 use Rattle.fsfs_base.specs.declared.place.DiskPlace.{DiskPlace}
+use Rattle.fsfs_base.proofs.ResultLemmas.{none_of}
 use Rattle.fsfs_machine.specs.declared.machine.Coming.{Coming}
 use Rattle.fsfs_machine.specs.declared.machine.Recorded.{Recorded}
 use Rattle.fsfs_machine.specs.declared.machine.Section.{Section}
 use Rattle.fsfs_machine.specs.declared.machine.Section.TheVariants.{CurrentFirm}
 use Rattle.fsfs_machine.specs.declared.machine.Lock.TheVariants.{Stuck}
 use Rattle.fsfs_machine.specs.Machine.{stuck_place}
-use Rattle.fsfs_machine.specs.Kept.{IsIn}
+use Rattle.fsfs_machine.specs.Kept.{IsIn, AreOnce}
 use Rattle.fsfs_machine.proofs.Answering.{seen_of}
 use Rattle.fsfs_turn.specs.Past.{doubt, Safe}
 use Rattle.fsfs_turn.specs.Standing.{IsStore}
@@ -38,7 +39,7 @@ use Rattle.fsfs_pass.specs.LockWords.{place_at, place_number}
 use Rattle.fsfs_pass.specs.Seats.{all_parts, view_of, look_view, lock_view, stuck_view, outside_view, reveal_view, reveal_in, is_left, IsSitting, Sits}
 use Rattle.fsfs_pass.specs.Causes.{HasLock}
 use Rattle.fsfs_pass.specs.Met.{seat_store}
-use Rattle.fsfs_pass.specs.Kinship.{numbers_of, AreOnce, branch_of, branches}
+use Rattle.fsfs_pass.specs.Kinship.{numbers_of, branch_of, branches}
 use Rattle.fsfs_pass.specs.Rule.{Seated, Placed, Store, HandIs, failures_in, bench_failures_in, Rule}
 use Rattle.fsfs_pass.specs.Tells.{Sat, TellsIt, looked, locked, CanGive, gave_lock, CanStick, stuck_it, CanReveal, revealed, IsOwn, IsMet, taken, given_back}
 use Rattle.fsfs_pass.proofs.Locks.{word_free, word_stuck}
@@ -61,10 +62,6 @@ above_one (suc (suc n)) not_zero not_one = omega arith
 pub short_told : (o : Option Trace) → ((t : Trace) → o ≡ Some t → HasShortFiles (files_now t)) → IfSome (option_map files_now o) HasShortFiles
 short_told None short = tt
 short_told (Some t) short = short t refl
-
-pub none_there : {A : Type 0} (o : Option A) → is_some o ≡ false → o ≡ None
-none_there None e = refl
-none_there (Some x) e = absurd cc
 
 -- it has some trace
 told_some : {A : Type 0} (o : Option A) → is_some o ≡ true → (x : A) × (o ≡ Some x)
@@ -143,7 +140,7 @@ module _ (began : DiskSeen) (first : SeatView) where
       by_told : (b : Bool) → me.0.told ≡ b → Later (seat_store me.0) (seat_store (look_view r.young r.disk.trace me.0))
       by_told true told = let t = trace_of s r id me.0 at (seat_stays me.0 sits) told in
           stores.later first s.views r.lock r.young t.0 (r.store t.0 t.1) id me.0 (at, sits) (look_view r.young r.disk.trace me.0) told t.1 refl (stores.looks_further first s.views r.lock r.young t.0 (r.store t.0 t.1) id me.0 (at, sits) told)
-      by_told false told = later_untold me.0 (look_view r.young r.disk.trace me.0) told (none_there me.0.met (r.met id me.0 at (seat_stays me.0 sits) ∙ sym (r.told id me.0 at (seat_stays me.0 sits)) ∙ told)) refl
+      by_told false told = later_untold me.0 (look_view r.young r.disk.trace me.0) told (none_of me.0.met (r.met id me.0 at (seat_stays me.0 sits) ∙ sym (r.told id me.0 at (seat_stays me.0 sits)) ∙ told)) refl
 
       tells_it : TellsIt (look_view r.young r.disk.trace me.0)
       tells_it = (
@@ -283,7 +280,7 @@ module _ (began : DiskSeen) (first : SeatView) where
 
       short_in : (b : Bool) → me.0.told ≡ b → IfSome (option_map files_now (reveal_in me.0.section r.disk.trace me.0).met) HasShortFiles
       short_in true told = subst (λ o. IfSome (option_map files_now o) HasShortFiles) (sym (met_there (may told).0 (may told).1)) (short_told r.disk.trace (λ t is. (r.store t is).short))
-      short_in false told = subst (λ o. IfSome (option_map files_now o) HasShortFiles) (sym (none_there (reveal_in me.0.section r.disk.trace me.0).met (met_in me.0.section ∙ sym (r.told id me.0 at (seat_stays me.0 sits)) ∙ told))) tt
+      short_in false told = subst (λ o. IfSome (option_map files_now o) HasShortFiles) (sym (none_of (reveal_in me.0.section r.disk.trace me.0).met (met_in me.0.section ∙ sym (r.told id me.0 at (seat_stays me.0 sits)) ∙ told))) tt
 
       tells_it : TellsIt (reveal_in me.0.section r.disk.trace me.0)
       tells_it = (
@@ -371,7 +368,7 @@ module _ (began : DiskSeen) (first : SeatView) where
             (λ (h : are_harmless me.0.pass.faults ≡ false). let no : true ≡ false = sym few ∙ h in absurd cc)
             (subst (λ (v : SeatView). HasLock r.lock v) same c.4)) k.causes.cause in (
               ap (λ l. doubt l) (word_free k.world.lock k.up (sym k.lock_is ∙ free)),
-              none_there me.0.pass.stuck (harmful_so (is_some me.0.pass.stuck) (λ is. absurd (let stuck = k.causes.found id me.0 at (seat_stays me.0 sits) is in omega (arith, stuck, free)))),
+              none_of me.0.pass.stuck (harmful_so (is_some me.0.pass.stuck) (λ is. absurd (let stuck = k.causes.found id me.0 at (seat_stays me.0 sits) is in omega (arith, stuck, free)))),
             );
         safe = subst (λ (y : Layout × (ℕ × ℕ)). Safe y.0 y.1.0 t y.1.1 k.world.floor k.world.history (doubt k.world.lock)) (λ i. (sym o.layout i, (sym o.since i, sym o.opened i))) k.safe;
         own = subst (λ (y : Layout × ℕ). OwnFilesLast y.0 y.1 (Some t)) (λ i. (sym o.layout i, sym o.since i)) k.own;
@@ -441,7 +438,7 @@ module _ (began : DiskSeen) (first : SeatView) where
       -- no other has all parts, where the disk tells
       alone_still : (j : ℕ) (z : SeatView) → j ≢ id → get_elem? s.views j ≡ some z → IsSitting z → z.kin.parts ≡ all_parts → (o : Option Trace) → r.disk.trace ≡ o → z.met ≡ d.trace
       alone_still j z apart e sits all None is =
-          none_there z.met (r.met j z e (seat_stays z sits) ∙ ap (λ o. is_some o) is) ∙ sym (none_there d.trace (sym is_told ∙ ap (λ o. is_some o) is))
+          none_of z.met (r.met j z e (seat_stays z sits) ∙ ap (λ o. is_some o) is) ∙ sym (none_of d.trace (sym is_told ∙ ap (λ o. is_some o) is))
       alone_still j z apart e sits all (Some x) is =
           absurd (apart (sym (only_one (branches s.views) (r.store x is).kin j (branch_of z) (map_there s.views j z e) all id (branch_of me) (map_there s.views id me at.0) (seat_stays me at.1))))
 

@@ -22,7 +22,7 @@ use Rattle.fsfs_turn.specs.Adoptions.{NeedsFolder}
 use Rattle.fsfs_turn.proofs.TurnEnds.{IsAfter, Comes}
 use Rattle.fsfs_turn.proofs.Due.{put_comes, rename_comes, firm_comes, folder_fails}
 use Rattle.fsfs_turn.proofs.Adopting.{adopt_fails}
-use Rattle.fsfs_turn.proofs.Alone.{harmless_before}
+use Rattle.fsfs_turn.proofs.Alone.{harmless_before, either_calm}
 use Rattle.fsfs_turn.proofs.OwnFiles.{due_spares}
 use Rattle.fsfs_disk.specs.Seen.{DiskSeen, IsLater}
 use Rattle.fsfs_pass.specs.declared.seat_view.SeatView.{SeatView}
@@ -34,7 +34,7 @@ use Rattle.fsfs_pass.proofs.Following.{lasts_same}
 use Rattle.fsfs_pass.proofs.Lasting.{due_passes}
 use Rattle.fsfs_pass.specs.Made.{Made, Ended, carried, failed_of, once}
 use Rattle.fsfs_pass.specs.SeatCallsTells.{CalledBy, Unmade, called_back, unmade_back}
-use Rattle.fsfs_pass.proofs.Doubting.{place_due, called_calm, either_calm}
+use Rattle.fsfs_pass.proofs.Doubting.{place_due, called_calm}
 use Rattle.fsfs_pass.proofs.FilesLast.{made_lasts, made_own}
 use Rattle.fsfs_pass.proofs.Going.{IsShort, StaysSure, after_more, Turn, gives_so}
 

@@ -39,7 +39,8 @@ use Rattle.fsfs_pass.proofs.Failures.{failed, bench_failed, sum_split, later_as}
 use Rattle.fsfs_pass.proofs.Accounts.{quiet_turn, causes_set}
 use Rattle.fsfs_pass.proofs.Others.{still_seen, reseated, at_less, there_at, none_past, left_apart, seated, replaced}
 use Rattle.fsfs_pass.proofs.Stores as stores
-use Rattle.fsfs_pass.proofs.Rules.{short_told, none_there, seat_stays, goes, trace_of}
+use Rattle.fsfs_pass.proofs.Rules.{short_told, seat_stays, goes, trace_of}
+use Rattle.fsfs_base.proofs.ResultLemmas.{none_of}
 
 -- ---- lists with one more
 
@@ -247,7 +248,7 @@ module _ (began : DiskSeen) (first : SeatView) where
     where
       -- half of the parts are never all
       halved_alone : v.kin.parts - v.kin.parts / 2 ≡ all_parts → (o : Option Trace) → r.disk.trace ≡ o → v.met ≡ r.disk.trace
-      halved_alone all None is = none_there v.met (r.met id v at (seat_stays v sits) ∙ ap (λ o. is_some o) is) ∙ sym is
+      halved_alone all None is = none_of v.met (r.met id v at (seat_stays v sits) ∙ ap (λ o. is_some o) is) ∙ sym is
       halved_alone all (Some t) is =
           let most = parts_most (branches s.views) (r.store t is).kin id (branch_of v) (map_there s.views id v at) in
           absurd (omega (arith, all, most, enough))
@@ -294,7 +295,7 @@ module _ (began : DiskSeen) (first : SeatView) where
           let mine : Met first.layout k.world t.0 me.0 p.met.0 = record { world = m.world; store = m.store; grown = m.grown; seen = m.seen; least = m.least; lasts = m.lasts } in
           later_now k.world t.0 p.met.0 me.0 (numbered_view id r.disk.trace me.0) (subst (λ l. Met l k.world t.0 me.0 p.met.0) (sym p.layout) mine) told p.met.1 t.1 refl
           (last_grows me.0 (numbered_view id r.disk.trace me.0) told told (omega arith) (omega arith))
-      by_told false told = later_untold me.0 (numbered_view id r.disk.trace me.0) told (none_there me.0.met (r.met id me.0 at stays ∙ sym (r.told id me.0 at stays) ∙ told)) refl
+      by_told false told = later_untold me.0 (numbered_view id r.disk.trace me.0) told (none_of me.0.met (r.met id me.0 at stays ∙ sym (r.told id me.0 at stays) ∙ told)) refl
 
       tells_it : TellsIt (numbered_view id r.disk.trace me.0)
       tells_it = (

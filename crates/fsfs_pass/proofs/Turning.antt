@@ -29,6 +29,7 @@ use Rattle.fsfs_pass.specs.Tells.{TellsIt}
 use Rattle.fsfs_pass.specs.SeatCallsTells.{IsBack, counting}
 use Rattle.fsfs_pass.specs.Passes.{Seating, is_sitting, sits_at, mounted_at, reach_by, pass_store, KnowsIt}
 use Rattle.fsfs_pass.specs.PassLemmas.{pass_tells}
+use Rattle.fsfs_base.proofs.ResultLemmas.{none_of}
 
 -- ---- the seat sits
 
@@ -85,10 +86,6 @@ pub known_empty : (first : Option Trace) (last : ℕ) (old new : SeatView) (v : 
 known_empty first last old new v k is = subst (λ z. KnowsIt first last z v) (sym is) (record { disk = k.disk; told = k.told; is = k.is; tells = k.tells })
 
 -- ---- what is told
-
-pub none_of : {X : Type 0} (o : Option X) → is_some o ≡ false → o ≡ None
-none_of None e = refl
-none_of (Some x) e = absurd cc
 
 later_by : (t s : Bool) (last now : ℕ) (v u : SeatView) → s ≡ t → last ≤ now → (t ≡ false → v.met ≡ None) → Later (seat_store v) (seat_store u)
     → Later (record (seat_store v) { reach = reach_by t last (known_last v) }) (record (seat_store u) { reach = reach_by s now (known_last u) })

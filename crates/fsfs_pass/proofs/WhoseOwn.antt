@@ -6,9 +6,9 @@ use lib.ListN.{get_elem?}
 use Rattle.fsfs_model.specs.Transactions.{Entry}
 use Rattle.fsfs_machine.specs.declared.machine.Pass.{Pass}
 use Rattle.fsfs_machine.specs.Machine.{World}
-use Rattle.fsfs_machine.specs.Kept.{carried_by, AreMine, AreOfPasses, Whose, IsIn}
+use Rattle.fsfs_machine.specs.Kept.{carried_by, AreMine, AreOfPasses, Whose, IsIn, AreOnce}
 use Rattle.fsfs_pass.specs.declared.seat_view.SeatView.{SeatView}
-use Rattle.fsfs_pass.specs.Kinship.{numbers_of, own_in, all_own, AreOnce}
+use Rattle.fsfs_pass.specs.Kinship.{numbers_of, own_in, all_own}
 use Rattle.fsfs_pass.specs.Tells.{IsOwn}
 use Rattle.fsfs_pass.proofs.AsMany.{one_pass}
 use Rattle.fsfs_pass.proofs.Kinships.{in_first, in_second, in_either, once_both}

@@ -2,7 +2,7 @@
 use Rattle.std.specs.Prelude.{◌≡◌, ◌+◌, ◌<◌, ℕ, List, [], ◌∷◌, ◌++◌, map, Bool, true, false}
 use mathlib.Core.Option.{some}
 use lib.ListN.{get_elem?}
-use Rattle.fsfs_machine.specs.Kept.{IsIn}
+use Rattle.fsfs_machine.specs.Kept.{IsIn, AreOnce}
 use Rattle.fsfs_pass.specs.declared.seat_view.SeatView.{SeatView}
 use Rattle.fsfs_pass.specs.Seats.{all_parts, is_left}
 
@@ -34,11 +34,6 @@ branches views = map (λ v. branch_of v) views
 abbrev pub parts_in : List Branch → ℕ
 parts_in [] = 0
 parts_in (b ∷ bs) = b.parts + parts_in bs
-
--- no number stands there twice
-abbrev pub AreOnce : List ℕ → Type 0
-AreOnce [] = Unit {0}
-AreOnce (x ∷ xs) = (IsIn x xs → ⊥) × AreOnce xs
 
 pub record Kinship (bs : List Branch) : Type 0 where
   pub total : parts_in bs ≡ all_parts

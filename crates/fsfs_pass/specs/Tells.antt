@@ -15,7 +15,7 @@ use Rattle.fsfs_turn.specs.Telling.{TellsSeen}
 use Rattle.fsfs_fetch.specs.Views.{Later}
 use Rattle.fsfs_machine.specs.declared.machine.Coming.{Coming}
 use Rattle.fsfs_machine.specs.declared.machine.Pass.{Pass}
-use Rattle.fsfs_machine.specs.Kept.{IsIn}
+use Rattle.fsfs_machine.specs.Kept.{IsIn, AreOnce}
 use Rattle.fsfs_machine.specs.declared.machine.Section.TheVariants.{CurrentFirm, Doubtful}
 use Rattle.fsfs_machine.specs.declared.machine.Step.TheVariants.{GiveLock, StickLock}
 use Rattle.fsfs_base.specs.declared.place.DiskPlace.{DiskPlace}
@@ -27,7 +27,7 @@ use Rattle.fsfs_pass.specs.declared.seat_view.Stage.TheVariants.{Joining}
 use Rattle.fsfs_pass.specs.declared.seat_view.SeatView.{SeatView}
 use Rattle.fsfs_pass.specs.LockWords.{place_at}
 use Rattle.fsfs_pass.specs.Met.{seat_store}
-use Rattle.fsfs_pass.specs.Kinship.{numbers_of, all_own, AreOnce}
+use Rattle.fsfs_pass.specs.Kinship.{numbers_of, all_own}
 use Rattle.fsfs_pass.specs.Seats.{all_parts, view_of, look_view, lock_view, stuck_view, outside_view, reveal_view, reveal_in, numbered_view, as_before, settled_view}
 
 abbrev pub Sat : Type 0

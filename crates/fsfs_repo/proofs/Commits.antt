@@ -1,5 +1,6 @@
 -- What the commit of a pass comes to.
 use Rattle.std.proofs.Common.{◌≡◌, ◌<◌, ◌≤◌, ℕ, List, Bool, false, refl, sym, subst, ◌∙◌, arith}
+use Rattle.std.proofs.lemmas.Result.{IfOk-weaker, IfErr-weaker}
 use Rattle.std.specs.Prelude.{Option, None, Result, Ok, Err, IfOk, IfErr, is_some}
 use Rattle.std.specs.FinMap.{get}
 use Rattle.fsfs_base.specs.Failures.{Rose}
@@ -25,7 +26,7 @@ use Rattle.fsfs_commit.specs.Works.{CanCommit}
 use Rattle.fsfs_commit.specs.Replies.{Cause, Committed, Moved, Refused, RoseIfDisk, UnlessDoubt}
 use Rattle.fsfs_commit.specs.declared.committing.CommitFault.{CommitFault}
 use Rattle.fsfs_commit.specs.declared.committing.CommitFault.TheVariants as faults
-use Rattle.fsfs_commit.proofs.Turning.{none_more, if_ok_then, if_err_then, committed_as}
+use Rattle.fsfs_commit.proofs.Turning.{none_more, committed_as}
 use Rattle.fsfs_commit.specs.Dating.{IsDatedAt}
 use Rattle.fsfs_commit.specs.Meaning.{IfTxn, IsTxnOf, Means}
 use Rattle.fsfs_commit.specs.Refusals.{IsClashAt, IsDiskFault, Refuses}
@@ -146,12 +147,12 @@ rose_before n a b later rose = omega (arith, later, rose)
 module _ (K : View → Type 0) (M : View → Txn → Type 0) (v : View) (x : Txn) where
   -- the same, of the properties by another name
   pub added_so : {E : Type 0} (p q : List (List ℕ × List ℕ)) (r : Result ℕ E) → q ≡ p → IfOk r (λ rev. (u : View) × (y : Txn) × K u × M u y × Committed rev q v u x y) → IfOk r (λ rev. (u : View) × (y : Txn) × K u × Committed rev p v u x y)
-  added_so p q r same w = if_ok_then r _ _ (λ rev a. (a.0, a.1, a.2, committed_as rev p q v a.0 x a.1 same a.4)) w
+  added_so p q r same w = IfOk-weaker r _ _ (λ rev a. (a.0, a.1, a.2, committed_as rev p q v a.0 x a.1 same a.4)) w
 
   -- of what is left of the draft
   pub left_so : {X : Type 0} (N : View → Txn → Type 0) (r : Result X (CommitFault CommitRefusal)) → ((u : View) (y : Txn) → M u y → N u y)
       → IfErr r (λ fault. (u : View) × (y : Txn) × K u × M u y × Refused Refuses fault v u x y) → IfErr r (λ fault. (u : View) × (y : Txn) × K u × Refused Refuses fault v u x y × N u y)
-  left_so N r f w = if_err_then r _ _ (λ fault a. (a.0, a.1, a.2, a.4, f a.0 a.1 a.3)) w
+  left_so N r f w = IfErr-weaker r _ _ (λ fault a. (a.0, a.1, a.2, a.4, f a.0 a.1 a.3)) w
 
   -- what is known behind it, whatever it answers: the pass is in no section, and knows the name to be given still
   pub known_then : (p : List (List ℕ × List ℕ)) (n : ℕ) (r : Result ℕ (CommitFault CommitRefusal)) → v.section ≡ None → IsIn x.name v.given → x.name ≡ n

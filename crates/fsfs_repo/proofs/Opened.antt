@@ -81,21 +81,9 @@ pub first_kin : (layout : Layout) (young : ℕ) (told : Option Trace) (v : SeatV
 first_kin layout young None v k = k.3
 first_kin layout young (Some t) v k = k.5
 
-pub first_met : (layout : Layout) (young : ℕ) (told : Option Trace) (v : SeatView) → IsFirst layout young told v → v.met ≡ told
-first_met layout young None v k = k.2
-first_met layout young (Some t) v k = k.4
-
 pub first_laid : (layout : Layout) (young : ℕ) (told : Option Trace) (v : SeatView) → IsFirst layout young told v → v.layout ≡ layout
 first_laid layout young None v k = k.4
 first_laid layout young (Some t) v k = k.6.3
-
-pub first_unfailed : (layout : Layout) (young : ℕ) (told : Option Trace) (v : SeatView) → IsFirst layout young told v → v.failures ≡ 0
-first_unfailed layout young None v k = k.5
-first_unfailed layout young (Some t) v k = k.9
-
-pub first_sound : (layout : Layout) (young : ℕ) (told : Option Trace) (v : SeatView) → IsFirst layout young told v → v.bench_failures ≡ 0
-first_sound layout young None v k = k.6
-first_sound layout young (Some t) v k = k.14
 
 -- behind a look the pass has seen what it had
 sees_on : (t : Trace) (young : ℕ) (met : Option Trace) (v : SeatView) → SeesAll t v → SeesAll t (look_view young met v)

@@ -6,14 +6,14 @@ use Rattle.fsfs_stands.specs.Files.{StandsFor}
 use Rattle.fsfs_machine.specs.declared.machine.Recorded.{Recorded}
 use Rattle.fsfs_machine.specs.declared.machine.Coming.{Coming}
 use Rattle.fsfs_machine.specs.Machine.{revisions}
-use Rattle.fsfs_machine.specs.Kept.{IsIn}
+use Rattle.fsfs_machine.specs.Kept.{IsIn, AreOnce}
 use Rattle.fsfs_turn.specs.Alone.{are_harmless}
 use Rattle.fsfs_turn.specs.Past.{IsPart}
 use Rattle.fsfs_turn.specs.Views.{Begins}
 use Rattle.fsfs_turn.specs.Whole.{HasHistory, HasRevision, NamesFrom}
 use Rattle.fsfs_pass.specs.declared.seat_view.SeatView.{SeatView}
 use Rattle.fsfs_pass.specs.Seats.{all_parts}
-use Rattle.fsfs_pass.specs.Kinship.{all_own, AreOnce}
+use Rattle.fsfs_pass.specs.Kinship.{all_own}
 
 -- There is one history, which begins with what the pass has seen. Each image of each moment since the opening, in the middle of a call too,
 -- stands for a first part of it, or for it with the one revision that `current` may name though it isn't revealed; and has all that there

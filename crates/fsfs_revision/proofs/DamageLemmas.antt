@@ -17,7 +17,7 @@ use Rattle.fsfs_revision.specs.Trailers.{EndsWith}
 use Rattle.fsfs_revision.specs.Nodes.{Holds, IsNodeAt, is_of_revision, is_ordered, is_own_place, is_directory, is_root}
 use Rattle.fsfs_revision.specs.Damages.{node_checks, NodeIn, trailer_checks, TrailerIn, root_checks, AsRoot, RootAt, RootIn}
 
-no_both : {A : Type 0} (b : Bool) → b ≡ true → b ≡ false → A
+pub no_both : {A : Type 0} (b : Bool) → b ≡ true → b ≡ false → A
 no_both b t f = let h : true ≡ false = sym t ∙ f in absurd cc
 
 -- what an error says, by what it is

@@ -130,7 +130,7 @@ taken = (
   ),
 )
 
-abbrev root_text : List ℕ
+abbrev pub root_text : List ℕ
 root_text = codes "id: 0.0.r0/17\ntype: dir\ncount: 0\ntext: 0 0 4 4 2d2977d1c96f487abe4a1e202dd03b4e\ncpath: /\n\n"
 
 root_is : IsNodeRev root_text root

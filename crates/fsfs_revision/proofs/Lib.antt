@@ -29,3 +29,4 @@ pub mod Sources
 pub mod Revisions
 pub mod Bounded
 pub mod BoundedIds
+pub mod PairLookups

@@ -1,5 +1,5 @@
 -- A representation in a revision's bytes: `PLAIN` and a newline, the text, `ENDREP` and a newline.
-use Rattle.std.specs.Prelude.{◌≡◌, ◌≢◌, ℕ, ◌+◌, List, [], ◌∷◌, take, drop, Option, Some, None, IfSome, unwrap_or, Result, codes}
+use Rattle.std.specs.Prelude.{◌≡◌, ◌≢◌, ℕ, ◌+◌, List, [], ◌∷◌, take, drop, Option, Some, None, IfSome, unwrap_or, Result, codes, ◌++◌}
 use Rattle.md5.specs.Md5.{md5}
 use Rattle.sha1.specs.Sha1.{sha1}
 use Rattle.fsfs_revision.specs.declared.damage.RevOffset.{RevOffset}
@@ -16,6 +16,10 @@ use Rattle.fsfs_noderev.specs.declared.rep.Rep.{Rep}
 use Rattle.fsfs_noderev.specs.declared.rep.Uniquifier.{Uniquifier}
 use Rattle.fsfs_revision.specs.declared.frame.TheConstants.{PLAIN_LEN}
 use Rattle.fsfs_revision.specs.Headers.{StandsAt, HasPlainLine, HasDeltaLine}
+
+-- a text with its header and its trailer
+abbrev pub framed_text : List ℕ → List ℕ
+framed_text text = codes "PLAIN\n" ++ (text ++ codes "ENDREP\n")
 
 -- the revision that it stands in
 abbrev pub rev_of : Rep → ℕ

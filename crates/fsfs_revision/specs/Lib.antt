@@ -26,3 +26,4 @@ pub mod TreeLaw
 pub mod CopyRoots
 pub mod Trees
 pub mod Bounded
+pub mod EntryRooms

@@ -56,7 +56,7 @@ pub use digester::Digester;
 pub use frame::{ENDREP_LEN, PLAIN_LEN};
 pub use laws::revisions_are_found_by_grammar;
 pub use mem_book::{MemBook, MemFile, MemRev};
-pub use node::{is_before, is_revision_id, read_node_at};
+pub use node::{is_before, is_revision_id, own_rev, read_node_at};
 pub use place::{bad_rep, rep_place};
 pub use rep_reader::RepReader;
 pub use root::{as_root, read_root};

@@ -1,15 +1,16 @@
 -- What is written stands on one line, which is not too long.
-use Rattle.std.proofs.Common.{◌≡◌, ◌<◌, ◌≤◌, ◌+◌, ◌^◌, ℕ, suc, Bool, true, false, cond, not, eqb, List, [], ◌∷◌, ◌++◌, length, Option, Some, None, refl, sym, ap, subst, ◌∙◌, arith}
-use Rattle.std.proofs.lemmas.Bool.{ne_eqb, ltb-false, leb-true, not-true}
+use Rattle.std.proofs.Common.{◌≡◌, ◌<◌, ◌≤◌, ◌+◌, ◌^◌, ℕ, suc, true, false, not, eqb, List, [], ◌∷◌, ◌++◌, length, Option, Some, None, refl, sym, ap, subst, ◌∙◌, arith}
+use Rattle.std.proofs.lemmas.Bool.{ne_eqb, leb-true, not-true, and_parts}
 use Rattle.std.proofs.lemmas.List.{length-append}
 use Rattle.std.proofs.lemmas.Fmt.{length-decimal-le}
 use Rattle.std.specs.Prelude.{decimal, codes, nat_lt, nat_le}
-use Rattle.std.specs.List.{AllByRecursion, position, position_or_len, list_all}
+use Rattle.std.specs.List.{list_all}
 use Rattle.fsfs_base.specs.Cuts.{Lacks}
 use Rattle.fsfs_base.proofs.CutLemmas.{lacks_from}
+use Rattle.fsfs_base.proofs.PathTextLemmas.{path_text_line}
 use Rattle.fsfs_base.specs.PropNames.{IsPropName}
-use Rattle.fsfs_base.specs.Paths.{Path, path_text, names_text}
-use Rattle.fsfs_base.specs.PathTexts.{IsPath, IsName, is_control}
+use Rattle.fsfs_base.specs.Paths.{Path, path_text}
+use Rattle.fsfs_base.specs.PathTexts.{is_control}
 use Rattle.fsfs_script.specs.Parts.{is_author}
 use Rattle.fsfs_script.specs.Texts.{CanPath, CanAuthor, CanBase, CanSay, CanOpen, base_text, said_text, opening_text}
 use Rattle.fsfs_script.specs.declared.edit.Edit.TheVariants as edits
@@ -19,7 +20,6 @@ use Rattle.fsfs_script.specs.declared.job_lines_lines.CommandLine.{CommandLine}
 use Rattle.fsfs_script.specs.declared.job_lines_lines.CommandLine.TheVariants as says
 use Rattle.fsfs_script.specs.declared.job_lines_lines.OpeningLine.{OpeningLine}
 use Rattle.fsfs_script.specs.declared.job_lines_lines.OpeningLine.TheVariants as openings
-use Rattle.fsfs_script.proofs.NameReadings.{both}
 use Rattle.fsfs_script.proofs.WordTexts.{decimal_lacks, name_lacks}
 use Rattle.fsfs_script.proofs.LinesAgain.{lacking}
 
@@ -37,35 +37,8 @@ within_space n b w = record { lacks = (refl, w.lacks); size = omega (arith, w.si
 pub within_less : (m n : ℕ) (a : List ℕ) → m ≤ n → IsWithin m a → IsWithin n a
 within_less m n a le w = record { lacks = w.lacks; size = omega (arith, le, w.size) }
 
--- no control byte, so no end of a line
-name_line : (name : List ℕ) → position is_control name ≡ None → Lacks 10 name
-name_line name e = go (nat_lt (position_or_len is_control name) (length name)) refl e
-  where
-    all : (xs : List ℕ) → length xs ≤ position_or_len is_control xs → Lacks 10 xs
-    all [] le = tt
-    all (b ∷ bs) le = here b bs (is_control b) refl le (all bs)
-      where
-        here : (b : ℕ) (bs : List ℕ) (t : Bool) → is_control b ≡ t → suc (length bs) ≤ cond (not t) (1 + position_or_len is_control bs) 0 → (length bs ≤ position_or_len is_control bs → Lacks 10 bs) → Lacks 10 (b ∷ bs)
-        here b bs true is le more = absurd (omega (arith, le))
-        here b bs false is le more = (ne_eqb b 10 (λ same. clash (sym (ap is_control same) ∙ is)), more (omega (arith, le)))
-          where
-            clash : true ≡ false → ⊥
-            clash e = cc
-
-    go : (t : Bool) → nat_lt (position_or_len is_control name) (length name) ≡ t → cond t (Some (position_or_len is_control name)) None ≡ None → Lacks 10 name
-    go true is e = absurd cc
-    go false is e = all name (ltb-false _ _ is)
-
-names_line : (p : Path) → AllByRecursion IsName p → Lacks 10 (names_text p)
-names_line [] all = tt
-names_line (x ∷ p) all = (refl, lacks_from 10 x (names_text p) (name_line x all.0.no_control) (names_line p all.1))
-
-path_line : (p : Path) → IsPath p → Lacks 10 (path_text p)
-path_line [] w = (refl, tt)
-path_line (x ∷ p) w = names_line (x ∷ p) w.names
-
 pub path_within : (p : Path) → CanPath p → IsWithin 4096 (path_text p)
-path_within p can = record { lacks = path_line p can.path_is; size = can.path_is.fits }
+path_within p can = record { lacks = path_text_line p can.path_is; size = can.path_is.fits }
 
 decimal_within : (n : ℕ) → n < 2 ^ 64 → IsWithin 20 (decimal n)
 decimal_within n lt = record { lacks = decimal_lacks 10 n (omega arith) lt; size = length-decimal-le 20 n (omega arith) (omega (arith, lt)) lt }
@@ -80,7 +53,7 @@ name_within name is = record { lacks = name_lacks 10 refl name is; size = name_s
 no_control_line : (text : List ℕ) → list_all (λ b. not (is_control b)) text ≡ true → Lacks 10 text
 no_control_line [] e = tt
 no_control_line (b ∷ bs) e =
-    let p = both (not (is_control b)) (list_all (λ b. not (is_control b)) bs) e in
+    let p = and_parts (not (is_control b)) (list_all (λ b. not (is_control b)) bs) e in
     (ne_eqb b 10 (λ same. clash (sym (ap (λ c. not (is_control c)) same) ∙ p.0)), no_control_line bs p.1)
   where
     clash : false ≡ true → ⊥
@@ -88,8 +61,8 @@ no_control_line (b ∷ bs) e =
 
 author_within : (name : List ℕ) → CanAuthor name → IsWithin 255 name
 author_within name can =
-    let p = both (nat_lt 0 (length name)) _ can.0 in
-    let q = both (nat_le (length name) 255) _ p.1 in
+    let p = and_parts (nat_lt 0 (length name)) _ can.0 in
+    let q = and_parts (nat_le (length name) 255) _ p.1 in
     record { lacks = no_control_line name q.1; size = leb-true (length name) 255 q.0 }
 
 word_within : (n : ℕ) (word : List ℕ) → list_all (λ b. not (eqb b 10)) word ≡ true → length word ≤ n → IsWithin n word

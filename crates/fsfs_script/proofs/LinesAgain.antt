@@ -1,6 +1,6 @@
 -- What is written is read.
 use Rattle.std.proofs.Common.{◌≡◌, ◌≢◌, ◌<◌, ◌≤◌, ◌^◌, ℕ, Bool, true, false, not, eqb, ltb, cond, List, [], ◌∷◌, ◌++◌, length, Option, Some, None, refl, sym, ap, subst, ◌∙◌, arith}
-use Rattle.std.proofs.lemmas.Bool.{ltb-true}
+use Rattle.std.proofs.lemmas.Bool.{ltb-true, and_parts}
 use Rattle.std.proofs.lemmas.List.{append-nil}
 use Rattle.std.proofs.lemmas.List.Elements.{All-nil, All-cons}
 use Rattle.std.proofs.lemmas.Str.{is_utf8-from_IsUtf8, IsUtf8-from_ascii}
@@ -26,7 +26,6 @@ use Rattle.fsfs_script.specs.declared.verbs.Verb.{Verb}
 use Rattle.fsfs_script.specs.declared.verbs.Verb.TheVariants as verb
 use Rattle.fsfs_script.specs.declared.verbs.Stage.{Stage}
 use Rattle.fsfs_script.specs.declared.verbs.Stage.TheVariants.{AfterJob, AfterAuthor, InEdits}
-use Rattle.fsfs_script.proofs.NameReadings.{both}
 use Rattle.fsfs_script.proofs.WordTexts.{tail, split_last, split_more, number_again, length_again, path_at_again, name_at_again, name_lacks, decimal_lacks}
 use Rattle.fsfs_script.proofs.LineTexts.{verb_word}
 
@@ -34,7 +33,7 @@ use Rattle.fsfs_script.proofs.LineTexts.{verb_word}
 
 pub lacking : (c : ℕ) (text : List ℕ) → list_all (λ b. not (eqb b c)) text ≡ true → Lacks c text
 lacking c [] e = tt
-lacking c (b ∷ bs) e = let p = both (not (eqb b c)) (list_all (λ b. not (eqb b c)) bs) e in (other (eqb b c) p.0, lacking c bs p.1)
+lacking c (b ∷ bs) e = let p = and_parts (not (eqb b c)) (list_all (λ b. not (eqb b c)) bs) e in (other (eqb b c) p.0, lacking c bs p.1)
   where
     other : (t : Bool) → not t ≡ true → t ≡ false
     other true e = absurd cc
@@ -45,7 +44,7 @@ plain_utf8 text e = is_utf8-from_IsUtf8 text (IsUtf8-from_ascii text (IsAscii-fr
   where
     go : (text : List ℕ) → list_all (λ b. ltb b 128) text ≡ true → All (λ b. b < 128) text
     go [] e = All-nil (λ b. b < 128)
-    go (b ∷ bs) e = let p = both (ltb b 128) (list_all (λ b. ltb b 128) bs) e in All-cons (λ b. b < 128) b bs (ltb-true b 128 p.0) (go bs p.1)
+    go (b ∷ bs) e = let p = and_parts (ltb b 128) (list_all (λ b. ltb b 128) bs) e in All-cons (λ b. b < 128) b bs (ltb-true b 128 p.0) (go bs p.1)
 
 verb_plain : (v : Verb) → (list_all (λ b. not (eqb b 32)) (verb_word v) ≡ true) × (list_all (λ b. ltb b 128) (verb_word v) ≡ true)
 verb_plain verb.Author = (refl, refl)

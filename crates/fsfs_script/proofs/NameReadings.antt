@@ -1,6 +1,6 @@
 -- The tests of names say what the rules say.
 use Rattle.std.proofs.Common.{◌≡◌, ◌<◌, ℕ, Bool, true, false, ◌&&◌, ltb, List, [], ◌∷◌, length, Option, Some, None, refl, sym, ap, arith}
-use Rattle.std.proofs.lemmas.Bool.{ltb-true, lt-ltb}
+use Rattle.std.proofs.lemmas.Bool.{ltb-true, lt-ltb, and_parts}
 use Rattle.std.specs.List.{AllByRecursion, list_all}
 use Rattle.std.proofs.lemmas.Str.{is_utf8-from_IsUtf8, IsUtf8-from_is_utf8}
 use Rattle.std.specs.Prelude.{Ok, Err}
@@ -11,14 +11,9 @@ use Rattle.fsfs_script.specs.declared.refusal.Why.TheVariants as why
 use Rattle.fsfs_base.specs.PropNames.{begins_name, continues_name, IsPropName}
 use Rattle.fsfs_script.specs.Parts.{is_prop_name, name_of}
 
-pub both : (a b : Bool) → (a && b) ≡ true → (a ≡ true) × (b ≡ true)
-both true true e = (refl, refl)
-both true false e = absurd cc
-both false b e = absurd cc
-
 all_continue : (cs : List ℕ) → list_all continues_name cs ≡ true → AllByRecursion (λ d. continues_name d ≡ true) cs
 all_continue [] e = tt
-all_continue (c ∷ cs) e = let p = both (continues_name c) (list_all continues_name cs) e in (p.0, all_continue cs p.1)
+all_continue (c ∷ cs) e = let p = and_parts (continues_name c) (list_all continues_name cs) e in (p.0, all_continue cs p.1)
 
 all_tested : (cs : List ℕ) → AllByRecursion (λ d. continues_name d ≡ true) cs → list_all continues_name cs ≡ true
 all_tested [] all = refl
@@ -31,8 +26,8 @@ name_tested (c ∷ cs) is = rw (is.0, all_tested cs is.1, lt-ltb (length cs) 255
 pub name_passes : (word : List ℕ) → is_prop_name word ≡ true → IsPropName word
 name_passes [] e = absurd cc
 name_passes (c ∷ cs) e =
-    let p = both (begins_name c) (list_all continues_name cs && ltb (length cs) 255) e in
-    let q = both (list_all continues_name cs) (ltb (length cs) 255) p.1 in
+    let p = and_parts (begins_name c) (list_all continues_name cs && ltb (length cs) 255) e in
+    let q = and_parts (list_all continues_name cs) (ltb (length cs) 255) p.1 in
     (p.0, all_continue cs q.0, ltb-true (length cs) 255 q.1)
 
 pub name_again : (word : List ℕ) → IsPropName word → Some word ≡ name_of word

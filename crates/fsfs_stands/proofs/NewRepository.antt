@@ -33,8 +33,8 @@ zero_line = record { digits = codes "0"; numeral = zero_digit; fits = omega arit
 pub zero_line36 : IsNumber 36 170581728179578208255 10 (codes "0\n") 0
 zero_line36 = record { digits = codes "0"; numeral = zero_digit36; fits = omega arith; parts = refl }
 
-format_is : (n : ℕ) → 1 ≤ n → n ≤ 2147483647 → IsFormat (format_text n) (Sharded n)
-format_is n one most =
+pub new_format : (n : ℕ) → 1 ≤ n → n ≤ 2147483647 → IsFormat (format_text n) (Sharded n)
+new_format n one most =
     let number : IsNumber 10 18446744073709551615 10 (decimal n ++ 10 ∷ []) n =
     record { digits = decimal n; numeral = (decimal_plain 2147483647 n most (omega (arith, most))).0; fits = omega (arith, most); parts = refl } in
     our_format (codes "4\n") (format_text n) (Sharded n) refl
@@ -78,7 +78,7 @@ new_repositories_stand files date w =
     record {
       opened = record { uuid = w.identifier; layout = n; youngest = 0; min_unpacked_rev = 0; next_txn = record { number = 0; small = omega arith } };
       small = record {
-        format = (format_text n.shard_size, record { there = h.1.1.1.1.1.1.1.1.1.1.0; fs_type = ap (λ (o : Option (List ℕ)). unwrap_or o []) h.1.0 }, format_is n.shard_size (omega (arith, n.some)) n.most);
+        format = (format_text n.shard_size, record { there = h.1.1.1.1.1.1.1.1.1.1.0; fs_type = ap (λ (o : Option (List ℕ)). unwrap_or o []) h.1.0 }, new_format n.shard_size (omega (arith, n.some)) n.most);
         behind = record {
           uuid = says files (codes "db/uuid") uuid_text IsUuid w.identifier h.1.1.0 (uuid_line w.identifier uuid_text w.characters w.one_line refl);
           youngest = says files (codes "db/current") (codes "0\n") IsRevLine 0 h.1.1.1.0 zero_line;

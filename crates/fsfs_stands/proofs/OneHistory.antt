@@ -6,6 +6,7 @@ use Rattle.std.specs.FinMap.{FinMap, get}
 use Rattle.fsfs_base.specs.Paths.{Path, path_cmp}
 use Rattle.fsfs_tree.specs.Revisions.{Revision}
 use Rattle.fsfs_base.specs.declared.kind.Kind.{Kind}
+use Rattle.fsfs_base.proofs.ResultLemmas.{not_none}
 use Rattle.fsfs_tree.specs.declared.change_map.Change.{Change}
 use Rattle.fsfs_revision.specs.Told.{RevisionBytes}
 use Rattle.fsfs_revision.specs.declared.wrong.Refusal.{Refusal}
@@ -28,9 +29,6 @@ use Rattle.fsfs_revision.specs.RevBytes.{rev_bytes, props_bytes}
 use Rattle.fsfs_stands.specs.Changes.{HasItems, IsKindOf, Said, Named, There, NotThere, IsChangeOf, AreChangesOf}
 use Rattle.fsfs_stands.specs.History.{ShowsRevision, ShowsHistory}
 use Rattle.fsfs_stands.specs.Same.{AreSame, OneHistoryIsShown, OneHistoryIsStoodFor}
-
-no_both : {A B : Type 0} (o : Option A) (x : A) → o ≡ Some x → o ≡ None → B
-no_both o x e f = let g = sym e ∙ f in absurd cc
 
 -- ---- the items
 
@@ -56,18 +54,18 @@ has_items_one bytes a b v w =
 
 kind_one : {look : RevisionBytes} {r : ℕ} {item : ChangeItem} {a b : Kind} → IsKindOf look r item a → IsKindOf look r item b → a ≡ b
 kind_one (Said k e) (Said l f) = same_Some k l (sym e ∙ f)
-kind_one {item = item} (Said k e) (Named u f i l o) = no_both item.kind k e f
-kind_one {item = item} (Said k e) (There v f i o) = no_both item.kind k e f
-kind_one {item = item} (Said k e) (NotThere f i o) = no_both item.kind k e f
-kind_one {item = item} (Named u f i l o) (Said k e) = no_both item.kind k e f
+kind_one {item = item} (Said k e) (Named u f i l o) = not_none item.kind k e f
+kind_one {item = item} (Said k e) (There v f i o) = not_none item.kind k e f
+kind_one {item = item} (Said k e) (NotThere f i o) = not_none item.kind k e f
+kind_one {item = item} (Named u f i l o) (Said k e) = not_none item.kind k e f
 kind_one {look} {item = item} (Named u e h l o) (Named v f i m p) = ap (λ (x : NodeRev). x.kind) (ok_same u v (of_id_one look item.id (Ok u) (Ok v) o p))
 kind_one (Named u e h l o) (There v f i p) = let g : true ≡ false = sym h ∙ i in absurd cc
 kind_one (Named u e h l o) (NotThere f i p) = let g : true ≡ false = sym h ∙ i in absurd cc
-kind_one {item = item} (There u f i o) (Said k e) = no_both item.kind k e f
+kind_one {item = item} (There u f i o) (Said k e) = not_none item.kind k e f
 kind_one (There u e h o) (Named v f i l p) = let g : true ≡ false = sym i ∙ h in absurd cc
 kind_one {look} {r} {item} (There u e h o) (There v f i p) = ap (λ (x : NodeRev). x.kind) (stands_same look r item.path u v o p)
 kind_one (There u e h o) (NotThere f i p) = absurd (p u o)
-kind_one {item = item} (NotThere f i o) (Said k e) = no_both item.kind k e f
+kind_one {item = item} (NotThere f i o) (Said k e) = not_none item.kind k e f
 kind_one (NotThere e h o) (Named v f i l p) = let g : true ≡ false = sym i ∙ h in absurd cc
 kind_one (NotThere e h o) (There v f i p) = absurd (o v p)
 kind_one (NotThere e h o) (NotThere f i p) = refl

@@ -3,6 +3,7 @@ use Rattle.std.proofs.Common.{◌≡◌, ◌⊎◌, ℕ, Bool, List, inl, inr, �
 use Rattle.std.specs.Prelude.{Option, Some, None, option_map, Result}
 use Rattle.fsfs_base.specs.Failures.{Rose}
 use Rattle.fsfs_disk.specs.Trace.{Trace, labels_now}
+use Rattle.fsfs_disk.specs.Removals.{HasSameLabels}
 use Rattle.fsfs_cli.specs.Readings.{Asks}
 use Rattle.fsfs_cli.specs.declared.request.Task.TheVariants.{RunJobs}
 use Rattle.fsfs_cli.specs.declared.tool.Tool.TheVariants.{Jobs}
@@ -13,7 +14,6 @@ use Rattle.fsfs_workers.proofs.ListedLemmas.{none_begun, none_is_left}
 use Rattle.fsfs_workers.specs.Runs.{RunScene, RunsScript, NotOpened, NotRead, NoRoom, Done}
 use Rattle.fsfs_top.specs.Scenes.{Scene, SourceScene}
 use Rattle.fsfs_top.specs.Scripts.{DidJobs, ListsNoOther, RunsAt, run_scene}
-use Rattle.fsfs_top.specs.Transactions.{HasSameLabels}
 use Rattle.fsfs_top.proofs.CreationTold.{path_cases}
 use Rattle.fsfs_top.proofs.TxnsTold.{labels_firm}
 

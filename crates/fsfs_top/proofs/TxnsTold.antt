@@ -3,12 +3,11 @@ use Rattle.std.proofs.Common.{◌≡◌, ℕ, List, [], ◌∷◌, take, Bool, t
 use Rattle.std.proofs.lemmas.Option.{same_Some, none-some}
 use Rattle.std.specs.Prelude.{◌||◌, Option, Some, None, IfSome, IfErr, option_map, Result, Ok, Err}
 use Rattle.fsfs_base.specs.Failures.{Rose}
-use Rattle.fsfs_base.specs.Files.{Files}
 use Rattle.fsfs_disk.specs.Labels.{Label, Txn, Pack, HotCopy, has_label, without_label}
 use Rattle.fsfs_disk.specs.Trace.{Trace, FirmNames, Done, Attempted, add_operation, files_now, labels_now, FailsAt}
 use Rattle.fsfs_disk.specs.Crash.{AllImages, AreAll, Leaves, LeavesBoth}
 use Rattle.fsfs_disk.proofs.CrashLemmas.{keeps_firm, leaves_then, leaves_with, own_images, same_leaves}
-use Rattle.fsfs_disk.proofs.LeftLemmas.{amid_same, both_then, keeps_labels_at, same_both}
+use Rattle.fsfs_disk.proofs.LeftLemmas.{amid_same, both_then, keeps_labels_at, same_both, both_with}
 use Rattle.fsfs_layout.specs.Opening.{small_texts, IsOpened}
 use Rattle.fsfs_layout.specs.declared.opened.Opened.{Opened}
 use Rattle.fsfs_cli.specs.FaultsFaults.{fault_from_open}
@@ -18,14 +17,14 @@ use Rattle.fsfs_base.specs.declared.open_fault.OpenFault.TheVariants as opening
 use Rattle.fsfs_create.specs.OpenFaults.{OpensBecause}
 use Rattle.fsfs_create.specs.Deciding.{Decides}
 use Rattle.fsfs_disk.specs.Txns.{txn_label, AreTxns}
-use Rattle.fsfs_disk.specs.Removals.{first_lacking, labels_left, HasLabels, IfFailed, IsImageOf, Removes, WasKept}
+use Rattle.fsfs_disk.specs.Removals.{first_lacking, labels_left, HasLabels, IfFailed, IsImageOf, Removes, WasKept, HasSameLabels}
 use Rattle.fsfs_disk.proofs.InTurn.{old_kept}
 use Rattle.fsfs_disk.specs.declared.removing.RemovalFault.{RemovalFault}
 use Rattle.fsfs_disk.specs.declared.removing.RemovalFault.TheVariants.{NoTxn, Failed}
 use Rattle.fsfs_top.specs.TxnAnswers.{same_txn, has_txn, without_txn, first_missing}
 use Rattle.fsfs_top.specs.Looks.{OpensAs, DoesNotOpen}
 use Rattle.fsfs_top.specs.Scenes.{HostScene, Scene, SinkScene}
-use Rattle.fsfs_top.specs.Transactions.{txns_of, Lists, ListsOpened, ListsTxns, HasSameLabels, removal_fault, IfRemovalFails, RemovesOpened, RemovesTxns, LeavesRemoval}
+use Rattle.fsfs_top.specs.Transactions.{txns_of, Lists, ListsOpened, ListsTxns, removal_fault, IfRemovalFails, RemovesOpened, RemovesTxns, LeavesRemoval}
 use Rattle.fsfs_top.proofs.CreationTold.{path_cases}
 use Rattle.fsfs_top.proofs.FilesDecide.{does_not_open}
 use Rattle.fsfs_top.proofs.LooksPrint.{counted_cause}
@@ -128,11 +127,6 @@ removes_told rose repos txns a b old new fault was is counted removes =
     recounted (inr (o, opens, (result, r, e, fails))) = inr (o, opens, (result, r, e, counted_removal rose (Rose a.disk_faults b.disk_faults) result counted fails))
 
 -- ---- what a crash leaves
-
-both_with : (a b : Option Trace) (P Q : Files → List Label → Type 0) → ((m : Files) (ls : List Label) → P m ls → Q m ls) → LeavesBoth a b P → LeavesBoth a b Q
-both_with None b P Q h f = tt
-both_with (Some t) None P Q h f = f
-both_with (Some t) (Some u) P Q h f = record { later = f.later; each = λ n m ls le left. ⊎_elim (λ l. inl l) (λ p. inr (h m ls p)) (f.each n m ls le left) }
 
 images_over : (old mid new : Option Trace) → AllImages mid (IsImageOf old) → Leaves mid new (IsImageOf mid) → Leaves mid new (IsImageOf old)
 images_over old None new all leaves = tt

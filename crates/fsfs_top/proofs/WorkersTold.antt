@@ -1,25 +1,13 @@
 -- What a run tells of its disk's counts of faults, told of the host's.
 use Rattle.std.proofs.Common.{◌≡◌, ℕ, Bool, inl, inr, arith}
-use Rattle.std.specs.Prelude.{Option, Result}
+use Rattle.std.specs.Prelude.{Result}
 use Rattle.fsfs_base.specs.Failures.{added_count}
-use Rattle.fsfs_disk.specs.Trace.{Trace}
 use Rattle.fsfs_workers.specs.Lines.{RoseBy}
 use Rattle.fsfs_cli.specs.declared.faults_fault.Fault.{Fault}
-use Rattle.fsfs_base.specs.declared.open_fault.OpenFault.{OpenFault}
-use Rattle.fsfs_base.specs.declared.open_fault.OpenFault.TheVariants.{NotRepo, OtherFormat, Linear, Small, DiskFault, Memory}
-use Rattle.fsfs_create.specs.OpenFaults.{OpensBecause}
 use Rattle.fsfs_workers.specs.Runs.{RunScene}
-use Rattle.fsfs_workers.proofs.RunLemmas.{runs_weaker}
+use Rattle.fsfs_workers.proofs.RunLemmas.{runs_weaker, opens_weaker}
 use Rattle.fsfs_workers.specs.ByWorkers.{RunsBeside, NotOpened, NotRead, NoRoom, Done, Lost, scene_where}
 use Rattle.fsfs_top.specs.Scripts.{RunsBy}
-
-opens_weaker : {D E : Type 0} (told : Option Trace) (why : OpenFault) → (D → E) → OpensBecause D told why → OpensBecause E told why
-opens_weaker told NotRepo f because = because
-opens_weaker told (OtherFormat number) f because = because
-opens_weaker told Linear f because = because
-opens_weaker told (Small fault) f because = because
-opens_weaker told (DiskFault at) f because = (f because.0, because.1)
-opens_weaker told Memory f because = tt
 
 -- what the disk of a host counted, the host counts as it takes the disk back
 pub by_host : (n before after old new : ℕ) → before ≡ 0 → new ≡ added_count old after → RoseBy n before after → RoseBy n old new

@@ -1,5 +1,5 @@
 -- The listing of transactions and their removal: what they print and do, and why not.
-use Rattle.std.specs.Prelude.{◌≡◌, ◌⊎◌, ℕ, List, [], ◌∷◌, Option, Some, None, IfSome, option_map, Result, Ok, Err}
+use Rattle.std.specs.Prelude.{◌≡◌, ◌⊎◌, ℕ, List, [], ◌∷◌, Option, Some, None, IfSome, Result, Ok, Err}
 use Rattle.fsfs_base.specs.Failures.{Rose}
 use Rattle.fsfs_disk.specs.Labels.{Label, Txn, Pack, HotCopy}
 use Rattle.fsfs_disk.specs.Crash.{AreAll, Leaves, LeavesBoth}
@@ -14,7 +14,7 @@ use Rattle.fsfs_layout.specs.declared.opened.Opened.{Opened}
 use Rattle.fsfs_base.specs.declared.open_fault.OpenFault.{OpenFault}
 use Rattle.fsfs_base.specs.declared.place.DiskPlace.TheVariants as place
 use Rattle.fsfs_disk.specs.Txns.{AreTxns}
-use Rattle.fsfs_disk.specs.Removals.{IsImageOf, Removes, WasKept}
+use Rattle.fsfs_disk.specs.Removals.{IsImageOf, Removes, WasKept, HasSameLabels}
 use Rattle.fsfs_disk.specs.declared.removing.RemovalFault.{RemovalFault}
 use Rattle.fsfs_disk.specs.declared.removing.RemovalFault.TheVariants.{NoTxn, Failed}
 use Rattle.fsfs_top.specs.TxnAnswers.{names_text}
@@ -55,9 +55,6 @@ ListsTxns repos a b fault =
     ⊎ ((o : Opened) × OpensAs (a.host.disk_at repos) o × Lists (Rose a.host.disk_faults b.host.disk_faults) (a.host.disk_at repos) a.out b.out fault)
 
 -- ---- a removal
-
-abbrev pub HasSameLabels : Option Trace → Option Trace → Type 0
-HasSameLabels old new = option_map labels_now new ≡ option_map labels_now old
 
 -- the fault of a removal that ended so
 abbrev pub removal_fault : Result (Unit {0}) RemovalFault → Option Fault

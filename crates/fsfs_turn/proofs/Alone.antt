@@ -78,19 +78,19 @@ harmless_before After places place e = (harmless_end places place e).0
 harmless_before (Torn any) places place e = (harmless_end places place e).0
 
 -- a section that went on is not in doubt
-after_sound : (s : Section) → is_doubtful (after s) ≡ false
-after_sound Begun = refl
-after_sound (CountRead x) = refl
-after_sound (CountPut x) = refl
-after_sound (CountRenamed x) = refl
-after_sound (RevPut x) = refl
-after_sound (PropsPut x) = refl
-after_sound (RevFirm x) = refl
-after_sound (CurrentPut x) = refl
-after_sound (CurrentRenamed x) = refl
-after_sound (CurrentFirm x) = refl
-after_sound (Doubtful place x) = refl
-after_sound Over = refl
+pub after_calm : (s : Section) → is_doubtful (after s) ≡ false
+after_calm Begun = refl
+after_calm (CountRead x) = refl
+after_calm (CountPut x) = refl
+after_calm (CountRenamed x) = refl
+after_calm (RevPut x) = refl
+after_calm (PropsPut x) = refl
+after_calm (RevFirm x) = refl
+after_calm (CurrentPut x) = refl
+after_calm (CurrentRenamed x) = refl
+after_calm (CurrentFirm x) = refl
+after_calm (Doubtful place x) = refl
+after_calm Over = refl
 
 spoiled_sound : (s : Section) (place : DiskPlace) → (is_doubtful (spoiled s) ≡ true → brings_doubt place ≡ true) → brings_doubt place ≡ false → is_doubtful (spoiled s) ≡ false
 spoiled_sound s place brings not = by_test (is_doubtful (spoiled s)) brings
@@ -101,16 +101,16 @@ spoiled_sound s place brings not = by_test (is_doubtful (spoiled s)) brings
 
 called_sound : (went : Went) (s : Section) (places : List DiskPlace) (place : DiskPlace) → (is_doubtful (spoiled s) ≡ true → brings_doubt place ≡ true)
     → are_harmless (either went places (places ++ place ∷ [])) ≡ true → is_doubtful (either went (after s) (spoiled s)) ≡ false
-called_sound Fine s places place brings e = after_sound s
+called_sound Fine s places place brings e = after_calm s
 called_sound Before s places place brings e = spoiled_sound s place brings (harmless_end places place e).1
 called_sound After s places place brings e = spoiled_sound s place brings (harmless_end places place e).1
 called_sound (Torn any) s places place brings e = spoiled_sound s place brings (harmless_end places place e).1
 
-either_sound : (went : Went) (s t : Section) → is_doubtful s ≡ false → is_doubtful t ≡ false → is_doubtful (either went s t) ≡ false
-either_sound Fine s t a b = a
-either_sound Before s t a b = b
-either_sound After s t a b = b
-either_sound (Torn any) s t a b = b
+pub either_calm : (went : Went) (s t : Section) → is_doubtful s ≡ false → is_doubtful t ≡ false → is_doubtful (either went s t) ≡ false
+either_calm Fine s t a b = a
+either_calm Before s t a b = b
+either_calm After s t a b = b
+either_calm (Torn any) s t a b = b
 
 same_section : (s t : Section) → Some s ≡ Some t → s ≡ t
 same_section s t e = cc
@@ -169,8 +169,8 @@ pub seen_bound : (layout : Layout) (young : ℕ) (stuck : Option DiskPlace) (tol
 seen_bound layout young stuck None v known = absurd known
 seen_bound layout young stuck (Some t) v known = let up : known.0.young + 1 ≡ length known.0.history = known.1.kept.young known.2.up in omega (arith, up, seen_within known.0 v known.2, known.1.young_is)
 
-longer : (h g : List Recorded) → Begins g h → length h ≤ length g
-longer h g b = let long : length g ≡ length h + length b.0 = ap length b.1 ∙ length-append h b.0 in omega (arith, long)
+pub no_shorter : (h g : List Recorded) → Begins g h → length h ≤ length g
+no_shorter h g b = let long : length g ≡ length h + length b.0 = ap length b.1 ∙ length-append h b.0 in omega (arith, long)
 
 -- what the pass knows after a turn
 module _ (layout : Layout) (young : ℕ) (stuck : Option DiskPlace) (old new : Option Trace) (goes : GoesOn old new) (v : View) (known : KnowsAlone layout young stuck old v) where
@@ -194,7 +194,7 @@ module _ (layout : Layout) (young : ℕ) (stuck : Option DiskPlace) (old new : O
       → (are_harmless (either went v.pass.faults (v.pass.faults ++ place ∷ [])) ≡ true → is_doubtful_at v.section ≡ false → is_doubtful_at u.section ≡ false) → KnowsAlone layout young stuck new u
   learned place went u now grows opened since mine found faults sound =
       let same : are_harmless u.pass.faults ≡ are_harmless (either went v.pass.faults (v.pass.faults ++ place ∷ [])) = ap (λ l. are_harmless l) faults in
-      then_known u now (omega (arith, known.1.all, seen_bound layout young stuck new u now, longer v.seen u.seen grows)) opened since mine found
+      then_known u now (omega (arith, known.1.all, seen_bound layout young stuck new u now, no_shorter v.seen u.seen grows)) opened since mine found
       (λ few. harmless_before went v.pass.faults place (sym same ∙ few)) (λ few s. sound (sym same ∙ few) s)
 
   same_at : (u : View) → u.section ≡ v.section → is_doubtful_at v.section ≡ false → is_doubtful_at u.section ≡ false
@@ -276,7 +276,7 @@ module _ (layout : Layout) (young : ℕ) (stuck : Option DiskPlace) (old new : O
   adopted_alone txn properties next bytes went u now a =
       let same : are_harmless u.pass.faults ≡ are_harmless (either went v.pass.faults (v.pass.faults ++ Commit PutRev ∷ [])) = ap {A = View} (λ z. are_harmless z.pass.faults) a.is in
       then_known u now (ap {A = View} (λ z. length z.seen) a.is) (ap {A = View} (λ z. z.opened) a.is) (ap {A = View} (λ z. z.since) a.is) (ap {A = View} (λ z. z.pass.mine) a.is) (ap {A = View} (λ z. z.pass.stuck) a.is) (λ few. harmless_before went v.pass.faults (Commit PutRev) (sym same ∙ few))
-      (λ few s. ap {A = View} (λ z. is_doubtful_at z.section) a.is ∙ either_sound went (RevPut (coming_of v txn properties next bytes)) Over refl refl)
+      (λ few s. ap {A = View} (λ z. is_doubtful_at z.section) a.is ∙ either_calm went (RevPut (coming_of v txn properties next bytes)) Over refl refl)
 
   pub adopt_alone : {X E : Type 0} (txn : Txn) (properties : List (List ℕ × List ℕ)) (next : Revision) (bytes : List ℕ) (result : Result X E)
       → (u : View) × (went : Went) × Knows layout young stuck new u × Answers result went × Adopted txn properties next bytes went v u → (u : View) × (went : Went) × KnowsAlone layout young stuck new u × Answers result went × Adopted txn properties next bytes went v u
@@ -350,7 +350,7 @@ module _ (layout : Layout) (young : ℕ) (stuck : Option DiskPlace) (old new : O
     where
       counted : (went : Went) (u : View) → Knows layout young stuck new u → CounterRead base c.number went v u → KnowsAlone layout young stuck new u
       counted went u now r = learned (Begin begin.Read) went u now r.grows (ap {A = View} (λ z. z.opened) r.is) (ap {A = View} (λ z. z.since) r.is) (ap {A = View} (λ z. z.pass.mine) r.is) (ap {A = View} (λ z. z.pass.stuck) r.is) (ap {A = View} (λ z. z.pass.faults) r.is)
-          (λ few s. ap {A = View} (λ z. is_doubtful_at z.section) r.is ∙ either_sound went (CountRead (drawn_of base c.number)) Over refl refl)
+          (λ few s. ap {A = View} (λ z. is_doubtful_at z.section) r.is ∙ either_calm went (CountRead (drawn_of base c.number)) Over refl refl)
 
   pub list_alone : (labels : Option (List Label)) (went : Went) → (ls : List Label) × (labels ≡ Some ls) × (u : View) × Knows layout young stuck new u × Listed ls went v u → (ls : List Label) × (labels ≡ Some ls) × (u : View) × KnowsAlone layout young stuck new u × Listed ls went v u
   list_alone labels went w = (w.0, w.1, w.2, learned disk.List went w.2 w.3 w.4.grows (ap {A = View} (λ z. z.opened) w.4.is) (ap {A = View} (λ z. z.since) w.4.is) (ap {A = View} (λ z. z.pass.mine) w.4.is) (ap {A = View} (λ z. z.pass.stuck) w.4.is) (ap {A = View} (λ z. z.pass.faults) w.4.is) (λ few. same_at w.2 (ap {A = View} (λ z. z.section) w.4.is)), w.4)

@@ -1,6 +1,6 @@
 -- A new store is known.
-use Rattle.std.proofs.Common.{◌≡◌, ◌==◌, ◌≤◌, ◌+◌, ◌++◌, ℕ, suc, zero, List, [], ◌∷◌, length, true, false, cond, ⊎_elim, refl, sym, ap, subst, ◌∙◌, arith}
-use Rattle.std.specs.Prelude.{Option, Some, None, Result, Ok, unwrap_or, slice_get, codes, decimal}
+use Rattle.std.proofs.Common.{◌≡◌, ◌==◌, ◌+◌, ℕ, suc, zero, List, [], ◌∷◌, length, true, false, cond, ⊎_elim, refl, sym, ap, subst, ◌∙◌, arith}
+use Rattle.std.specs.Prelude.{Option, Some, None, Result, Ok, unwrap_or, slice_get, codes}
 use Rattle.std.specs.FinMap.{get}
 use Rattle.std.proofs.Math.Nat.{zero-mod}
 use Rattle.fsfs_disk.specs.Labels.{Label}
@@ -9,19 +9,14 @@ use Rattle.fsfs_disk.specs.Trace as real
 use Rattle.fsfs_base.specs.Files.{Files}
 use Rattle.fsfs_tree.specs.Dated.{date_name}
 use Rattle.fsfs_layout.specs.Dump.{IsDump}
-use Rattle.fsfs_base.specs.Numeral.{IsNumber}
-use Rattle.fsfs_base.proofs.Unique.{decimal_plain}
 use Rattle.fsfs_layout.specs.CreatedFiles.{format_text, date_properties}
-use Rattle.fsfs_layout.specs.Formats.{IsFormat}
-use Rattle.fsfs_layout.specs.declared.format_file.Format.TheVariants.{Sharded}
-use Rattle.fsfs_layout.proofs.Writing.{sharded_layout, our_format}
 use Rattle.fsfs_base.specs.FirstRevision.{first_bytes}
 use Rattle.fsfs_stands.specs.History.{ShowsHistory}
 use Rattle.fsfs_tree.specs.Answers.{first_revision as first_shown}
 use Rattle.fsfs_stands.specs.NewRepository.{HoldsNew}
 use Rattle.fsfs_stands.specs.Changes.{AreChangesOf}
 use Rattle.fsfs_stands.proofs.FirstHistory.{first_history}
-use Rattle.fsfs_stands.proofs.NewRepository.{first_name, zero_line, zero_line36, new_repositories_stand}
+use Rattle.fsfs_stands.proofs.NewRepository.{first_name, zero_line, zero_line36, new_repositories_stand, new_format}
 use Rattle.fsfs_machine.specs.declared.contents.FileName.{FileName}
 use Rattle.fsfs_machine.specs.declared.contents.FileName.TheVariants.{Current, CurrentNext, Counter, CounterNext, Floor, Rev, Props}
 use Rattle.fsfs_machine.specs.declared.contents.Contents.TheVariants.{PropsFile, Number}
@@ -52,14 +47,6 @@ at_none n (Some b) = tt
 
 pub ok_is : {A E : Type 0} (r : Result A E) (a b : A) → r ≡ Ok a → r ≡ Ok b → a ≡ b
 ok_is r a b e f = cc
-
--- the format of a new repository
-new_format : (n : ℕ) → 1 ≤ n → n ≤ 2147483647 → IsFormat (format_text n) (Sharded n)
-new_format n one most =
-    let number : IsNumber 10 18446744073709551615 10 (decimal n ++ 10 ∷ []) n =
-    record { digits = decimal n; numeral = (decimal_plain 2147483647 n most (omega (arith, most))).0; fits = omega (arith, most); parts = refl } in
-    our_format (codes "4\n") (format_text n) (Sharded n) refl
-    (sharded_layout (codes "4\n") (codes "4\nlayout sharded ") (format_text n) n one most refl (record { text = decimal n ++ 10 ∷ []; text_is = number; parts = refl }))
 
 module _ (first : Files) (labels : List Label) (before : List Operation) (date : List ℕ) (new : HoldsNew (files_after first before) date) where
   shown : ShowsHistory (bytes_of (new_revision date ∷ [])) (λ r. Ok (date_properties date)) (first_shown date ∷ [])

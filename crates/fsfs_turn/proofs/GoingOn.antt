@@ -54,7 +54,7 @@ pub youngest_told : {First Below : Type 0} (last : ℕ) (first : First) (s : Sto
 unfolding telling
 youngest_told last first s floor kept = refl
 
-known_below : (reach : Reach) (n r : ℕ) → r ≤ n → IsKnown reach n → IsKnown reach r
+pub known_below : (reach : Reach) (n r : ℕ) → r ≤ n → IsKnown reach n → IsKnown reach r
 known_below (Ends y) n r le known = omega (arith, le, known)
 known_below (Grows y) n r le known = omega (arith, le, known)
 

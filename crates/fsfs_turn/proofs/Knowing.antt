@@ -1,5 +1,5 @@
 -- The calls of an owned store, whatever its disk tells.
-use Rattle.std.proofs.Common.{◌≡◌, ◌⊎◌, ◌<◌, ◌≤◌, ◌^◌, ◌||◌, ℕ, List, [], ◌∷◌, length, true, false, cond, inl, inr, ⊎_elim, refl, sym, ap, subst, ◌∙◌}
+use Rattle.std.proofs.Common.{◌≡◌, ◌⊎◌, ◌<◌, ◌≤◌, ◌^◌, ℕ, List, length, true, false, inl, inr, ⊎_elim, refl, sym, ap, subst, ◌∙◌}
 use Rattle.std.specs.Prelude.{Option, Some, None, Bool, IfSome, IsSome, OnOk, OnErr, IfOk, Result, Ok, Err, slice_get, option_map}
 use Rattle.std.specs.FinMap.{get, empty}
 use Rattle.fsfs_base.specs.Files.{Files}
@@ -9,10 +9,11 @@ use Rattle.fsfs_layout.specs.FileNames.{only_name}
 use Rattle.fsfs_layout.specs.Small.{IsRevLine}
 use Rattle.fsfs_layout.specs.declared.only_file.OnlyFile.TheVariants as only
 use Rattle.fsfs_layout.specs.Dump.{IsDump}
-use Rattle.fsfs_disk.specs.Labels.{Label, same_label, has_label, with_label, without_label}
+use Rattle.fsfs_disk.specs.Labels.{Label, has_label, with_label, without_label}
 use Rattle.fsfs_disk.specs.Trace.{Trace, KeepLabel, DropLabel, file_at, files_now, labels_now, IsRead, IsSize, Performs, PerformsIfThere, FailsAt, FailsToPut, FailsToAdopt}
 use Rattle.fsfs_disk.specs.Trace as real
 use Rattle.fsfs_disk.proofs.TraceLemmas.{file_at-put}
+use Rattle.fsfs_disk.proofs.LabelLemmas.{without_absent}
 use Rattle.fsfs_machine.specs.declared.machine.Recorded.{Recorded}
 use Rattle.fsfs_machine.specs.declared.machine.Coming.{Coming}
 use Rattle.fsfs_machine.specs.declared.machine.Drawn.{Drawn}
@@ -73,13 +74,6 @@ pub unkept_label : {X E : Type 0} (l : Label) (old new : Option Trace) (result :
 unkept_label l old new (Ok x) failed = tt
 unkept_label l old new (Err e) failed = record { met = option_map labels_now old; is_met = λ free. refl; either = failed_labels (with_label l) (KeepLabel l) (λ ls. refl) old new failed }
 
-without_none : (l : Label) (ls : List Label) → has_label l ls ≡ false → without_label l ls ≡ ls
-without_none l [] none = refl
-without_none l (k ∷ ks) none = elim (same_label k l) as (λ b. (b || has_label l ks) ≡ false → cond b (without_label l ks) (k ∷ without_label l ks) ≡ k ∷ ks) [
-  | true ↦ λ e. absurd cc
-  | false ↦ λ e. ap (λ r. k ∷ r) (without_none l ks e)
-] none
-
 said_at : (l : Label) (old : Option Trace) (there : Bool) → IfSome old (λ t. there ≡ has_label l (labels_now t)) → IfSome (option_map labels_now old) (λ ls. there ≡ has_label l ls)
 said_at l None there said = tt
 said_at l (Some t) there said = said
@@ -88,7 +82,7 @@ pub dropped_label : {E : Type 0} (l : Label) (old new : Option Trace) (result : 
     → IfOk result (λ there. PerformsIfThere there (DropLabel l) old new) → IfOk result (λ there. Drops false l there (option_map labels_now old) (option_map labels_now new))
 dropped_label l old new (Ok true) there done = record { met = option_map labels_now old; is_met = λ free. refl; made = relabelled_by (without_label l) (DropLabel l) (λ ls. refl) old new done; said = said_at l old true there }
 dropped_label l None new (Ok false) there done = record { met = None; is_met = λ free. refl; made = ap (λ o. option_map labels_now o) done; said = tt }
-dropped_label l (Some t) new (Ok false) there done = record { met = Some (labels_now t); is_met = λ free. refl; made = ap (λ o. option_map labels_now o) done ∙ ap (λ (ls : List Label). Some ls) (sym (without_none l (labels_now t) (sym there))); said = there }
+dropped_label l (Some t) new (Ok false) there done = record { met = Some (labels_now t); is_met = λ free. refl; made = ap (λ o. option_map labels_now o) done ∙ ap (λ (ls : List Label). Some ls) (sym (without_absent l (labels_now t) (sym there))); said = there }
 dropped_label l old new (Err e) there done = tt
 
 pub undropped_label : {X E : Type 0} (l : Label) (old new : Option Trace) (result : Result X E) → OnErr result (FailsAt (DropLabel l) old new) → OnErr result (MayRelabel false (without_label l) (option_map labels_now old) (option_map labels_now new))

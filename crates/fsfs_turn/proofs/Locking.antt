@@ -26,7 +26,7 @@ use Rattle.fsfs_turn.specs.Views.{View, Turned, coming_at, is_held, Sees, with_t
 use Rattle.fsfs_turn.specs.Past.{doubt, Safe}
 pub use Rattle.fsfs_turn.specs.Found.{seen_within}
 use Rattle.fsfs_turn.specs.Standing.{IsStore, Knows}
-use Rattle.fsfs_turn.proofs.Moments.{itself, quiet_doubt, safe_more, part_revealed}
+use Rattle.fsfs_turn.proofs.Moments.{begins_itself, quiet_doubt, safe_more, part_revealed}
 use Rattle.fsfs_turn.proofs.Moves.{Spares, Moved, held_other, known_moved}
 use Rattle.fsfs_turn.proofs.TurnEnds.{at_other}
 use Rattle.fsfs_turn.proofs.Stepping.{kept_bare, at_itself, held_here, lock_is}
@@ -99,11 +99,11 @@ module _ (layout : Layout) (young : ℕ) (stuck : Option DiskPlace) (t : Trace) 
 
   -- it changes what its pass knows
   pass_spares : (f : Pass → Pass) → Spares v.number w (now (at_place w.passes v.number f) w.lock)
-  pass_spares f = record { passes = λ q apart. at_other w.passes v.number q f apart; count = length_at w.passes v.number f; grows = itself w.history; locks = λ q apart. refl; still = λ q s apart held. (refl, refl); floor = refl; given = λ k i. i }
+  pass_spares f = record { passes = λ q apart. at_other w.passes v.number q f apart; count = length_at w.passes v.number f; grows = begins_itself w.history; locks = λ q apart. refl; still = λ q s apart held. (refl, refl); floor = refl; given = λ k i. i }
 
   -- it moves the lock
   lock_spares : (lock : Lock) → ((q : ℕ) → (q ≡ v.number → ⊥) → held_by q lock ≡ held_by q w.lock) → Spares v.number w (now w.passes lock)
-  lock_spares lock locks = record { passes = λ q apart. refl; count = refl; grows = itself w.history; locks = locks; still = λ q s apart held. (refl, refl); floor = refl; given = λ k i. i }
+  lock_spares lock locks = record { passes = λ q apart. refl; count = refl; grows = begins_itself w.history; locks = locks; still = λ q s apart held. (refl, refl); floor = refl; given = λ k i. i }
 
   -- ---- a look
 

@@ -1,5 +1,5 @@
 -- What a crash at any moment since the opening might have left.
-use Rattle.std.proofs.Common.{◌≡◌, ◌⊎◌, ◌≤◌, ◌+◌, ℕ, List, [], ◌∷◌, ◌++◌, length, true, inl, inr, ⊎_elim, refl, sym, ap, subst, ◌∙◌, arith, append_assoc, append-nil, length-append}
+use Rattle.std.proofs.Common.{◌≡◌, ◌⊎◌, ◌≤◌, ◌+◌, ℕ, List, [], ◌∷◌, ◌++◌, length, true, inl, inr, ⊎_elim, refl, sym, ap, subst, ◌∙◌, arith, append_assoc, append-nil, length-append, take, drop}
 use Rattle.std.specs.Prelude.{Option, Some, None}
 use Rattle.fsfs_base.specs.Files.{Files}
 use Rattle.fsfs_layout.specs.declared.layout.Layout.{Layout}
@@ -20,17 +20,22 @@ use Rattle.fsfs_machine.specs.Kept.{Kept, StandsFor, StandsForEither, StandsIn, 
 use Rattle.fsfs_images.specs.Shown.{AreRead}
 use Rattle.fsfs_turn.specs.Views.{Begins}
 use Rattle.fsfs_turn.specs.Past.{doubt_in, doubt, IsPart, IsPast, HasCounter, WasLeft, Safe}
+use Rattle.fsfs_turn.proofs.Stepping.{take_drop}
 
 -- ---- what an image now stands for
 
-pub itself : (h : List Recorded) → Begins h h
-itself h = ([], sym (append-nil h))
+pub begins_itself : (h : List Recorded) → Begins h h
+begins_itself h = ([], sym (append-nil h))
+
+-- the first n of a history begin it
+pub begins_take : (n : ℕ) (h : List Recorded) → Begins h (take n h)
+begins_take n h = (drop n h, take_drop n h)
 
 long : (h : List Recorded) (x : Coming) → length h ≤ length (with_next h x)
 long h x = let e : length (with_next h x) ≡ length h + 1 = grind (arith, length-append) in omega (arith, e)
 
 past_now : (n f : ℕ) (h : List Recorded) (d : Option Coming) (e : Disk) → n ≤ length h → f ≤ length h → StandsFor f e h → IsPast n f h d e
-past_now n f h d e le floor s = (h, s, le, inl (itself h), floor)
+past_now n f h d e le floor s = (h, s, le, inl (begins_itself h), floor)
 
 past_next : (n f : ℕ) (h : List Recorded) (x : Coming) (e : Disk) → n ≤ length h → f ≤ length h → StandsFor f e (with_next h x) → IsPast n f h (Some x) e
 past_next n f h x e le floor s = (with_next h x, s, omega (arith, le, long h x), inr (x, refl, refl), omega (arith, floor, long h x))

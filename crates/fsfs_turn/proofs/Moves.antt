@@ -12,7 +12,7 @@ use Rattle.fsfs_machine.specs.Kept.{IsIn}
 use Rattle.fsfs_turn.specs.Views.{View, Sees, Begins}
 use Rattle.fsfs_turn.specs.Past.{doubt, Safe}
 use Rattle.fsfs_turn.specs.Standing.{IsStore, Knows}
-use Rattle.fsfs_turn.proofs.Moments.{itself}
+use Rattle.fsfs_turn.proofs.Moments.{begins_itself}
 use Rattle.fsfs_turn.proofs.TurnEnds.{StaysWith, Leaves, IsAfter}
 
 -- How a step of pass p may change the state, as the other passes see it: they are as they were, nobody else takes or loses the lock, the
@@ -59,7 +59,7 @@ call_spares : (p : ℕ) (w after : World) → Leaves p w after → Spares p w af
 call_spares p w after l = record {
   passes = l.passes;
   count = l.count;
-  grows = ((itself w.history).0, l.history ∙ (itself w.history).1);
+  grows = ((begins_itself w.history).0, l.history ∙ (begins_itself w.history).1);
   locks = λ q apart. locks_stay p q w.lock after.lock l.lock apart;
   still = λ q s apart held. (l.young, l.history);
   floor = l.floor;

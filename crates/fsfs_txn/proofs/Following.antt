@@ -5,6 +5,7 @@ use Rattle.fsfs_base.specs.Paths.{PathName, Path, same_name}
 use Rattle.fsfs_base.specs.declared.kind.Kind.{Kind}
 use Rattle.fsfs_base.specs.declared.kind.Kind.TheVariants.{File, Dir}
 use Rattle.fsfs_base.proofs.PathLemmas.{same_name-is}
+use Rattle.fsfs_base.proofs.ResultLemmas.{not_none}
 use Rattle.fsfs_base.specs.declared.txn_name.TxnName.{TxnName}
 use Rattle.fsfs_revision.specs.Told.{RevisionBytes}
 use Rattle.fsfs_noderev.specs.Ids.{part_value}
@@ -18,6 +19,7 @@ use Rattle.fsfs_revision.specs.Readings.{HasOneAnswer}
 use Rattle.fsfs_revision.specs.ShowsReading.{DirEntry, named, OfId}
 use Rattle.fsfs_revision.proofs.OneWalk.{of_id_one}
 use Rattle.fsfs_revision.proofs.OneEntry.{entries_one}
+use Rattle.fsfs_revision.proofs.DamageLemmas.{no_both}
 use Rattle.fsfs_draft.specs.Drafts.{Kept, Folder}
 use Rattle.fsfs_draft.specs.Steps.{Files, same_key, with_kept, kept_at}
 use Rattle.fsfs_draft.proofs.Files.{same_files, put_files, other_files}
@@ -38,12 +40,6 @@ own_id id txn is = by (is_revision_id id) refl
     by : (b : Bool) → is_revision_id id ≡ b → is_revision_id id ≡ false
     by true h = absurd (no_txn_place id.place txn is (lasting_parts id h).place)
     by false h = h
-
-pub not_both : {A : Type 0} (b : Bool) → b ≡ true → b ≡ false → A
-not_both b h g = let e = sym h ∙ g in absurd cc
-
-pub not_none : {A B : Type 0} (o : Option A) (x : A) → o ≡ Some x → o ≡ None → B
-not_none o x h g = let e = sym h ∙ g in absurd cc
 
 pub same_some : {A : Type 0} (x y : A) → (let o : Option A = Some x in o) ≡ Some y → x ≡ y
 same_some x y e = cc
@@ -82,18 +78,18 @@ pub known_there : (look : RevisionBytes) (files : Files) (known : List Known) (p
 known_there look files known [] id lasts h = by h
   where
     by : IsEndKnown files known id → IsAmong id known
-    by (OwnEnd k own here source) = not_both (is_revision_id id) lasts own
+    by (OwnEnd k own here source) = no_both (is_revision_id id) lasts own
     by (LastingEnd l among) = among
 known_there look files known (name ∷ rest) id lasts h = by h.2
   where
     by : HasEntries look files known id h.0 → IsAmong id known
-    by (OfOwn k own here dir source of) = not_both (is_revision_id id) lasts own
+    by (OfOwn k own here dir source of) = no_both (is_revision_id id) lasts own
     by (OfLasting l among of) = among
 
 -- what is known of an own one at the end
 pub known_source : (files : Files) (known : List Known) (id : NodeId) (k : Kept) → is_revision_id id ≡ false → kept_at files id ≡ Some k → IsEndKnown files known id → IsSourceKnown known k.node.predecessor
 known_source files known id k own here (OwnEnd j o there source) = subst (λ (x : Kept). IsSourceKnown known x.node.predecessor) (same_some j k (sym there ∙ here)) source
-known_source files known id k own here (LastingEnd l among) = not_both (is_revision_id id) l own
+known_source files known id k own here (LastingEnd l among) = no_both (is_revision_id id) l own
 
 -- ---- files of the same entries and predecessors
 
@@ -132,7 +128,7 @@ module _ (look : RevisionBytes) (files : Files) (at : NodeId) (k x : Kept) (here
         sym (same_files (with_kept at x files) at id h) ∙ put_files at x files,
         subst (λ (z : Kept). IsLike z x) (same_some k j (sym here ∙ same_files files at id h ∙ there)) like,
       )
-      by false h = (j, other_files at id x files (λ t. not_both (same_key at id) t h) ∙ there, record { kind = refl; predecessor = refl; entries = refl })
+      by false h = (j, other_files at id x files (λ t. no_both (same_key at id) t h) ∙ there, record { kind = refl; predecessor = refl; entries = refl })
 
   pub set_leads : (known : List Known) (path : Path) (id : NodeId) → LeadsDown look files known path id → LeadsDown look (with_kept at x files) known path id
   set_leads known = like_leads look files (with_kept at x files) set_like known
@@ -175,17 +171,17 @@ module _ (look : RevisionBytes) (before after : Folder) (txn : TxnName) (dir : N
 
   at_other : (i : NodeId) (j : Kept) → kept_at before.nodes i ≡ Some j → same_key dir i ≡ false → kept_at After i ≡ Some j
   at_other i j there h =
-      other_files dir i DirKept WithChild (λ t. not_both (same_key dir i) t h)
+      other_files dir i DirKept WithChild (λ t. no_both (same_key dir i) t h)
       ∙ other_files c.child.id i (new_kept c.child) before.nodes (λ t. not_none (kept_at before.nodes i) j there (sym (same_files before.nodes c.child.id i t) ∙ fresh)) ∙ there
 
   module _ (known : List Known) where
     -- what led down from the node-revision leads down from the one that goes on from it
     child_end : IsEndKnown After known u.id → IsEndKnown After known c.child.id
-    child_end (OwnEnd j own there source) = not_both (is_revision_id u.id) lasts own
+    child_end (OwnEnd j own there source) = no_both (is_revision_id u.id) lasts own
     child_end (LastingEnd l among) = OwnEnd (new_kept c.child) child_own at_child (subst (λ (o : Option NodeId). IsSourceKnown known o) (sym c.next.predecessor) among)
 
     child_entries : (y : PathName) (es : List DirEntry) (x : DirEntry) → named y es ≡ Some x → HasEntries look After known u.id es → HasEntries look After known c.child.id es
-    child_entries y es x is (OfOwn j own there d source o) = not_both (is_revision_id u.id) lasts own
+    child_entries y es x is (OfOwn j own there d source o) = no_both (is_revision_id u.id) lasts own
     child_entries y es x is (OfLasting l among o) =
         OfOwn (new_kept c.child) child_own at_child (c.next.kind ∙ id_dir look u es y x read o is) (λ none. subst (λ (p : Option NodeId). IsSourceKnown known p) (sym c.next.predecessor) among)
         (subst (λ (p : Option NodeId). OfPredecessor look p (Ok es)) (sym c.next.predecessor) o)

@@ -10,6 +10,7 @@ use Rattle.fsfs_noderev.specs.declared.node_id.NodeId.{NodeId}
 use Rattle.fsfs_noderev.specs.declared.node_rev.NodeRev.{NodeRev}
 use Rattle.fsfs_revision.specs.Nodes.{is_revision_id}
 use Rattle.fsfs_revision.specs.ShowsReading.{DirEntry, named, OfId}
+use Rattle.fsfs_revision.proofs.DamageLemmas.{no_both}
 use Rattle.fsfs_draft.specs.Own.{OwnNode, Own}
 use Rattle.fsfs_draft.specs.Drafts.{Kept, Folder, kept_of, IsDraft, ShowTrees}
 use Rattle.fsfs_draft.specs.Steps.{Files, kept_at}
@@ -22,7 +23,7 @@ use Rattle.fsfs_edit.proofs.Making.{not_amiss}
 use Rattle.fsfs_txn.specs.declared.known.Known.{Known}
 use Rattle.fsfs_txn.specs.OpenedLeading.{IsSourceKnown, HasEntries, OfOwn, OfLasting, LeadsDown}
 use Rattle.fsfs_txn.specs.Stepping.{LeadsOn, LeadsAsBefore}
-use Rattle.fsfs_txn.proofs.Following.{not_both, same_some, child_still, still_leads}
+use Rattle.fsfs_txn.proofs.Following.{same_some, child_still, still_leads}
 
 -- the entries of an own directory, and what is known of them
 pub own_has : (look : RevisionBytes) (files : Files) (known : List Known) (id : NodeId) (k : Kept) (entries : List DirEntry) → is_revision_id id ≡ false → kept_at files id ≡ Some k → HasEntries look files known id entries
@@ -30,12 +31,12 @@ pub own_has : (look : RevisionBytes) (files : Files) (known : List Known) (id : 
 own_has look files known id k entries own here (OfOwn j mine there dir source of) =
     let same : j ≡ k = same_some j k (sym there ∙ here) in
     (subst (λ (x : Kept). x.entries ≡ None → IsSourceKnown known x.node.predecessor) same source, subst (λ (x : Kept). OfKept look x (Ok entries)) same of)
-own_has look files known id k entries own here (OfLasting l among of) = not_both (is_revision_id id) l own
+own_has look files known id k entries own here (OfLasting l among of) = no_both (is_revision_id id) l own
 
 -- it is a directory
 pub own_has_dir : (look : RevisionBytes) (files : Files) (known : List Known) (id : NodeId) (k : Kept) (entries : List DirEntry) → is_revision_id id ≡ false → kept_at files id ≡ Some k → HasEntries look files known id entries → k.node.kind ≡ Dir
 own_has_dir look files known id k entries own here (OfOwn j mine there dir source of) = sym (ap (λ (x : Kept). x.node.kind) (same_some j k (sym there ∙ here))) ∙ dir
-own_has_dir look files known id k entries own here (OfLasting l among of) = not_both (is_revision_id id) l own
+own_has_dir look files known id k entries own here (OfLasting l among of) = no_both (is_revision_id id) l own
 
 module _ (look : RevisionBytes) (trees : ℕ → TreeFunction) (top base : ℕ) (shown : ShowTrees look top trees) (le : base ≤ top) (txn : TxnName) (f : Folder) (nodes : Own) (draft : IsDraft look top base txn f nodes)
     (p : Path) (d : OwnNode) (here : nodes p ≡ Some d) (dir : d.node.kind ≡ Dir) (id : NodeId) (same : d.node.id ≡ id) (entries : List DirEntry) (of : OfKept look (kept_of d) (Ok entries)) (name : PathName) (e : DirEntry) (found : named name entries ≡ Some e)

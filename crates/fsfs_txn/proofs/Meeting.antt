@@ -1,6 +1,6 @@
 -- Edits by path, as edits of a transaction.
-use Rattle.std.proofs.Common.{◌≡◌, ℕ, Bool, true, false, List, [], ◌∷◌, ◌++◌, refl, sym, ap, subst, ◌∙◌, inl, inr}
-use Rattle.std.specs.Prelude.{Option, Some, None, is_some, Result, Ok}
+use Rattle.std.proofs.Common.{◌≡◌, ℕ, Bool, true, false, List, [], ◌∷◌, ◌++◌, sym, ap, subst, ◌∙◌, inl, inr}
+use Rattle.std.specs.Prelude.{Option, None, is_some, Result, Ok}
 use Rattle.fsfs_base.specs.Paths.{PathName, Path}
 use Rattle.fsfs_base.specs.declared.kind.Kind.{Kind}
 use Rattle.fsfs_base.specs.declared.kind.Kind.TheVariants.{Dir}
@@ -60,10 +60,6 @@ stays_of edit_errors.OutOfMemory P p h = p
 stays_of edit_errors.DiskFault P p h = p
 stays_of (edit_errors.Wrong w) P p h = h
 stays_of edit_errors.Lacking P p h = h
-
-pub none_taken : (o : Option Node) → is_some o ≡ false → o ≡ None
-none_taken None h = refl
-none_taken (Some n) h = absurd cc
 
 module _ (look : RevisionBytes) (trees : ℕ → TreeFunction) (top base : ℕ) (txn : TxnName) (before : Folder) (tree : TreeFunction) (marks : List Mark) (revs : AreRevisions trees top) (stands : Stands look trees top base txn before tree marks) where
   pub is_tree : IsTree tree

@@ -15,6 +15,7 @@ use Rattle.fsfs_revision.specs.declared.wrong.Wrong.{Wrong}
 use Rattle.fsfs_revision.proofs.OneAnswer.{ok_same}
 use Rattle.fsfs_revision.specs.ShowsReading.{DirEntry, named, EntriesOf, OfId, OfNamed, ChildOf, PropsOf, StandsAt, offset_of}
 use Rattle.fsfs_revision.proofs.OneWalk.{of_id_one, props_one}
+use Rattle.fsfs_revision.proofs.DamageLemmas.{no_both}
 use Rattle.fsfs_draft.specs.Own.{OwnNode, Own, draft_tree, shared_under, shared_at}
 use Rattle.fsfs_draft.specs.Rules.{above_at, stands_under, stands_at, at_top}
 use Rattle.fsfs_draft.specs.Drafts.{Kept, Folder, kept_of, IsDraft, ShowTrees}
@@ -23,22 +24,19 @@ use Rattle.fsfs_draft.specs.Steps.{kept_at}
 use Rattle.fsfs_draft.proofs.Here.{goes_from, rule_here, agrees_below}
 use Rattle.fsfs_draft.proofs.Changing.{of_id_lasting}
 use Rattle.fsfs_draft.specs.Entries.{OfKind, OfIdEntries, OfKept, IsWithin}
-use Rattle.fsfs_draft.specs.Walks.{IsLastingAt, HasKind}
-use Rattle.fsfs_draft.proofs.OwnEntries.{lasting_id, is_dir_kind, own_dir, entries_here, has_named, own_entry, lasting_entry, lasting_child, kept_same}
+use Rattle.fsfs_draft.specs.Walks.{IsLastingAt}
+use Rattle.fsfs_draft.proofs.OwnEntries.{lasting_id, own_dir, entries_here, has_named, own_entry, lasting_entry, lasting_child, kept_same}
 use Rattle.fsfs_draft.proofs.Walking.{lasting_kind, below_none, below_some}
 use Rattle.fsfs_txn.specs.declared.known.Known.{Known}
 use Rattle.fsfs_txn.specs.Knowing.{IsWhole}
 use Rattle.fsfs_txn.specs.OpenedLeading.{IsAmong, IsSourceKnown, IsEndKnown, OwnEnd, LastingEnd, HasEntries, OfOwn, OfLasting, LeadsDown}
 use Rattle.fsfs_txn.specs.Stepping.{IsIdAt, OwnAt, LastingAt, IsDirKnown, OwnDir, LastingDir, BecomesKnown}
-use Rattle.fsfs_txn.proofs.Following.{own_id, not_both}
+use Rattle.fsfs_txn.proofs.Following.{own_id}
+use Rattle.fsfs_edit.proofs.Bare.{dir_kind}
 
 -- the id of what is read is the one that it is read by
 pub read_id : (look : RevisionBytes) (id : NodeId) (u : NodeRev) → OfId look id (Ok u) → u.id ≡ id
 read_id look id u of = ap (λ (v : NodeRev). v.id) of.2.0 ∙ of.2.1
-
-dir_kind : (o : Option Node) → is_dir_node o ≡ true → HasKind o Dir
-dir_kind None h = absurd cc
-dir_kind (Some n) h = is_dir_kind n.kind h
 
 -- nothing of what stands is wrong
 module _ (look : RevisionBytes) (top : ℕ) (Stands : Path → NodeRev → Type 0) (tree : TreeFunction) (agrees : Agrees look top Stands tree) (q : Path) (u : NodeRev) (at : Stands q u) where
@@ -120,7 +118,7 @@ module _ (look : RevisionBytes) (top base : ℕ) (trees : ℕ → TreeFunction) 
         by None is =
             let child : ChildOf look u name (Ok None) = (entries, of, subst (λ (o : Option DirEntry). OfNamed look o (Ok None)) (sym is) refl) in
             let none = ap (λ (o : Option Node). is_some o) (below_none look top base trees shown le txn f own draft p u at dir name child) in
-            not_both (is_some (Tree (p ++ name ∷ []))) some none
+            no_both (is_some (Tree (p ++ name ∷ []))) some none
         by (Some e) is =
             let v = agrees.child at.q u entries name e at.stands dir of is in
             let child : ChildOf look u name (Ok (Some v.0)) = (entries, of, subst (λ (o : Option DirEntry). OfNamed look o (Ok (Some v.0))) (sym is) (v.0, v.2.read, (refl, v.2.kind))) in
@@ -148,12 +146,12 @@ module _ (look : RevisionBytes) (top base : ℕ) (trees : ℕ → TreeFunction) 
 
   pub step_down : (p : Path) (id : NodeId) → IsIdAt look trees base own p id → is_dir_node (Tree p) ≡ true → (known : List Known) (entries : List DirEntry) → HasEntries look f.nodes known id entries → (name : PathName) → is_some (Tree (p ++ name ∷ [])) ≡ true
       → (e : DirEntry) × (named name entries ≡ Some e) × IsIdAt look trees base own (p ++ name ∷ []) e.id
-  step_down p id (OwnAt v here same) is_dir known entries (OfLasting l among of) name some = not_both (is_revision_id id) l (subst (λ (i : NodeId). is_revision_id i ≡ false) same (own_lasts p v here))
+  step_down p id (OwnAt v here same) is_dir known entries (OfLasting l among of) name some = no_both (is_revision_id id) l (subst (λ (i : NodeId). is_revision_id i ≡ false) same (own_lasts p v here))
   step_down p id (OwnAt v here same) is_dir known entries (OfOwn k mine there d source of) name some =
       let dir = own_dir look top base trees shown le txn f own draft p v here is_dir in
       let is = kept_same look top base trees shown le txn f own draft p v here dir id k same there in
       own_step p v here dir entries (subst (λ (x : Kept). OfKept look x (Ok entries)) is of) name some
-  step_down p id (LastingAt u at same) is_dir known entries (OfOwn k mine there d source of) name some = not_both (is_revision_id id) (subst (λ (i : NodeId). is_revision_id i ≡ true) same (lasting_lasts p u at)) mine
+  step_down p id (LastingAt u at same) is_dir known entries (OfOwn k mine there d source of) name some = no_both (is_revision_id id) (subst (λ (i : NodeId). is_revision_id i ≡ true) same (lasting_lasts p u at)) mine
   step_down p id (LastingAt u at same) is_dir known entries (OfLasting l among of) name some =
       let dir = lasting_kind look top base trees shown le txn f own draft p u at Dir (dir_kind (Tree p) is_dir) in
       let there : OfIdEntries look u.id (Ok entries) = subst (λ (i : NodeId). OfIdEntries look i (Ok entries)) (sym same) of in

@@ -5,6 +5,5 @@ pub mod Steps
 pub mod ReadBack
 pub mod PartLemmas
 pub mod NameLemmas
-pub mod EntryLemmas
 pub mod TailLemmas
 pub mod ChangeLemmas

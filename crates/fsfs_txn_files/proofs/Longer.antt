@@ -9,8 +9,8 @@ use Rattle.fsfs_base.specs.declared.base36.B36.{B36}
 use Rattle.fsfs_noderev.specs.declared.rep.Rep.{Rep}
 use Rattle.fsfs_noderev.specs.declared.rep.Uniquifier.{Uniquifier}
 use Rattle.fsfs_revision.specs.Headers.{StandsAt, HasPlainLine}
-use Rattle.fsfs_revision.specs.Frames.{text_of, HasTrailer, Agrees}
-use Rattle.fsfs_txn_files.specs.Reps.{framed, IsRepOf}
+use Rattle.fsfs_revision.specs.Frames.{text_of, HasTrailer, Agrees, framed_text}
+use Rattle.fsfs_txn_files.specs.Reps.{IsRepOf}
 use Rattle.fsfs_txn_files.specs.Laws.{TextsAreRead, TextsStay}
 
 -- what stands in a file doesn't stand beyond its end
@@ -42,21 +42,21 @@ stays rep bytes more text h = (
 
 module _ (rep : Rep) (proto text : List ℕ) (txn : TxnName) (number : B36) (is : IsRepOf rep (length proto) text txn number) where
   abbrev whole : List ℕ
-  whole = proto ++ framed text
+  whole = proto ++ framed_text text
 
   header : HasPlainLine rep.offset whole
-  header = ap (λ n. take 6 (drop n whole)) is.offset_is ∙ ap (λ (t : List ℕ). take 6 t) (drop-append_seam proto (framed text)) ∙ take-append_seam (codes "PLAIN\n") (text ++ codes "ENDREP\n")
+  header = ap (λ n. take 6 (drop n whole)) is.offset_is ∙ ap (λ (t : List ℕ). take 6 t) (drop-append_seam proto (framed_text text)) ∙ take-append_seam (codes "PLAIN\n") (text ++ codes "ENDREP\n")
 
   there : text_of rep whole ≡ text
   there =
       (λ i. take (is.length_is i) (drop (is.offset_is i + 6) whole))
-      ∙ ap (λ (t : List ℕ). take (length text) t) (drop-append-add proto (framed text) 6 ∙ drop-append_seam (codes "PLAIN\n") (text ++ codes "ENDREP\n"))
+      ∙ ap (λ (t : List ℕ). take (length text) t) (drop-append-add proto (framed_text text) 6 ∙ drop-append_seam (codes "PLAIN\n") (text ++ codes "ENDREP\n"))
       ∙ take-append_seam text (codes "ENDREP\n")
 
   trailer : HasTrailer rep whole
   trailer =
       ap (λ n. take 7 (drop n whole)) (let e : rep.offset + 6 + rep.length ≡ length proto + (6 + length text) = omega (arith, is.offset_is, is.length_is) in e)
-      ∙ ap (λ (t : List ℕ). take 7 t) (drop-append-add proto (framed text) (6 + length text) ∙ drop-append-add (codes "PLAIN\n") (text ++ codes "ENDREP\n") (length text) ∙ drop-append_seam text (codes "ENDREP\n"))
+      ∙ ap (λ (t : List ℕ). take 7 t) (drop-append-add proto (framed_text text) (6 + length text) ∙ drop-append-add (codes "PLAIN\n") (text ++ codes "ENDREP\n") (length text) ∙ drop-append_seam text (codes "ENDREP\n"))
 
   agrees : Agrees rep text
   agrees = record {

@@ -4,14 +4,14 @@ use Rattle.std.specs.Prelude.{option_map, codes}
 use Rattle.std.proofs.lemmas.List.{length-append, length-take}
 use Rattle.fsfs_base.specs.Files.{Files}
 use Rattle.fsfs_disk.specs.Benches.{appended}
+use Rattle.fsfs_disk.proofs.PublishLemmas.{two_pieces}
 use Rattle.fsfs_txn_files.specs.declared.text_error.TheConstants.{MAX_TEXT}
 use Rattle.fsfs_txn_files.specs.declared.taken.Taken.{Taken}
 use Rattle.fsfs_txn_files.specs.Sources.{GivesFront, GivesAll}
 use Rattle.fsfs_txn_files.specs.Views.{HasTaken}
 use Rattle.fsfs_txn_files.specs.ProtoTexts.{IsTakenText}
-use Rattle.fsfs_txn_files.specs.Reps.{framed}
 use Rattle.fsfs_txn_files.proofs.SourceLemmas.{front_none, front_more, front_all}
-use Rattle.fsfs_txn_files.proofs.TextLemmas.{two_pieces}
+use Rattle.fsfs_revision.specs.Frames.{framed_text}
 
 abbrev pub plain : List ℕ
 plain = codes "PLAIN\n"
@@ -52,7 +52,7 @@ ends old new from before now name taken w gives = record {
 }
 
 -- with the trailer
-pub framed_files : (old mid new : Option Files) (name text : List ℕ) → mid ≡ option_map (appended name (plain ++ text)) old → new ≡ option_map (appended name (codes "ENDREP\n")) mid → new ≡ option_map (appended name (framed text)) old
+pub framed_files : (old mid new : Option Files) (name text : List ℕ) → mid ≡ option_map (appended name (plain ++ text)) old → new ≡ option_map (appended name (codes "ENDREP\n")) mid → new ≡ option_map (appended name (framed_text text)) old
 framed_files old mid new name text first second =
     two_pieces old mid new name (plain ++ text) (codes "ENDREP\n") first second
     ∙ ap (λ (t : List ℕ). option_map (appended name t) old) (append_assoc plain text (codes "ENDREP\n"))

@@ -8,8 +8,9 @@ use Rattle.fsfs_layout.specs.Dump.{Ascending, put, put_all}
 use Rattle.fsfs_layout.specs.Children.{IsChildren, change_all, without}
 use Rattle.fsfs_layout.proofs.ManyLoops.{children_put, children_without}
 use Rattle.fsfs_revision.specs.ShowsReading.{Pairs, DirEntry}
-use Rattle.fsfs_txn_files.specs.Children.{IsWholeList, IsPutRecord, IsTakenRecord, Tells, HasPut, HasTaken, ChildrenTell}
-use Rattle.fsfs_txn_files.proofs.EntryLemmas.{ordered_put, ordered_taken, lead_put, lead_taken}
+use Rattle.fsfs_txn_files.specs.Children.{IsWholeList, IsPutRecord, IsTakenRecord, Tells, ChildrenTell}
+use Rattle.fsfs_dag.proofs.EntryPairs.{ordered_put, ordered_taken, lead_put, lead_taken}
+use Rattle.fsfs_dag.specs.Entries.{HasPut, HasTaken}
 
 ordered_all : (ps es : Pairs) → Ascending ps → Ascending (put_all ps es)
 ordered_all ps [] order = order

@@ -7,7 +7,7 @@ use Rattle.fsfs_base.specs.Counts.{Rose}
 use Rattle.fsfs_base.specs.Files.{Files}
 use Rattle.fsfs_base.proofs.FileLemmas.{remove-insert_same}
 use Rattle.fsfs_disk.specs.Benches.{appended, bytes_in, with_file, Spoils}
-use Rattle.fsfs_disk.proofs.BenchLemmas.{appended_twice, insert_again}
+use Rattle.fsfs_disk.proofs.BenchLemmas.{insert_again}
 use Rattle.fsfs_base.specs.declared.digest.HexDigest.{HexDigest}
 use Rattle.fsfs_txn_files.specs.declared.text_error.TheConstants.{MAX_TEXT}
 use Rattle.fsfs_txn_files.specs.declared.text_error.TextError.{TextError}
@@ -18,14 +18,6 @@ use Rattle.fsfs_txn_files.specs.ProtoTexts.{IsRefusedText, IsLeft, IsChecked}
 use Rattle.fsfs_txn_files.proofs.SourceLemmas.{front_more}
 
 -- ---- the files
-
--- two pieces at the end of a file are one
-pub two_pieces : (old mid new : Option Files) (name a b : List ℕ) → mid ≡ option_map (appended name a) old → new ≡ option_map (appended name b) mid → new ≡ option_map (appended name (a ++ b)) old
-two_pieces old mid new name a b first second = second ∙ ap (λ (o : Option Files). option_map (appended name b) o) first ∙ by old
-  where
-    by : (o : Option Files) → option_map (appended name b) (option_map (appended name a) o) ≡ option_map (appended name (a ++ b)) o
-    by None = refl
-    by (Some m) = ap (λ (f : Files). Some f) (appended_twice m name a b)
 
 -- a file with bytes at its end, then spoiled, is spoiled
 pub spoiled_after : (old mid new : Option Files) (name a : List ℕ) → mid ≡ option_map (appended name a) old → Spoils name mid new → Spoils name old new

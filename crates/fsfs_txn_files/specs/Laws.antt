@@ -3,12 +3,12 @@ use Rattle.std.specs.Prelude.{ℕ, List, ◌++◌, length, Ok}
 use Rattle.fsfs_base.specs.declared.txn_name.TxnName.{TxnName}
 use Rattle.fsfs_base.specs.declared.base36.B36.{B36}
 use Rattle.fsfs_noderev.specs.declared.rep.Rep.{Rep}
-use Rattle.fsfs_revision.specs.Frames.{RepIn}
-use Rattle.fsfs_txn_files.specs.Reps.{framed, IsRepOf}
+use Rattle.fsfs_revision.specs.Frames.{RepIn, framed_text}
+use Rattle.fsfs_txn_files.specs.Reps.{IsRepOf}
 
 -- a text that was put at the end of the file
 abbrev pub TextsAreRead : Type 0
-TextsAreRead = (rep : Rep) (proto text : List ℕ) (txn : TxnName) (number : B36) → IsRepOf rep (length proto) text txn number → RepIn rep (proto ++ framed text) (Ok text)
+TextsAreRead = (rep : Rep) (proto text : List ℕ) (txn : TxnName) (number : B36) → IsRepOf rep (length proto) text txn number → RepIn rep (proto ++ framed_text text) (Ok text)
 
 -- whatever is put behind it, a refused text too
 abbrev pub TextsStay : Type 0

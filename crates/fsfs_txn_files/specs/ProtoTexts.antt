@@ -6,14 +6,14 @@ use Rattle.fsfs_base.specs.declared.txn_name.TxnName.{TxnName}
 use Rattle.fsfs_base.specs.declared.digest.HexDigest.{HexDigest}
 use Rattle.fsfs_base.specs.declared.base36.B36.{B36}
 use Rattle.fsfs_noderev.specs.declared.rep.Rep.{Rep}
-use Rattle.fsfs_revision.specs.Frames.{RepIn}
+use Rattle.fsfs_revision.specs.Frames.{RepIn, framed_text}
 use Rattle.fsfs_disk.specs.Benches.{appended, bytes_in, Spoils}
 use Rattle.fsfs_txn_files.specs.declared.text_error.TheConstants.{MAX_TEXT}
 use Rattle.fsfs_txn_files.specs.declared.text_error.TextError.{TextError}
 use Rattle.fsfs_txn_files.specs.declared.text_error.TextError.TheVariants.{SourceFault, TextTooLong, Checksum, BenchFault}
 use Rattle.fsfs_txn_files.specs.declared.taken.Taken.{Taken}
 use Rattle.fsfs_txn_files.specs.Sources.{GivesFront, GivesAll}
-use Rattle.fsfs_txn_files.specs.Reps.{framed, IsRepOf}
+use Rattle.fsfs_txn_files.specs.Reps.{IsRepOf}
 use Rattle.fsfs_txn_files.specs.Views.{HasTaken}
 
 -- a text was put: it is all that the source had left, it was added at the end of the file, and the representation tells it there
@@ -22,7 +22,7 @@ pub record IsPut (old new : Option Files) (from to : Option (List ℕ)) (name : 
   pub given : GivesAll from to text
   pub short : length text ≤ MAX_TEXT
   pub expected : IfSome expect (λ d. d.bytes ≡ md5 text)
-  pub files : new ≡ option_map (appended name (framed text)) old
+  pub files : new ≡ option_map (appended name (framed_text text)) old
   pub rep_is : IsRepOf rep rep.offset text txn number
   pub offset : IfSome old (λ m. rep.offset ≡ length (bytes_in m name))
 

@@ -1,15 +1,11 @@
 -- The representation of a text that stands in a prototype revision file.
-use Rattle.std.specs.Prelude.{◌≡◌, ℕ, List, ◌++◌, length, Some, None, codes}
+use Rattle.std.specs.Prelude.{◌≡◌, ℕ, List, length, Some, None}
 use Rattle.md5.specs.Md5.{md5}
 use Rattle.sha1.specs.Sha1.{sha1}
 use Rattle.fsfs_base.specs.declared.txn_name.TxnName.{TxnName}
 use Rattle.fsfs_base.specs.declared.base36.B36.{B36}
 use Rattle.fsfs_noderev.specs.declared.rep.Rep.{Rep}
 use Rattle.fsfs_noderev.specs.declared.rep.Uniquifier.{Uniquifier}
-
--- a text with its header and its trailer
-abbrev pub framed : List ℕ → List ℕ
-framed text = codes "PLAIN\n" ++ (text ++ codes "ENDREP\n")
 
 -- the representation is of the transaction, begins at this offset of its prototype file, and tells this text
 pub record IsRepOf (rep : Rep) (offset : ℕ) (text : List ℕ) (txn : TxnName) (number : B36) : Type 0 where

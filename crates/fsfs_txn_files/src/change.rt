@@ -10,10 +10,9 @@ ghost use Rattle.fsfs_txn_files.specs.Texts.{IsNodeFile, ArePropsOf};
 ghost use Rattle.fsfs_txn_files.specs.declared.folder_file.FolderFile.TheVariants.{NextIds, Changes, Node, Children, Props};
 ghost use Rattle.fsfs_txn_files.specs.declared.change.How.TheVariants.{Whole, AtEnd};
 
-use crate::entries::{entry_pairs, entry_text};
 use crate::folder_file::FolderFile;
 use fsfs_base::{Kind, Pairs};
-use fsfs_dag::DirEntry;
+use fsfs_dag::{DirEntry, entry_pairs, entry_text};
 use fsfs_layout::{NextIds as NextNumbers, add_entry, drop_entry, write_hash, write_next_ids};
 use fsfs_noderev::{ChangeItem, NodeId, NodeRev, put_item, write_noderev};
 use std::alloc::{AllocError, Global};

@@ -10,7 +10,6 @@
 
 mod appending;
 mod change;
-mod entries;
 mod folder_file;
 mod laws;
 mod making;

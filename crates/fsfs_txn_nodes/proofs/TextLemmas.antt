@@ -7,12 +7,12 @@ use Rattle.fsfs_base.specs.declared.digest.HexDigest.{HexDigest}
 use Rattle.fsfs_base.specs.declared.base36.B36.{B36}
 use Rattle.fsfs_noderev.specs.declared.rep.Rep.{Rep}
 use Rattle.fsfs_noderev.specs.declared.item.ChangeItem.{ChangeItem}
-use Rattle.fsfs_revision.specs.Frames.{RepIn}
+use Rattle.fsfs_revision.specs.Frames.{RepIn, framed_text}
 use Rattle.fsfs_disk.specs.Benches.{appended, bytes_in, bytes_on}
 use Rattle.fsfs_disk.proofs.BenchLemmas.{bytes_in-appended}
 use Rattle.fsfs_txn_files.specs.declared.text_error.TextError.{TextError}
 use Rattle.fsfs_txn_files.specs.declared.text_error.TextError.TheVariants.{SourceFault, TextTooLong, Checksum, BenchFault}
-use Rattle.fsfs_txn_files.specs.Reps.{framed, IsRepOf}
+use Rattle.fsfs_txn_files.specs.Reps.{IsRepOf}
 use Rattle.fsfs_txn_files.specs.ProtoTexts.{IsPut, IsLeft}
 use Rattle.fsfs_txn_files.proofs.Longer.{read}
 use Rattle.fsfs_draft.specs.Steps.{Files}
@@ -33,9 +33,9 @@ proto_longer old new name more is = subst (λ (o : Option BenchFiles). (added : 
 told_read : (old new : Option BenchFiles) (from to : Option (List ℕ)) (name : List ℕ) (expect : Option (HexDigest 16)) (txn : TxnName) (number : B36) (rep : Rep) → (p : IsPut old new from to name expect txn number rep) → is_some old ≡ true → RepIn rep (bytes_on new name) (Ok p.text)
 told_read old new from to name expect txn number rep p told = subst (λ (o : Option BenchFiles). RepIn rep (bytes_on o name) (Ok p.text)) (sym p.files) (by old told p.offset)
   where
-    by : (o : Option BenchFiles) → is_some o ≡ true → IfSome o (λ m. rep.offset ≡ length (bytes_in m name)) → RepIn rep (bytes_on (option_map (appended name (framed p.text)) o) name) (Ok p.text)
+    by : (o : Option BenchFiles) → is_some o ≡ true → IfSome o (λ m. rep.offset ≡ length (bytes_in m name)) → RepIn rep (bytes_on (option_map (appended name (framed_text p.text)) o) name) (Ok p.text)
     by None some at = absurd cc
-    by (Some m) some at = subst (λ (bytes : List ℕ). RepIn rep bytes (Ok p.text)) (sym (bytes_in-appended m name (framed p.text))) (read rep (bytes_in m name) p.text txn number (subst (λ (n : ℕ). IsRepOf rep n p.text txn number) at p.rep_is))
+    by (Some m) some at = subst (λ (bytes : List ℕ). RepIn rep bytes (Ok p.text)) (sym (bytes_in-appended m name (framed_text p.text))) (read rep (bytes_in m name) p.text txn number (subst (λ (n : ℕ). IsRepOf rep n p.text txn number) at p.rep_is))
 
 module _ (nodes files : Files) (next drawn : NextIds) (items : List ChangeItem) (old new : Option BenchFiles) (name : List ℕ) where
   are_longer : (more : List ℕ) → bytes_on new name ≡ bytes_on old name ++ more → AreLonger (folder_of nodes next items old name) (folder_of nodes next items new name) (folder_of files drawn items old name) (folder_of files drawn items new name) more
@@ -48,7 +48,7 @@ module _ (nodes files : Files) (next drawn : NextIds) (items : List ChangeItem) 
       → IfOk result (IsTextPut (is_some old) from to expect (folder_of nodes next items old name) (folder_of nodes next items new name) (folder_of files drawn items old name) (folder_of files drawn items new name) txn number)
   text_put from to expect txn number (Err e) p = tt
   text_put from to expect txn number (Ok rep) p =
-      let l = proto_longer old new name (framed p.text) p.files in
+      let l = proto_longer old new name (framed_text p.text) p.files in
       record {
         text = p.text;
         given = p.given;

@@ -22,7 +22,6 @@ use Rattle.fsfs_txn_files.specs.declared.text_error.TextError.{TextError}
 use Rattle.fsfs_txn_files.specs.declared.text_error.TextError.TheVariants.{SourceFault, TextTooLong, Checksum, BenchFault}
 use Rattle.fsfs_txn_files.specs.Causes.{IfBench}
 use Rattle.fsfs_txn_files.specs.ProtoTexts.{IsPut, IsLeft}
-use Rattle.fsfs_txn_files.specs.Reps.{framed}
 use Rattle.fsfs_base.specs.declared.txn_name.TxnName.{TxnName}
 use Rattle.fsfs_base.specs.declared.digest.HexDigest.{HexDigest}
 use Rattle.fsfs_base.specs.declared.base36.B36.{B36}
@@ -39,6 +38,7 @@ use Rattle.fsfs_txn_nodes.specs.declared.held_steps.Step.{Step}
 use Rattle.fsfs_txn_nodes.specs.Lists.{with_steps}
 use Rattle.fsfs_txn_nodes.specs.Views.{begun_folder}
 use Rattle.fsfs_txn_nodes.specs.HeldWritten.{filed, HasTold, LeadTo}
+use Rattle.fsfs_revision.specs.Frames.{framed_text}
 
 -- ---- a file that is none of those that tell
 
@@ -117,7 +117,7 @@ left_told before now old new name f BenchFault later rose left named told = lost
 
 pub append_told : (before now : ℕ) (old new : Option BenchFiles) (name : List ℕ) (f : Folder) (from to : Option (List ℕ)) (expect : Option (HexDigest 16)) (txn : TxnName) (number : B36) (result : Result Rep TextError) → before ≤ now → IfErr result (λ e. IfBench e (Rose before now))
     → IfOk result (IsPut old new from to name expect txn number) → IfErr result (IsLeft old new name) → name ≡ codes "rev" → ∥ HasTold before old f ∥₁ → ∥ HasTold now new f ∥₁
-append_told before now old new name f from to expect txn number (Ok rep) later rose put left named told = text_told before now old new name (framed put.text) f later put.files named told
+append_told before now old new name f from to expect txn number (Ok rep) later rose put left named told = text_told before now old new name (framed_text put.text) f later put.files named told
 append_told before now old new name f from to expect txn number (Err e) later rose put left named told = left_told before now old new name f e later rose left named told
 
 -- ---- the beginning

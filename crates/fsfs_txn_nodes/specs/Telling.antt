@@ -17,12 +17,13 @@ use Rattle.fsfs_draft.specs.Items.{with_item}
 use Rattle.fsfs_draft.specs.Views.{new_kept}
 use Rattle.fsfs_txn_files.specs.FileNames.{FitsId, file_name}
 use Rattle.fsfs_txn_files.specs.Texts.{IsNodeFile, ArePropsOf}
-use Rattle.fsfs_txn_files.specs.Children.{IsWholeList, IsPutRecord, IsTakenRecord, HasPut, HasTaken}
+use Rattle.fsfs_txn_files.specs.Children.{IsWholeList, IsPutRecord, IsTakenRecord}
 use Rattle.fsfs_txn_files.specs.Changes.{changed, changed_all, IsChange}
 use Rattle.fsfs_txn_files.specs.declared.change.FileChange.{FileChange}
 use Rattle.fsfs_txn_files.specs.declared.change.How.TheVariants.{Whole, AtEnd}
 use Rattle.fsfs_txn_files.specs.declared.folder_file.FolderFile.TheVariants.{NextIds, Changes, Node, Children, Props}
 use Rattle.fsfs_txn_nodes.specs.Folders.{TellsFolder}
+use Rattle.fsfs_dag.specs.Entries.{HasPut, HasTaken}
 
 abbrev pub FitsNode : NodeId → Type 0
 FitsNode id = FitsId (part_value id.node) (part_value id.copy)

@@ -6,20 +6,8 @@ ghost use Rattle.fsfs_draft.specs.Views.{kept_value};
 use fsfs_base::Pairs;
 use fsfs_dag::Listing;
 use fsfs_draft::KeptNode;
-use fsfs_noderev::{CopyRoot, CopySource, NodeRev};
+use fsfs_noderev::{CopyRoot, NodeRev, same_source};
 use std::alloc::AllocError;
-
-fn same_source(source: &Option<CopySource>) -> Result<Option<CopySource>, AllocError>
-    ensures { IfOk result (λ same. same ≡ source.now) }
-{
-    match source {
-        None => Ok(None),
-        Some(source) => Ok(Some(CopySource {
-            rev: source.rev,
-            path: source.path.clone()?,
-        })),
-    }
-}
 
 fn same_root(root: &Option<CopyRoot>) -> Result<Option<CopyRoot>, AllocError>
     ensures { IfOk result (λ same. same ≡ root.now) }

@@ -10,7 +10,7 @@ use Rattle.fsfs_machine.specs.declared.machine.Txn.{Txn}
 use Rattle.fsfs_machine.specs.Kept.{IsIn}
 use Rattle.fsfs_machine.specs.Machine.{revisions}
 use Rattle.fsfs_turn.specs.Views.{View}
-use Rattle.fsfs_repo.specs.SeenLemmas.{no_shorter}
+use Rattle.fsfs_turn.proofs.Alone.{no_shorter}
 use Rattle.fsfs_repo.specs.Commits.{IfFailed, Meets}
 use Rattle.fsfs_repo.specs.declared.answers.CommitAnswer.{CommitAnswer}
 use Rattle.fsfs_repo.specs.declared.answers.CommitAnswer.TheVariants as replies

@@ -4,7 +4,7 @@ use Rattle.std.specs.Prelude.{None}
 use Rattle.fsfs_machine.specs.declared.machine.Recorded.{Recorded}
 use Rattle.fsfs_machine.specs.Machine.{revisions}
 use Rattle.fsfs_turn.specs.Views.{View, Looked}
-use Rattle.fsfs_repo.proofs.Turning.{begins_take}
+use Rattle.fsfs_turn.proofs.Moments.{begins_take}
 use Rattle.fsfs_cli.specs.declared.faults_fault.Fault.{Fault}
 use Rattle.fsfs_cli.specs.declared.faults_fault.Fault.TheVariants.{Request}
 use Rattle.fsfs_cli.specs.declared.request_fault.RequestFault.TheVariants.{NoRev}

@@ -2,23 +2,18 @@
 use Rattle.std.proofs.Common.{◌≡◌, ◌<◌, ◌≤◌, ◌+◌, ℕ, List, length, sym, ap, ◌∙◌, arith}
 use Rattle.std.specs.Prelude.{Some}
 use Rattle.fsfs_revision.specs.Told.{Knows, Telling}
-use Rattle.fsfs_fetch.specs.Views.{Reach, Ends, Grows, IsKnown}
 use Rattle.fsfs_tree.specs.Dated.{last_of}
 use Rattle.fsfs_machine.specs.declared.machine.Recorded.{Recorded}
 use Rattle.fsfs_machine.specs.Machine.{revisions}
 use Rattle.fsfs_turn.specs.Bytes.{AllShow, BytesShow, bytes_of}
 use Rattle.fsfs_turn.specs.Views.{View}
-use Rattle.fsfs_repo.proofs.Turning.{begins_take}
 use Rattle.fsfs_repo.specs.SeenLemmas.{bytes_same}
 use Rattle.fsfs_turn.specs.Seen.{TellsUpTo}
+use Rattle.fsfs_turn.proofs.Moments.{begins_take}
 use Rattle.fsfs_repo.proofs.Shown.{part_shows}
 use Rattle.fsfs_workers.specs.Working.{up_to}
 use Rattle.fsfs_workers.proofs.Lines.{last_is}
 use Rattle.fsfs_workers.proofs.Parts.{part_length}
-
-pub known_less : (reach : Reach) (n r : ℕ) → r ≤ n → IsKnown reach n → IsKnown reach r
-known_less (Ends y) n r le known = omega (arith, le, known)
-known_less (Grows y) n r le known = omega (arith, le, known)
 
 -- of a pass that has seen what it had seen before it was told the youngest revision
 module _ (v : View) (last : ℕ) (less : last < length v.seen) where

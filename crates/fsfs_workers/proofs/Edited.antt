@@ -12,8 +12,8 @@ use Rattle.fsfs_machine.specs.Machine.{revisions}
 use Rattle.fsfs_turn.specs.Bytes.{bytes_of}
 use Rattle.fsfs_turn.specs.Views.{View, Begins}
 use Rattle.fsfs_turn.proofs.Reading.{begins_on}
-use Rattle.fsfs_repo.proofs.Turning.{begins_take}
-use Rattle.fsfs_repo.specs.SeenLemmas.{no_shorter}
+use Rattle.fsfs_turn.proofs.Moments.{begins_take}
+use Rattle.fsfs_turn.proofs.Alone.{no_shorter}
 use Rattle.fsfs_repo.specs.StayingLemmas.{txn_stays}
 use Rattle.fsfs_jobs.specs.Editing.{IsEditedWhole}
 use Rattle.fsfs_script.specs.declared.job.CommitJob.{CommitJob}

@@ -16,11 +16,11 @@ use Rattle.fsfs_turn.specs.Alone.{BringsNoDoubt, brings_doubt}
 use Rattle.fsfs_turn.specs.Views.{View, Begins, IsTxnOver}
 use Rattle.fsfs_turn.proofs.Longer.{txn_later}
 use Rattle.fsfs_turn.proofs.Reading.{begins_on}
+use Rattle.fsfs_turn.proofs.Moments.{begins_take}
+use Rattle.fsfs_turn.proofs.Alone.{no_shorter}
 use Rattle.fsfs_repo.specs.Replies.{Committed, Moved}
 use Rattle.fsfs_repo.specs.Works.{Landings}
-use Rattle.fsfs_repo.proofs.Turning.{begins_take}
 use Rattle.fsfs_repo.specs.Dating.{IsDatedAt}
-use Rattle.fsfs_repo.specs.SeenLemmas.{no_shorter}
 use Rattle.fsfs_repo.specs.Commits.{Bars, IsDropped}
 use Rattle.fsfs_repo.specs.declared.answers.CommitBar.{CommitBar}
 use Rattle.fsfs_repo.specs.declared.answers.CommitBar.TheVariants as bars

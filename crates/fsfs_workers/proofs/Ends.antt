@@ -17,7 +17,7 @@ use Rattle.fsfs_cli.specs.declared.repository_fault.RepositoryFault.TheVariants.
 use Rattle.fsfs_job_run.specs.Lines.{disk_faults_in, RoseBy}
 use Rattle.fsfs_job_run.specs.Jobs.{bench_faults_in}
 use Rattle.fsfs_job_run.specs.Runs.{RunScene, run_scene, PrintsRun}
-use Rattle.fsfs_workers.specs.declared.run.WorkDone.{WorkDone}
+use Rattle.fsfs_job_run.specs.declared.running.JobsDone.{JobsDone}
 use Rattle.fsfs_workers.specs.ByWorkers.{RanBesideOver, RunsBeside, NotOpened, NotRead, NoRoom, Done, Lost, RunsByWorkers}
 use Rattle.fsfs_workers.specs.Works.{Works}
 
@@ -39,7 +39,7 @@ module _ (moment before after : ℕ) (benches : ℕ → Type 0) (told left : Opt
   pub unroomed : (js : List Job) → ReadsScript remaining (Ok js) → FailsAt FirmNames told left → Works moment 2 true before after benches told left remaining rest faults more (Err Memory)
   unroomed js read firm = λ old new count now. NoRoom js read (record { disk = firm; output = refl; output_faults = refl })
 
-  pub worked : (js : List Job) (done : WorkDone) → ReadsScript remaining (Ok js) → EndsSource remaining rest → length done.answers.items ≡ length js → RoseBy (disk_faults_in done.answers.items) before after → benches (bench_faults_in done.answers.items)
+  pub worked : (js : List Job) (done : JobsDone) → ReadsScript remaining (Ok js) → EndsSource remaining rest → length done.answers.items ≡ length js → RoseBy (disk_faults_in done.answers.items) before after → benches (bench_faults_in done.answers.items)
       → RanBesideOver moment 2 js done.answers.items done.youngest told left → Works moment 2 true before after benches told left remaining rest faults more (Ok done)
   worked js done read ends each rose failed over = λ old new count now ended printed. Done js done.answers.items done.youngest ended read ends each rose failed over printed
 
@@ -55,7 +55,7 @@ forget moment before after benches a b _ (NoRoom js read untouched) = NoRoom js 
 forget moment before after benches a b _ (Done js answers youngest ended read ends each rose failed over printed) = Done js answers youngest ended read ends each rose failed over printed
 forget moment before after benches a b _ (Lost unknown written failed) = absurd cc
 
-pub unknown : (moment before after : ℕ) (benches : ℕ → Type 0) (told left : Option Trace) (remaining rest : Option (List ℕ)) (faults more : ℕ) (done : Result WorkDone Fault) → Works moment 2 true before after benches None None remaining rest faults more done
+pub unknown : (moment before after : ℕ) (benches : ℕ → Type 0) (told left : Option Trace) (remaining rest : Option (List ℕ)) (faults more : ℕ) (done : Result JobsDone Fault) → Works moment 2 true before after benches None None remaining rest faults more done
     → Works moment 2 false before after benches told left remaining rest faults more done
 unknown moment before after benches told left remaining rest faults more (Ok d) works = λ old new count now ended printed.
     forget moment before after benches (run_scene None remaining faults old count) (run_scene None rest more new now) ended (works old new count now ended printed)
@@ -64,7 +64,7 @@ unknown moment before after benches told left remaining rest faults more (Err fa
 
 -- ---- the lines were printed, where there are any
 
-pub printed : (moment : ℕ) (known : Bool) (before after : ℕ) (benches : ℕ → Type 0) (told left : Option Trace) (remaining rest : Option (List ℕ)) (faults more : ℕ) (done : Result WorkDone Fault) (old new : Option (List ℕ)) (count now : ℕ) (ended : Result ℕ Fault)
+pub printed : (moment : ℕ) (known : Bool) (before after : ℕ) (benches : ℕ → Type 0) (told left : Option Trace) (remaining rest : Option (List ℕ)) (faults more : ℕ) (done : Result JobsDone Fault) (old new : Option (List ℕ)) (count now : ℕ) (ended : Result ℕ Fault)
     → Works moment 2 known before after benches told left remaining rest faults more done
     → MatchResult done (λ d. PrintsRun d.answers.items d.youngest old new count now ended) (λ fault. (ended ≡ Err fault) × (new ≡ old) × (now ≡ count))
     → RunsByWorkers moment 2 known before after benches (run_scene told remaining faults old count) (run_scene left rest more new now) ended

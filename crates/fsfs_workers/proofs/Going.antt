@@ -17,13 +17,13 @@ use Rattle.fsfs_turn.specs.Learning.{FloorRead, with_spent}
 use Rattle.fsfs_turn.specs.Views.{View, Looked}
 use Rattle.fsfs_turn.proofs.Doubts.{same_faults, fault_more, harmless_more}
 use Rattle.fsfs_turn.proofs.Reading.{begins_on}
+use Rattle.fsfs_turn.proofs.Alone.{no_shorter}
 use Rattle.fsfs_repo.specs.BeginSteps.{Moved}
 use Rattle.fsfs_repo.specs.BeginPurged.{HasPurged, HasNotPurged, Purges}
 use Rattle.fsfs_repo.specs.PurgeFault.{PurgeFault}
 use Rattle.fsfs_repo.specs.PurgeFault.TheVariants.{DiskFault}
 use Rattle.fsfs_base.specs.declared.place.DiskPlace.TheVariants.{Read, Remove}
 use Rattle.fsfs_repo.specs.Replies.{Moved as CommitMoved}
-use Rattle.fsfs_repo.specs.SeenLemmas.{no_shorter}
 use Rattle.fsfs_repo.specs.Begun.{BeginsTxnAmong}
 use Rattle.fsfs_repo.specs.Commits.{IsDropped}
 use Rattle.fsfs_script.specs.declared.job.Job.{Job}

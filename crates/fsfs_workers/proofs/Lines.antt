@@ -18,11 +18,11 @@ use Rattle.fsfs_machine.proofs.Growing.{revisions_length}
 use Rattle.fsfs_turn.specs.Views.{View, Begins, IsTxnOver}
 use Rattle.fsfs_turn.proofs.Longer.{tree_first}
 use Rattle.fsfs_turn.proofs.Reading.{begins_on}
+use Rattle.fsfs_turn.proofs.Moments.{begins_take}
+use Rattle.fsfs_turn.proofs.Alone.{no_shorter}
 use Rattle.fsfs_repo.specs.Replies.{Committed}
 use Rattle.fsfs_repo.specs.Works.{Landings}
-use Rattle.fsfs_repo.proofs.Turning.{begins_take}
 use Rattle.fsfs_repo.specs.Refusals.{IsClashAt}
-use Rattle.fsfs_repo.specs.SeenLemmas.{no_shorter}
 use Rattle.fsfs_cli.specs.declared.faults_fault.Fault.{Fault}
 use Rattle.fsfs_cli.specs.declared.faults_fault.Fault.TheVariants.{Request, Limit}
 use Rattle.fsfs_cli.specs.declared.limit_fault.LimitFault.TheVariants.{RevsFull}

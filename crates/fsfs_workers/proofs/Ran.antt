@@ -1,17 +1,17 @@
 -- What a run of two workers comes to, behind the close.
 use Rattle.std.proofs.Common.{◌≡◌, ◌<◌, ◌≤◌, ◌+◌, ◌++◌, ℕ, List, [], ◌∷◌, length, true, inl, inr, refl, sym, ap, subst, ◌∙◌, append-nil, arith}
-use Rattle.std.proofs.lemmas.List.{map-append, length-map}
+use Rattle.std.proofs.lemmas.List.{map-append}
 use Rattle.std.specs.Prelude.{Option, Some, None, IfSome, is_some, slice_get}
 use Rattle.fsfs_base.specs.Files.{Files}
-use Rattle.fsfs_tree.specs.Revisions.{Revision}
 use Rattle.fsfs_tree.specs.Dated.{last_of}
 use Rattle.fsfs_disk.specs.Trace.{Trace, IsImage, files_now}
 use Rattle.fsfs_disk.proofs.CrashLemmas.{files_are_image}
 use Rattle.fsfs_stands.specs.Files.{StandsFor}
 use Rattle.fsfs_machine.specs.declared.machine.Recorded.{Recorded}
 use Rattle.fsfs_machine.specs.declared.machine.Coming.{Coming}
-use Rattle.fsfs_machine.specs.Kept.{IsIn}
-use Rattle.fsfs_machine.specs.Machine.{recorded, revisions}
+use Rattle.fsfs_machine.specs.Kept.{IsIn, AreOnce}
+use Rattle.fsfs_machine.specs.Machine.{revisions}
+use Rattle.fsfs_machine.proofs.Growing.{revisions_length}
 use Rattle.fsfs_turn.specs.Alone.{are_harmless}
 use Rattle.fsfs_turn.specs.Past.{IsPart}
 use Rattle.fsfs_turn.specs.Views.{Begins, Looked}
@@ -20,44 +20,31 @@ use Rattle.fsfs_turn.proofs.Alone.{same_by_length}
 use Rattle.fsfs_pass.specs.declared.seat_view.Kin.{Kin}
 use Rattle.fsfs_pass.specs.declared.seat_view.SeatView.{SeatView}
 use Rattle.fsfs_pass.specs.Seats.{all_parts, alone, look_view, view_of}
-use Rattle.fsfs_pass.specs.Kinship.{all_own, own_in, AreOnce as AreSeatsOnce}
+use Rattle.fsfs_pass.specs.Kinship.{all_own, own_in}
 use Rattle.fsfs_pass.proofs.Following.{grown_long}
 use Rattle.fsfs_repo.specs.Left.{Leaves}
 use Rattle.fsfs_script.specs.declared.job.Job.{Job}
 use Rattle.fsfs_jobs.specs.declared.answer.JobAnswer.{JobAnswer}
 use Rattle.fsfs_job_run.specs.Jobs.{own_of_all}
 use Rattle.fsfs_job_run.specs.Beside.{GoesOnFrom}
-use Rattle.fsfs_job_run.specs.Lines.{AreOnce, JobLines, WorkerLines, dealt}
+use Rattle.fsfs_job_run.specs.Lines.{JobLines, WorkerLines, dealt}
 use Rattle.fsfs_job_run.specs.Passes.{IsOnward, last_known}
-use Rattle.fsfs_job_run.proofs.BesideLemmas.{all_stay, begins_on}
-use Rattle.fsfs_job_run.specs.Runs.{AllStandFor, HoldsAll, IsPartOf}
+use Rattle.fsfs_job_run.proofs.BesideLemmas.{all_stay, begins_on, goes_on_itself}
+use Rattle.fsfs_job_run.proofs.RunLemmas.{a_part}
+use Rattle.fsfs_job_run.specs.Runs.{AllStandFor, HoldsAll}
 use Rattle.fsfs_workers.specs.Ready.{IsAtRest}
 use Rattle.fsfs_workers.specs.Two.{BothWorked, RanTwo}
 use Rattle.fsfs_workers.proofs.Shares.{shares_tell, shares_tell_once}
 
 -- ---- histories and their revisions
 
-many : (h : List Recorded) → length (revisions h) ≡ length h
-many h = length-map h (λ (x : Recorded). x.revision)
-
 goes_on : (h g : List Recorded) → Begins h g → GoesOnFrom (revisions g) (revisions h)
 goes_on h g begins = (revisions begins.0, ap revisions begins.1 ∙ map-append (λ (x : Recorded). x.revision) g begins.0)
-
-same : (h : List Revision) → GoesOnFrom h h
-same h = ([], sym (append-nil h))
-
-a_part : (h g : List Recorded) (d : Option Coming) → IsPart h d g → IsPartOf (revisions h) (revisions g)
-a_part h g d (inl (more, is)) = inl (revisions more, ap revisions is ∙ map-append (λ (x : Recorded). x.revision) g more)
-a_part h g d (inr (x, is, with)) = inr (x.revision, ap revisions with ∙ map-append (λ (r : Recorded). r.revision) h (recorded x ∷ []))
 
 -- where no revision is in doubt, a part that is no shorter is the history
 whole_part : (h g : List Recorded) (d : Option Coming) → d ≡ None → IsPart h d g → length h ≤ length g → g ≡ h
 whole_part h g d none (inl begins) long = sym (same_by_length g h begins long)
 whole_part h g d none (inr (x, is, with)) long = let no : Some x ≡ None = sym is ∙ none in absurd cc
-
-once_so : (xs : List ℕ) → AreSeatsOnce xs → AreOnce xs
-once_so [] once = tt
-once_so (x ∷ xs) once = (once.0, once_so xs once.1)
 
 -- ---- the run
 
@@ -71,7 +58,7 @@ module _ (moment young : ℕ) (js : List Job) (answers : List JobAnswer) (v u : 
   all = leaves.all parts
 
   since_then : u.opened ≡ length (revisions v.seen)
-  since_then = both.opened ∙ opened ∙ sym (many v.seen)
+  since_then = both.opened ∙ opened ∙ sym (revisions_length v.seen)
 
   begins : Begins h u.seen
   begins = leaves.begins
@@ -94,13 +81,13 @@ module _ (moment young : ℕ) (js : List Job) (answers : List JobAnswer) (v u : 
   -- ---- the lines
 
   knew_all : last_of (revisions v.seen) ≤ last_known (view_of v)
-  knew_all = let e = many v.seen in omega (arith, e)
+  knew_all = let e = revisions_length v.seen in omega (arith, e)
 
   on : IsOnward (view_of u) h
   on = record { begins = begins; has = let long = grown_long h u.seen begins in omega (arith, looked.least, leaves.least, long) }
 
   lines_hold : (w : ℕ) → w < 2 → WorkerLines moment (revisions h) (last_of (revisions v.seen)) (dealt 2 w js) (dealt 2 w answers)
-  lines_hold w less = all_stay moment (revisions h) (revisions h) (last_known (view_of v)) (last_of (revisions v.seen)) (dealt 2 w js) (dealt 2 w answers) (same (revisions h)) knew_all (both.lines h on w less)
+  lines_hold w less = all_stay moment (revisions h) (revisions h) (last_known (view_of v)) (last_of (revisions v.seen)) (dealt 2 w js) (dealt 2 w answers) (goes_on_itself (revisions h)) knew_all (both.lines h on w less)
 
   lines : JobLines moment 2 js answers (revisions v.seen) (revisions h)
   lines = record {
@@ -108,9 +95,9 @@ module _ (moment young : ℕ) (js : List Job) (answers : List JobAnswer) (v u : 
     grew = goes_on h v.seen (begins_on h u.seen v.seen begins both.grows);
     lines = lines_hold;
     told = λ r from less.
-        let few = many h in
+        let few = revisions_length h in
         shares_tell answers r (subst (λ (l : List ℕ). IsIn r l) own_are (leaves.added parts r (omega (arith, from, since_then)) (omega (arith, less, few))));
-    once = shares_tell_once answers (once_so all_told (subst AreSeatsOnce own_are leaves.once));
+    once = shares_tell_once answers (subst AreOnce own_are leaves.once);
   }
 
   -- ---- the disk
@@ -121,11 +108,11 @@ module _ (moment young : ℕ) (js : List Job) (answers : List JobAnswer) (v u : 
     seen = h;
     are = refl;
     whole = λ m image r x at. leaves.whole m image r x (ap (λ (l : List Recorded). slice_get l r) (sym all) ∙ at);
-    named = λ m image. subst (NamesFrom m) (ap (λ (l : List Recorded). length l) (sym all) ∙ sym (many h)) (leaves.named m image);
+    named = λ m image. subst (NamesFrom m) (ap (λ (l : List Recorded). length l) (sym all) ∙ sym (revisions_length h)) (leaves.named m image);
     stands = λ m image.
         let p = leaves.now m image in
-        let a = many h in
-        let b = many p.0 in
+        let a = revisions_length h in
+        let b = revisions_length p.0 in
         (revisions p.0, a_part h p.0 leaves.doubt p.1, omega (arith, a, b, p.2), p.4);
     moments = λ m image. let p = leaves.moments m image in (p.0, p.3, a_part h p.0 leaves.doubt p.1, omega (arith, p.2, since_then), p.4);
   }
@@ -143,7 +130,7 @@ module _ (moment young : ℕ) (js : List Job) (answers : List JobAnswer) (v u : 
       record {
         now = revisions h;
         lines = lines;
-        last = many h ∙ last;
+        last = revisions_length h ∙ last;
         held = held;
         stuck = λ quiet. both.found (calm (both.doubtless quiet few)).1;
         certain = λ quiet. stands_all (calm (both.doubtless quiet few)).0;

@@ -11,7 +11,7 @@ use Rattle.fsfs_tree.specs.Nodes.{Content, Bytes, Closed}
 use Rattle.fsfs_tree.specs.Revisions.{tree_of}
 use Rattle.fsfs_turn.specs.Views.{View, Begins}
 use Rattle.fsfs_turn.proofs.Reading.{begins_on}
-use Rattle.fsfs_repo.proofs.Turning.{begins_take}
+use Rattle.fsfs_turn.proofs.Moments.{begins_take}
 use Rattle.fsfs_cli.specs.declared.faults_fault.Fault.TheVariants.{Outside}
 use Rattle.fsfs_cli.specs.declared.outside_fault.OutsideFault.TheVariants as outside
 use Rattle.fsfs_script.specs.declared.job.ReadJob.{ReadJob}

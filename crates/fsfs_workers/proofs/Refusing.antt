@@ -10,7 +10,7 @@ use Rattle.fsfs_machine.specs.Machine.{revisions}
 use Rattle.fsfs_turn.specs.Bytes.{bytes_of}
 use Rattle.fsfs_turn.specs.Views.{View, Begins}
 use Rattle.fsfs_turn.proofs.Reading.{begins_on}
-use Rattle.fsfs_repo.proofs.Turning.{begins_take}
+use Rattle.fsfs_turn.proofs.Moments.{begins_take}
 use Rattle.fsfs_cli.specs.declared.faults_fault.Fault.{Fault}
 use Rattle.fsfs_cli.specs.declared.faults_fault.Fault.TheVariants.{Words, Request, Repository, Outside, Memory, Limit}
 use Rattle.fsfs_cli.specs.declared.request_fault.RequestFault.TheVariants.{Mergeinfo}

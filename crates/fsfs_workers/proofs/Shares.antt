@@ -1,10 +1,10 @@
 -- What the lines of two workers tell, of their lines in the order of the jobs.
 use Rattle.std.proofs.Common.{◌⊎◌, ◌-◌, ℕ, zero, suc, List, [], ◌∷◌, ◌++◌, ⊎_elim, sym, subst, inl, inr, append_assoc, append-nil}
-use Rattle.fsfs_machine.specs.Kept.{IsIn}
+use Rattle.fsfs_machine.specs.Kept.{IsIn, AreOnce}
 use Rattle.fsfs_jobs.specs.declared.answer.JobAnswer.{JobAnswer}
 use Rattle.fsfs_jobs.specs.declared.answer.JobAnswer.TheVariants.{Committed, Read, Conflict, Stopped}
 use Rattle.fsfs_job_run.specs.Jobs.{own_of, own_of_all, TellNoDoubt}
-use Rattle.fsfs_job_run.specs.Lines.{dealt, AreOnce, TellNoneStuck}
+use Rattle.fsfs_job_run.specs.Lines.{dealt, TellNoneStuck}
 
 -- ---- what stands in two lists
 

@@ -13,7 +13,7 @@ use Rattle.fsfs_machine.specs.Machine.{revisions}
 use Rattle.fsfs_machine.proofs.Growing.{revisions_length}
 use Rattle.fsfs_turn.specs.Views.{Begins}
 use Rattle.fsfs_turn.proofs.Longer.{tree_first}
-use Rattle.fsfs_repo.specs.SeenLemmas.{no_shorter}
+use Rattle.fsfs_turn.proofs.Alone.{no_shorter}
 use Rattle.fsfs_cli.specs.declared.faults_fault.Fault.{Fault}
 use Rattle.fsfs_cli.specs.declared.faults_fault.Fault.TheVariants.{Request}
 use Rattle.fsfs_cli.specs.declared.request_fault.RequestFault.TheVariants.{NoRev}

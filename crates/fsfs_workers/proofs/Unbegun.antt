@@ -1,6 +1,6 @@
 -- A job whose transaction was begun beside others, or why none was.
 use Rattle.std.proofs.Common.{◌≡◌, ◌≤◌, ◌<◌, ℕ, length, refl, sym, subst, arith}
-use Rattle.std.specs.Prelude.{Result, Ok, Err, IfOk, IfErr}
+use Rattle.std.specs.Prelude.{Err}
 use Rattle.fsfs_base.specs.declared.txn_name.TxnName.{TxnName}
 use Rattle.fsfs_revision.specs.declared.wrong.Wrong.{Wrong}
 use Rattle.fsfs_draft.specs.Drafts.{Folder}
@@ -115,11 +115,3 @@ lacking_so knows rose moment job why fault v m u known goes moved lacks disk is 
 -- what was begun on the base stands on that
 pub begun_on : (name : TxnName) (base on : ℕ) (settled : Folder) (v u : View) → on ≡ base → BeginsTxnAmong name base settled v u → BeginsTxnAmong name on settled v u
 begun_on name base on settled v u same b = subst (λ (n : ℕ). BeginsTxnAmong name n settled v u) (sym same) b
-
--- ---- by results
-
-pub told_ok : {X E : Type 0} (r : Result X E) (x : X) (P : X → Type 0) → r ≡ Ok x → IfOk r P → P x
-told_ok r x P e w = subst (λ z. IfOk z P) e w
-
-pub told_err : {X E : Type 0} (r : Result X E) (x : E) (P : E → Type 0) → r ≡ Err x → IfErr r P → P x
-told_err r x P e w = subst (λ z. IfErr z P) e w

@@ -3,12 +3,12 @@ use Rattle.std.specs.Prelude.{ℕ, Bool, List, Option, Result, Err, MatchResult}
 use Rattle.fsfs_disk.specs.Trace.{Trace}
 use Rattle.fsfs_cli.specs.declared.faults_fault.Fault.{Fault}
 use Rattle.fsfs_job_run.specs.Runs.{run_scene, PrintsRun}
-use Rattle.fsfs_workers.specs.declared.run.WorkDone.{WorkDone}
+use Rattle.fsfs_job_run.specs.declared.running.JobsDone.{JobsDone}
 use Rattle.fsfs_workers.specs.ByWorkers.{RunsByWorkers}
 
 -- However the lines are printed then, that is a run by so many workers; and so is a fault with nothing printed. The disk's count of faults went
 -- from `before` to `after`, so many calls of benches failed (`benches`), its trace from `told` to `left`, and the input's bytes and count of faults from `remaining` and `faults` to `rest` and `more`.
-abbrev pub Works : ℕ → ℕ → Bool → ℕ → ℕ → (ℕ → Type 0) → Option Trace → Option Trace → Option (List ℕ) → Option (List ℕ) → ℕ → ℕ → Result WorkDone Fault → Type 0
+abbrev pub Works : ℕ → ℕ → Bool → ℕ → ℕ → (ℕ → Type 0) → Option Trace → Option Trace → Option (List ℕ) → Option (List ℕ) → ℕ → ℕ → Result JobsDone Fault → Type 0
 Works moment workers known before after benches told left remaining rest faults more done = (old new : Option (List ℕ)) (count now : ℕ) → MatchResult done
     (λ d. (ended : Result ℕ Fault) → PrintsRun d.answers.items d.youngest old new count now ended → RunsByWorkers moment workers known before after benches (run_scene told remaining faults old count) (run_scene left rest more new now) ended)
     (λ fault. RunsByWorkers moment workers known before after benches (run_scene told remaining faults old count) (run_scene left rest more old count) (Err fault))

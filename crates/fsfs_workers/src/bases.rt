@@ -1,7 +1,5 @@
 //! The revision that a job is about.
-ghost use Rattle.std.specs.Prelude.{◌≡◌, ◌≤◌, ◌<◌, IfOk, IfErr};
-ghost use Rattle.fsfs_cli.specs.declared.faults_fault.Fault.TheVariants.{Request};
-ghost use Rattle.fsfs_cli.specs.declared.request_fault.RequestFault.TheVariants.{NoRev};
+ghost use Rattle.std.specs.Prelude.{◌≡◌, ◌≤◌, IfOk, IfErr};
 ghost use Rattle.fsfs_fetch.specs.Views.{IsKnown};
 ghost use Rattle.fsfs_turn.specs.Labels.{KeepsLabels};
 ghost use Rattle.fsfs_turn.specs.Views.{View, Looked};
@@ -9,20 +7,10 @@ ghost use Rattle.fsfs_jobs.specs.Serial.{base_of};
 ghost use Rattle.fsfs_job_run.specs.Running.{LacksBase};
 
 use fsfs_base::RevNum;
-use fsfs_cli::{Fault, RequestFault};
+use fsfs_cli::Fault;
+use fsfs_job_run::numbered;
 use fsfs_script::Base;
 use fsfs_turn::Turns;
-
-// The revision of this number, up to the youngest.
-fn numbered(asked: u64, youngest: RevNum) -> Result<RevNum, Fault>
-    ensures there { IfOk result (λ rev. (rev ≡ asked) × (rev ≤ youngest)) }
-    ensures lacks { IfErr result (λ fault. (youngest < asked) × (fault ≡ Request (NoRev asked youngest))) }
-{
-    match RevNum::new(asked) {
-        Some(rev) if rev <= youngest => Ok(rev),
-        _ => Err(Fault::Request(RequestFault::NoRev { asked, youngest })),
-    }
-}
 
 /// The youngest revision, which is looked at, and the one that a job is about. An `Err` is that there is no such revision.
 pub(crate) fn base_of<R, T: Turns<R>>(turns: &mut T, base: Base) -> (RevNum, Result<RevNum, Fault>)

@@ -21,5 +21,5 @@ mod worker;
 pub use beside::do_beside;
 pub use fsfs_job_run::run_script;
 pub use job::do_job;
-pub use run::{WorkDone, run_two};
+pub use run::run_two;
 pub use running::run_script_by_two;

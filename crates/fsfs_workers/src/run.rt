@@ -9,22 +9,15 @@ ghost use Rattle.fsfs_workers.specs.Ready.{IsReady};
 ghost use Rattle.fsfs_workers.specs.Two.{RanTwo};
 
 use crate::beside::do_beside;
-use fsfs_base::{Gate, RevNum};
+use fsfs_base::Gate;
 use fsfs_disk::Disk;
-use fsfs_jobs::JobAnswer;
+use fsfs_job_run::JobsDone;
 use fsfs_pass::{SharedSeat, look};
 use fsfs_repo::SharedRepo;
 use fsfs_script::Job;
 use std::alloc::{AllocError, Global};
 use std::sync::Wait;
 use std::thread::Threads;
-
-/// What became of jobs, and the youngest revision behind them.
-#[derive(Drop)]
-pub struct WorkDone {
-    pub answers: Vec<JobAnswer>,
-    pub youngest: RevNum,
-}
 
 /// Does jobs by two workers beside each other in a repository, of which nobody but the pass in this seat has turns, and gives its disk
 /// back. Both workers have ended then. An `Err` is for want of memory, and then no job was done.
@@ -36,7 +29,7 @@ pub fn run_two<R: Threads + Wait + Sync, D: Disk + Drop + Send, G: Gate + Sync>(
     jobs: &[Job],
     micros: u64,
     gate: &G,
-) -> (D, Result<WorkDone, AllocError>)
+) -> (D, Result<JobsDone, AllocError>)
 where
     D::Bench: Send,
     requires moment { micros ≤ 4102444799999999 }
@@ -66,7 +59,7 @@ where
     match done {
         Ok(answers) => {
             let youngest = look(board, &mut seat);
-            (repo.close(rt, seat), Ok(WorkDone { answers, youngest }))
+            (repo.close(rt, seat), Ok(JobsDone { answers, youngest }))
         }
         Err(error) => (repo.close(rt, seat), Err(error)),
     }

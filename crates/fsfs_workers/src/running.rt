@@ -9,29 +9,19 @@ ghost use Rattle.fsfs_job_run.specs.Runs.{run_scene, PrintsRun};
 ghost use Rattle.fsfs_workers.specs.ByWorkers.{RunsByWorkers};
 ghost use Rattle.fsfs_workers.specs.Works.{Works};
 
-use crate::{WorkDone, run_two};
+use crate::run_two;
 use fsfs_base::{Gate, Sink, SmallFault, SmallFile, Source};
-use fsfs_cli::{Fault, OutsideFault, RepositoryFault};
+use fsfs_cli::{Fault, RepositoryFault};
 use fsfs_disk::{Disk, QuietDisk};
-use fsfs_job_run::{greatest_status, print_run};
+use fsfs_job_run::{JobsDone, tell};
 use fsfs_repo::{OpenedShared, SharedRepo};
 use fsfs_script::read_script;
 use std::alloc::Global;
 use std::sync::Wait;
 use std::thread::Threads;
 
-// Prints what became of jobs, and gives the greatest status that a line asks for.
-fn tell<O: Sink>(out: &mut O, done: &WorkDone) -> Result<u8, Fault>
-    ensures printed { PrintsRun done.now.answers.items done.now.youngest (O.written out.old) (O.written out.new) (O.faults out.old) (O.faults out.new) result }
-{
-    match print_run(out, &done.answers, done.youngest) {
-        Ok(()) => Ok(greatest_status(&done.answers)),
-        Err(_) => Err(Fault::Outside(OutsideFault::Write)),
-    }
-}
-
-// The same, where there are lines to print.
-fn tell_if<O: Sink>(out: &mut O, done: Result<WorkDone, Fault>) -> Result<u8, Fault>
+// Prints what became of jobs, where there are lines to print.
+fn tell_if<O: Sink>(out: &mut O, done: Result<JobsDone, Fault>) -> Result<u8, Fault>
     ensures { MatchResult done (λ d. PrintsRun d.answers.items d.youngest (O.written out.old) (O.written out.new) (O.faults out.old) (O.faults out.new) result)
         (λ fault. (result ≡ Err fault) × (O.written out.new ≡ O.written out.old) × (O.faults out.new ≡ O.faults out.old)) }
 {
@@ -49,7 +39,7 @@ fn work_known<R: Threads + Wait + Sync, D: Disk + Drop + Send, I: Source, G: Gat
     input: &mut I,
     micros: u64,
     gate: &G,
-) -> (D, Result<WorkDone, Fault>)
+) -> (D, Result<JobsDone, Fault>)
 where
     D::Bench: Send,
     requires right { IsTrue (D.may_write disk) }
@@ -83,7 +73,7 @@ fn work_unknown<R: Threads + Wait + Sync, D: Disk + Drop + Send, I: Source, G: G
     input: &mut I,
     micros: u64,
     gate: &G,
-) -> (D, Result<WorkDone, Fault>)
+) -> (D, Result<JobsDone, Fault>)
 where
     D::Bench: Send,
     requires right { IsTrue (D.may_write disk) }
@@ -115,7 +105,7 @@ fn work<R: Threads + Wait + Sync, D: Disk + Drop + Send, I: Source, G: Gate + Sy
     micros: u64,
     gate: &G,
     known: bool,
-) -> (D, Result<WorkDone, Fault>)
+) -> (D, Result<JobsDone, Fault>)
 where
     D::Bench: Send,
     requires right { IsTrue (D.may_write disk) }

@@ -9,8 +9,8 @@ use Rattle.fsfs_disk.specs.Trace.{Trace, files_now}
 use Rattle.fsfs_revision.specs.RevBytes.{rev_bytes}
 use Rattle.fsfs_revision.specs.ShowsReading.{RootOf}
 use Rattle.fsfs_disk.specs.Txns.{pair_of, txn_label}
+use Rattle.fsfs_disk.specs.Published.{IsOldOrThis}
 use Rattle.fsfs_begin.specs.Beginning.{BeginsOn}
-use Rattle.fsfs_begin.specs.Benches.{IsOldOrThis}
 use Rattle.fsfs_begin.specs.Begun.{IfWrongBase, IsBegunOn}
 use Rattle.fsfs_begin.specs.declared.begin_fault.BeginFault.{BeginFault}
 use Rattle.fsfs_begin.proofs.BeginLemmas.{answers_wrong, read_wrong}

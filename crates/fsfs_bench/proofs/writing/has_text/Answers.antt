@@ -1,5 +1,5 @@
 use Rattle.std.proofs.Common.{◌∙◌, sym}
-use Rattle.fsfs_bench.proofs.TextLemmas.{told_has_text}
+use Rattle.fsfs_noderev.proofs.ItemLemmas.{told_has_text}
 use Rattle.fsfs_bench.proofs.writing.has_text.Goals as goal
 
 pub returns-in-Ok : goal.returns-in-Ok

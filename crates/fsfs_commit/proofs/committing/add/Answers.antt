@@ -2,7 +2,7 @@ use Rattle.std.proofs.Common.{refl, sym, subst, ◌∙◌}
 use Rattle.fsfs_machine.specs.declared.machine.Section.TheVariants.{Begun}
 use Rattle.fsfs_turn.specs.Views.{MayAdopt}
 use Rattle.fsfs_commit.specs.Courses.{IsMade, Published}
-use Rattle.fsfs_commit.proofs.Turning.{on_ok, if_err}
+use Rattle.fsfs_base.proofs.ResultLemmas.{if_err, on_ok}
 use Rattle.fsfs_commit.proofs.committing.add.Goals as goal
 
 -- ---- the calls are due

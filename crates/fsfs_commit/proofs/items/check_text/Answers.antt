@@ -1,8 +1,8 @@
 use Rattle.std.proofs.Common.{rules}
 use Rattle.std.proofs.lemmas.Result.{err_from_is_err_and}
 use Rattle.fsfs_noderev.specs.Limits.{IsItemPast}
+use Rattle.fsfs_noderev.proofs.ItemLemmas.{told_has_text}
 use Rattle.fsfs_commit.specs.Items.{IsUntold}
-use Rattle.fsfs_commit.proofs.ItemLemmas.{told_has_text}
 use Rattle.fsfs_commit.proofs.Refusals.{limit_refused}
 use Rattle.fsfs_commit.proofs.items.check_text.Goals as goal
 

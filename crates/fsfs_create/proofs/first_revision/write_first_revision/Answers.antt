@@ -3,8 +3,9 @@ use Rattle.std.specs.Prelude.{codes}
 use Rattle.fsfs_base.specs.Grammar.{Appends}
 use Rattle.fsfs_layout.specs.Dump.{dump_text}
 use Rattle.fsfs_revision.specs.Trailers.{IsTrailer}
+use Rattle.fsfs_revision.proofs.FirstRevision.{root_text}
 use Rattle.fsfs_create.specs.FirstRoot.{IsFirstRoot}
-use Rattle.fsfs_create.proofs.FirstTexts.{root_text, first_root_text, first_trailer_text}
+use Rattle.fsfs_create.proofs.FirstTexts.{first_root_text, first_trailer_text}
 use Rattle.fsfs_create.proofs.first_revision.write_first_revision.Goals as goal
 
 pub returns : goal.returns

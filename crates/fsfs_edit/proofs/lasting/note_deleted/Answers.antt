@@ -5,7 +5,7 @@ use Rattle.std.proofs.lemmas.Map.Text.{hash_set_updates_text}
 use Rattle.indexmap.specs.IndexSet.{contains_text}
 use Rattle.fsfs_base.specs.declared.action.Action.{Action}
 use Rattle.fsfs_base.specs.Paths.{names_text}
-use Rattle.fsfs_edit.specs.FoldedItems.{is_delete}
+use Rattle.fsfs_model.specs.Folding.{deletes}
 use Rattle.fsfs_edit.proofs.lasting.note_deleted.Goals as goal
 
 or_cond : (b x : Bool) → cond b true x ≡ (b || x)
@@ -20,4 +20,4 @@ returns-in_ok-insert-in-Delete c = λ key.
     hash_set_updates_text text c.args.deleted.now c.insert.new.self true c.in_ok-insert-in-Delete.ensures.updates key
     ∙ or_cond (bytes_eq text key) was
     ∙ ap (λ (t : List ℕ). bytes_eq t key || was) c.in_ok-key_of-in-Delete.ensures
-    ∙ ap (λ (a : Action). (is_delete a && bytes_eq (names_text path) key) || was) (sym c.in-Delete.is)
+    ∙ ap (λ (a : Action). (deletes a && bytes_eq (names_text path) key) || was) (sym c.in-Delete.is)

@@ -5,7 +5,8 @@ use Rattle.std.proofs.lemmas.Map.Text.{btree_map_updates_text}
 use Rattle.fsfs_base.specs.Paths.{PathName, same_name}
 use Rattle.fsfs_dag.specs.declared.directory.DirEntry.{DirEntry}
 use Rattle.fsfs_final.specs.Children.{ids_in}
-use Rattle.fsfs_final.proofs.Pushing.{put_front, empty_map, whole_list, last_split}
+use Rattle.fsfs_final.proofs.Pushing.{put_front, whole_list, last_split}
+use Rattle.fsfs_merge.proofs.ListLemmas.{empty_map}
 use Rattle.fsfs_final.proofs.children.ids_by_name.Goals as goal
 
 pub loop-left-init : goal.loop-left-init

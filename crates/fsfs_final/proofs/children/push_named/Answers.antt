@@ -5,7 +5,8 @@ use Rattle.std.proofs.lemmas.Map.Text.{btree_map_updates_text}
 use Rattle.std.proofs.lemmas.Result.{err_from_is_err_and}
 use Rattle.fsfs_final.specs.Orders.{last_first}
 use Rattle.fsfs_final.specs.Children.{ids_in}
-use Rattle.fsfs_final.proofs.Pushing.{nothing_pushed, one_more, all_pushed, lacking_as, empty_map}
+use Rattle.fsfs_final.proofs.Pushing.{nothing_pushed, one_more, all_pushed, lacking_as}
+use Rattle.fsfs_merge.proofs.ListLemmas.{empty_map}
 use Rattle.fsfs_final.proofs.children.push_named.Goals as goal
 
 pub loop-name-init : goal.loop-name-init

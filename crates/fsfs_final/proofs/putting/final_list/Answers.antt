@@ -4,8 +4,8 @@ use Rattle.fsfs_dag.specs.declared.directory.DirEntry.{DirEntry as Listed}
 use Rattle.fsfs_dag.specs.Views.{entry_values}
 use Rattle.fsfs_dag.specs.declared.listing.Listing.{Listing}
 use Rattle.fsfs_dag.specs.ListingViews.{listed}
+use Rattle.fsfs_dag.specs.Entries.{ListsEntries}
 use Rattle.fsfs_revision.specs.ShowsReading.{DirEntry}
-use Rattle.fsfs_final.specs.Entries.{ListsEntries}
 use Rattle.fsfs_final.specs.Naming.{ids_of, final_entry}
 use Rattle.fsfs_final.specs.Putting.{AreFinalPairs, AreUtf8}
 use Rattle.fsfs_final.proofs.NameLemmas.{names_utf8}
@@ -27,4 +27,4 @@ returns-in_ok-pairs-in-Some c =
     let named : entry_values c.as_slice-in-Some.result.now ≡ map (final_entry ids dir) (listed c.in-Some.entries)
     = ap entry_values c.as_slice-in-Some.ensures.value ∙ c.in_ok-named-in-Some.ensures ∙ ap (λ (l : List Listed). map (final_entry ids dir) (entry_values l)) c.as_slice.ensures.value ∙ ap (λ (l : List DirEntry). map (final_entry ids dir) l) is in
     subst (λ (o : Option (List DirEntry)). AreFinalPairs ids dir o (Some c.in_ok-pairs-in-Some.pairs)) (sym (ap values c.in-Some.is))
-    (subst (λ (l : List DirEntry). ListsEntries l c.in_ok-pairs-in-Some.pairs) named c.in_ok-pairs-in-Some.ensures, subst (λ (l : List DirEntry). AreUtf8 l) is (names_utf8 all))
+    (subst (λ (l : List DirEntry). ListsEntries l c.in_ok-pairs-in-Some.pairs) named c.in_ok-pairs-in-Some.ensures.lists, subst (λ (l : List DirEntry). AreUtf8 l) is (names_utf8 all))

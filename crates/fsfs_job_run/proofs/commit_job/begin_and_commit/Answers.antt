@@ -1,6 +1,6 @@
 use Rattle.std.proofs.Common.{◌≡◌, ⊎_elim, sym, ap, subst, ◌∙◌, arith}
-use Rattle.std.specs.Prelude.{Result, Ok, Err, IfOk, IfErr, OnErr}
 use Rattle.fsfs_base.specs.Failures.{Rose}
+use Rattle.fsfs_base.proofs.ResultLemmas.{if_ok, if_err, on_err}
 use Rattle.fsfs_tree.specs.Revisions.{tree_of}
 use Rattle.fsfs_machine.specs.Machine.{revisions}
 use Rattle.fsfs_machine.proofs.Growing.{revisions_length}
@@ -21,20 +21,11 @@ use Rattle.fsfs_job_run.proofs.Seen.{trees_seen}
 use Rattle.fsfs_job_run.proofs.Whole.{root_whole}
 use Rattle.fsfs_job_run.proofs.commit_job.begin_and_commit.Goals as goal
 
-told_ok : {X E : Type 0} (r : Result X E) (x : X) (P : X → Type 0) → r ≡ Ok x → IfOk r P → P x
-told_ok r x P e w = subst (λ z. IfOk z P) e w
-
-told_err : {X E : Type 0} (r : Result X E) (x : E) (P : E → Type 0) → r ≡ Err x → IfErr r P → P x
-told_err r x P e w = subst (λ z. IfErr z P) e w
-
-told_left : {X E : Type 0} (r : Result X E) (x : E) (P : Type 0) → r ≡ Err x → OnErr r P → P
-told_left r x P e w = subst (λ z. OnErr z P) e w
-
 pub returns-in-Ok-clause-does : goal.returns-in-Ok-clause-does
 returns-in-Ok-clause-does g c = λ v known none told on le.
     let after = c.edit_and_commit.result.0.turns in
-    let same = told_ok c.begin-repo.result.1 c.in-Ok.txn (λ z. z.base ≡ c.args.base) c.in-Ok.is c.begin-repo.ensures.base in
-    let d = told_ok c.begin-repo.result.1 c.in-Ok.txn _ c.in-Ok.is (c.begin-repo.ensures.begun v known none) in
+    let same = if_ok c.begin-repo.result.1 c.in-Ok.txn (λ z. z.base ≡ c.args.base) c.in-Ok.is c.begin-repo.ensures.base in
+    let d = if_ok c.begin-repo.result.1 c.in-Ok.txn _ c.in-Ok.is (c.begin-repo.ensures.begun v known none) in
     begun_so (KnowsAlone after.layout after.young after.stuck (g.D.Disk.trace after.disk)) (Rose (g.D.Disk.faults c.begin-repo.result.0.turns.disk) (g.D.Disk.faults after.disk)) (Rose (g.D.Disk.faults c.args.repo.turns.disk) (g.D.Disk.faults after.disk)) c.args.micros c.args.base c.in-Ok.txn.base _ _ c.args.job.now
     c.edit_and_commit.result.1 v d.0 (λ r. omega (arith, r, c.begin-repo.ensures.later)) known.1.own d.1.1.own told on same d.2 (λ out still given based so stands. c.edit_and_commit.ensures.does d.0 d.1 out still given based so stands)
 
@@ -43,12 +34,12 @@ returns-in-Err-clause-does g c = λ v known none told on le.
     let after = c.begin-repo.result.0.turns in
     let rose = Rose (g.D.Disk.faults c.args.repo.turns.disk) (g.D.Disk.faults after.disk) in
     let job = c.args.job.now in
-    let disk = told_err c.begin-repo.result.1 c.in-Err.why (λ why. IfDisk why rose) c.in-Err.is c.begin-repo.ensures.cause in
+    let disk = if_err c.begin-repo.result.1 c.in-Err.why (λ why. IfDisk why rose) c.in-Err.is c.begin-repo.ensures.cause in
     subst (λ f. CommitsSo (KnowsAlone after.layout after.young after.stuck (g.D.Disk.trace after.disk)) rose c.args.micros job (Stopped job.line f) v) (sym c.of_begin-fault.ensures)
     (⊎_elim (λ d. unbegun_so (KnowsAlone after.layout after.young after.stuck (g.D.Disk.trace after.disk)) rose c.args.micros c.args.base job c.in-Err.why v d.0 d.1 known.1.own d.1.1.own told le d.2
     (λ wrong less root. root_whole (bytes_of d.0.seen) c.args.base (tree_of (revisions d.0.seen) c.args.base) wrong ((trees_seen after.layout after.young after.stuck (g.D.Disk.trace after.disk) d.0 d.1).each c.args.base (omega (arith, less, revisions_length d.0.seen))) root) d.3 disk)
     (λ m. lacking_so (KnowsAlone after.layout after.young after.stuck (g.D.Disk.trace after.disk)) rose c.args.micros job c.in-Err.why v m.1.0 m.1.1 known.1.own m.1.1.1.own m.1.2 m.0 disk)
-    (told_err c.begin-repo.result.1 c.in-Err.why _ c.in-Err.is (c.begin-repo.ensures.refused v known none)))
+    (if_err c.begin-repo.result.1 c.in-Err.why _ c.in-Err.is (c.begin-repo.ensures.refused v known none)))
 
 pub returns-in-Ok-clause-cause : goal.returns-in-Ok-clause-cause
 returns-in-Ok-clause-cause g c =
@@ -62,17 +53,17 @@ returns-in-Err-clause-cause g c =
     let rose = Rose (g.D.Disk.faults c.args.repo.turns.disk) (g.D.Disk.faults c.begin-repo.result.0.turns.disk) in
     let job = c.args.job.now in
     subst (λ f. IfAnswerFails (Stopped job.line f) rose) (sym c.of_begin-fault.ensures)
-    (begin_fails rose job.line c.in-Err.why (told_err c.begin-repo.result.1 c.in-Err.why (λ why. IfDisk why rose) c.in-Err.is c.begin-repo.ensures.cause))
+    (begin_fails rose job.line c.in-Err.why (if_err c.begin-repo.result.1 c.in-Err.why (λ why. IfDisk why rose) c.in-Err.is c.begin-repo.ensures.cause))
 
 pub returns-in-Ok-clause-listed : goal.returns-in-Ok-clause-listed
 returns-in-Ok-clause-listed g c =
     let start = g.D.Disk.faults c.args.repo.turns.disk in
     let mid = g.D.Disk.faults c.begin-repo.result.0.turns.disk in
     let now = g.D.Disk.faults c.edit_and_commit.result.0.turns.disk in
-    begun_lists (Rose mid now) (Rose start now) _ _ _ _ (λ r. omega (arith, r, c.begin-repo.ensures.later)) (told_ok c.begin-repo.result.1 c.in-Ok.txn _ c.in-Ok.is c.begin-repo.ensures.listed) c.edit_and_commit.ensures.listed
+    begun_lists (Rose mid now) (Rose start now) _ _ _ _ (λ r. omega (arith, r, c.begin-repo.ensures.later)) (if_ok c.begin-repo.result.1 c.in-Ok.txn _ c.in-Ok.is c.begin-repo.ensures.listed) c.edit_and_commit.ensures.listed
 
 pub returns-in-Err-clause-listed : goal.returns-in-Err-clause-listed
-returns-in-Err-clause-listed g c = unbegun_lists _ c.args.base _ _ (told_left c.begin-repo.result.1 c.in-Err.why _ c.in-Err.is c.begin-repo.ensures.unlisted)
+returns-in-Err-clause-listed g c = unbegun_lists _ c.args.base _ _ (on_err c.begin-repo.result.1 c.in-Err.why _ c.in-Err.is c.begin-repo.ensures.unlisted)
 
 pub returns-in-Ok-clause-benches : goal.returns-in-Ok-clause-benches
 returns-in-Ok-clause-benches g c =

@@ -1,16 +1,14 @@
-use Rattle.std.proofs.Common.{◌≡◌, ◌∙◌, ap, subst, length, arith}
-use Rattle.std.specs.Prelude.{Result, Ok, IfOk, option_map}
+use Rattle.std.proofs.Common.{◌≡◌, ◌∙◌, ap, length, arith}
+use Rattle.std.specs.Prelude.{option_map}
 use Rattle.fsfs_disk.specs.Trace.{labels_now}
 use Rattle.fsfs_turn.specs.Telling.{state_of}
 use Rattle.fsfs_turn.specs.OwnedLemmas.{known_still}
 use Rattle.fsfs_base.specs.Failures.{Rose}
+use Rattle.fsfs_base.proofs.ResultLemmas.{if_ok}
 use Rattle.fsfs_job_run.proofs.Causes.{any_on}
 use Rattle.fsfs_job_run.proofs.Listing.{lists_then}
 use Rattle.fsfs_job_run.proofs.RunLemmas.{ran_in}
 use Rattle.fsfs_job_run.proofs.running.do_jobs.Goals as goal
-
-told_ok : {X E : Type 0} (r : Result X E) (x : X) (P : X → Type 0) → r ≡ Ok x → IfOk r P → P x
-told_ok r x P e w = subst (λ z. IfOk z P) e w
 
 pub returns-in-Ok-clause-does : goal.returns-in-Ok-clause-does
 returns-in-Ok-clause-does g c = λ v known none opened few.
@@ -24,7 +22,7 @@ returns-in-Ok-clause-does g c = λ v known none opened few.
     let b = state_of then.layout then.young then.stuck (told then.disk) (path then.disk) (benches then.disk) in
     ran_in at.layout at.young at.stuck (told at.disk) (told c.close-disk.result) c.args.micros c.args.jobs.now c.in-Ok.answers.items c.youngest-youngest.result v (ap told c.close-disk.ensures ∙ ap (λ s. s.trace) same) opened few
     (λ u k. c.youngest-youngest.ensures.all u (known_still a b u same k)) c.run_jobs-repo.ensures.crashes
-    (told_ok c.run_jobs-repo.result.1 c.in-Ok.answers _ c.in-Ok.is (c.run_jobs-repo.ensures.does v known none))
+    (if_ok c.run_jobs-repo.result.1 c.in-Ok.answers _ c.in-Ok.is (c.run_jobs-repo.ensures.does v known none))
 
 pub returns-in-Ok-clause-cause : goal.returns-in-Ok-clause-cause
 returns-in-Ok-clause-cause g c =
@@ -33,13 +31,13 @@ returns-in-Ok-clause-cause g c =
     let mid = count c.run_jobs-repo.result.0.turns.disk in
     let now = count c.close-disk.result in
     let back : now ≡ count c.youngest-youngest.new.self.turns.disk = ap count c.close-disk.ensures in
-    any_on (Rose start mid) (Rose start now) c.in-Ok.answers.items (λ r. omega (arith, r, c.youngest-youngest.ensures.faults, back)) (told_ok c.run_jobs-repo.result.1 c.in-Ok.answers _ c.in-Ok.is c.run_jobs-repo.ensures.cause)
+    any_on (Rose start mid) (Rose start now) c.in-Ok.answers.items (λ r. omega (arith, r, c.youngest-youngest.ensures.faults, back)) (if_ok c.run_jobs-repo.result.1 c.in-Ok.answers _ c.in-Ok.is c.run_jobs-repo.ensures.cause)
 
 pub returns-in-Ok-clause-benches : goal.returns-in-Ok-clause-benches
 returns-in-Ok-clause-benches g c =
     let count = g.D.Disk.bench_faults in
     let back : count c.close-disk.result ≡ count c.youngest-youngest.new.self.turns.disk = ap count c.close-disk.ensures in
-    let rose = told_ok c.run_jobs-repo.result.1 c.in-Ok.answers _ c.in-Ok.is c.run_jobs-repo.ensures.benches in
+    let rose = if_ok c.run_jobs-repo.result.1 c.in-Ok.answers _ c.in-Ok.is c.run_jobs-repo.ensures.benches in
     omega (arith, rose, c.youngest-youngest.ensures.benches, back)
 
 pub returns-in-Ok-clause-listed : goal.returns-in-Ok-clause-listed

@@ -1,8 +1,9 @@
 use Rattle.std.proofs.Common.{◌≡◌, ◌⊎◌, ◌∙◌, List, length, refl, sym, ap, subst, arith}
-use Rattle.std.specs.Prelude.{Result, Ok, Err, IfOk, OnErr, option_map}
+use Rattle.std.specs.Prelude.{option_map}
 use Rattle.fsfs_disk.specs.Trace.{FirmNames, FailsAt, labels_now}
 use Rattle.fsfs_script.specs.declared.job.Job.{Job}
 use Rattle.fsfs_base.specs.Failures.{Rose}
+use Rattle.fsfs_base.proofs.ResultLemmas.{if_ok, on_err}
 use Rattle.fsfs_machine.specs.Machine.{revisions}
 use Rattle.fsfs_turn.specs.Mountings.{RoseBy}
 use Rattle.fsfs_job_run.specs.Jobs.{bench_faults_in}
@@ -12,12 +13,6 @@ use Rattle.fsfs_job_run.proofs.Listing.{lists_behind}
 use Rattle.fsfs_job_run.specs.Runs.{NoRoom, Done, Ran}
 use Rattle.fsfs_job_run.proofs.RunLemmas.{firm_fails, not_opened, not_read, ran_over}
 use Rattle.fsfs_job_run.proofs.running.run_script.Goals as goal
-
-told_ok : {X E : Type 0} (r : Result X E) (x : X) (P : X → Type 0) → r ≡ Ok x → IfOk r P → P x
-told_ok r x P e w = subst (λ z. IfOk z P) e w
-
-told_err : {X E : Type 0} (r : Result X E) (x : E) (P : Type 0) → r ≡ Err x → OnErr r P → P
-told_err r x P e w = subst (λ z. OnErr z P) e w
 
 pub returns-in-Err-clause-ran : goal.returns-in-Err-clause-ran
 returns-in-Err-clause-ran g c = not_opened c.args.micros _ _ c.in-Err.unopened.why c.from.result c.from.ensures c.in-Err.ensures.refused c.in-Err.ensures.left refl refl refl
@@ -34,22 +29,22 @@ returns-in-Ok-done-clause-ran g c =
     let js = c.in-Ok-read_script.jobs in
     let answers = c.in-Ok-done.done.answers.items in
     let given : c.as_slice.result.now ≡ js = c.as_slice.ensures in
-    let each : length answers ≡ length js = told_ok c.do_jobs-disk.result.1 c.in-Ok-done.done _ c.in-Ok-done.is c.do_jobs-disk.ensures.each ∙ ap (λ (l : List Job). length l) given in
+    let each : length answers ≡ length js = if_ok c.do_jobs-disk.result.1 c.in-Ok-done.done _ c.in-Ok-done.is c.do_jobs-disk.ensures.each ∙ ap (λ (l : List Job). length l) given in
     let over = ran_over _ c.args.micros js answers c.in-Ok-done.done.youngest (told c.args.disk) (told c.do_jobs-disk.result.0) c.in-Ok.ensures.known
     (λ v known none opened few. subst (λ l. Ran c.args.micros v.since l answers c.in-Ok-done.done.youngest (revisions v.seen) (told c.do_jobs-disk.result.0)) given
-    (told_ok c.do_jobs-disk.result.1 c.in-Ok-done.done _ c.in-Ok-done.is (c.do_jobs-disk.ensures.does v known none opened few))) in
+    (if_ok c.do_jobs-disk.result.1 c.in-Ok-done.done _ c.in-Ok-done.is (c.do_jobs-disk.ensures.does v known none opened few))) in
     let count = g.D.Disk.faults in
     let now = count c.do_jobs-disk.result.0 in
-    let failed = any_on (Rose (count c.in-Ok.field-0.repo.turns.disk) now) (Rose (count c.args.disk) now) answers (λ r. omega (arith, r, c.in-Ok.ensures.later)) (told_ok c.do_jobs-disk.result.1 c.in-Ok-done.done _ c.in-Ok-done.is c.do_jobs-disk.ensures.cause) in
+    let failed = any_on (Rose (count c.in-Ok.field-0.repo.turns.disk) now) (Rose (count c.args.disk) now) answers (λ r. omega (arith, r, c.in-Ok.ensures.later)) (if_ok c.do_jobs-disk.result.1 c.in-Ok-done.done _ c.in-Ok-done.is c.do_jobs-disk.ensures.cause) in
     let listed = subst (λ (l : List Job). LeavesListed (length l) (option_map labels_now (told c.args.disk)) (option_map labels_now (told c.do_jobs-disk.result.0)) ⊎ Rose (count c.args.disk) now) given
     (lists_behind (Rose (count c.in-Ok.field-0.repo.turns.disk) now) (Rose (count c.args.disk) now) (length c.as_slice.result.now) _ _ _ (λ r. omega (arith, r, c.in-Ok.ensures.later)) c.in-Ok.ensures.listed c.do_jobs-disk.ensures.listed) in
-    let rose = told_ok c.do_jobs-disk.result.1 c.in-Ok-done.done _ c.in-Ok-done.is c.do_jobs-disk.ensures.benches in
+    let rose = if_ok c.do_jobs-disk.result.1 c.in-Ok-done.done _ c.in-Ok-done.is c.do_jobs-disk.ensures.benches in
     let benches : RoseBy (bench_faults_in answers) 0 (g.D.Disk.bench_faults c.do_jobs-disk.result.0) = omega (arith, rose) in
     Done js answers c.in-Ok-done.done.youngest c.tell.result c.in-Ok-read_script.ensures.read c.in-Ok-read_script.ensures.whole each failed (calm_all (Rose (count c.args.disk) now) answers failed) benches listed over c.tell.ensures.printed
 
 pub returns-clause-ran : goal.returns-clause-ran
 returns-clause-ran g c =
     let told = g.D.Disk.trace in
-    let same = told_err c.do_jobs-disk.result.1 c.in-Err-done.field-0 _ c.in-Err-done.is c.do_jobs-disk.ensures.none in
+    let same = on_err c.do_jobs-disk.result.1 c.in-Err-done.field-0 _ c.in-Err-done.is c.do_jobs-disk.ensures.none in
     let firm : FailsAt FirmNames (told c.args.disk) (told c.do_jobs-disk.result.0) = subst (FailsAt FirmNames (told c.args.disk)) (sym same) (firm_fails FirmNames (told c.args.disk) (told c.in-Ok.field-0.repo.turns.disk) c.in-Ok.ensures.firm) in
     NoRoom c.in-Ok-read_script.jobs c.in-Ok-read_script.ensures.read (record { disk = firm; output = refl; output_faults = refl })

@@ -5,7 +5,7 @@ use Rattle.std.specs.Map.{update, lookup}
 use Rattle.std.specs.Str.{bytes_eq}
 use Rattle.std.proofs.lemmas.Map.Steps.{set_value_same}
 use Rattle.std.proofs.lemmas.Map.Text.{btree_map_updates_text, text_cmp}
-use Rattle.fsfs_memory.proofs.PlaceLemmas.{some_all, none_from}
+use Rattle.fsfs_base.proofs.ResultLemmas.{some_all, none_from}
 use Rattle.fsfs_memory.proofs.host.take.Goals as goal
 
 pub returns-in-Some-clause-emptied : goal.returns-in-Some-clause-emptied

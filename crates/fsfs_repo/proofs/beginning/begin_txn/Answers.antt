@@ -1,8 +1,8 @@
 use Rattle.std.proofs.Common.{◌≡◌, codes, ⊎_elim, sym, subst, ◌∙◌, arith}
-use Rattle.std.specs.Prelude.{Result, Ok, Err, IfOk, IfErr, OnErr}
 use Rattle.fsfs_base.specs.Failures.{Rose}
 use Rattle.fsfs_disk.specs.Labels.{with_label}
 use Rattle.fsfs_base.specs.declared.txn_name.TxnName.{TxnName}
+use Rattle.fsfs_base.proofs.ResultLemmas.{if_ok, if_err, on_err}
 use Rattle.fsfs_disk.specs.Txns.{pair_of, txn_label}
 use Rattle.fsfs_begin.specs.Benches.{TellsRoot}
 use Rattle.fsfs_turn.specs.Labels.{Relabels}
@@ -14,22 +14,13 @@ use Rattle.fsfs_repo.proofs.Begun.{begins_as, among_as, begun_moved, begun_given
 use Rattle.fsfs_repo.proofs.Unlisted.{forgets, relabelled}
 use Rattle.fsfs_repo.proofs.beginning.begin_txn.Goals as goal
 
-told_ok : {X E : Type 0} (r : Result X E) (x : X) (P : X → Type 0) → r ≡ Ok x → IfOk r P → P x
-told_ok r x P e w = subst (λ z. IfOk z P) e w
-
-told_err : {X E : Type 0} (r : Result X E) (x : E) (P : E → Type 0) → r ≡ Err x → IfErr r P → P x
-told_err r x P e w = subst (λ z. IfErr z P) e w
-
-told_on_err : {X E : Type 0} (r : Result X E) (x : E) (P : Type 0) → r ≡ Err x → OnErr r P → P
-told_on_err r x P e w = subst (λ z. OnErr z P) e w
-
 -- ---- the calls are due
 
 pub begin-back-requires : goal.begin-back-requires
 begin-back-requires g c = record { few = λ bound. c.requires.few bound; due = λ bound. c.requires.due bound }
 
 pub hold-requires : goal.hold-requires
-hold-requires g c = told_ok c.begin-back.result.1 c.in-Ok.begun (λ z. TellsRoot z.root (g.T.Bench.Bench.contents z.bench)) c.in-Ok.is c.begin-back.ensures.tells
+hold-requires g c = if_ok c.begin-back.result.1 c.in-Ok.begun (λ z. TellsRoot z.root (g.T.Bench.Bench.contents z.bench)) c.in-Ok.is c.begin-back.ensures.tells
 
 pub forget-requires : goal.forget-requires
 forget-requires g c = record {
@@ -38,13 +29,13 @@ forget-requires g c = record {
       let w = c.requires.due was in
       let begun = c.in-Ok.begun in
       ⊎_elim (λ b. let d = begun_given begun.name begun.root (g.T.Bench.Bench.contents begun.bench) w.0 b.0 b.2 in (b.0, b.1, d.0, d.1)) (λ past. absurd (past.1 (c.requires.few was)))
-      (told_ok c.begin-back.result.1 begun _ c.in-Ok.is (c.begin-back.ensures.begun w.0 w.1 w.2));
+      (if_ok c.begin-back.result.1 begun _ c.in-Ok.is (c.begin-back.ensures.begun w.0 w.1 w.2));
 }
 
 -- ---- none was begun
 
 pub returns-in-Err-clause-refused : goal.returns-in-Err-clause-refused
-returns-in-Err-clause-refused g c = λ v known none. told_err c.begin-back.result.1 c.in-Err.fault _ c.in-Err.is (c.begin-back.ensures.refused v known none)
+returns-in-Err-clause-refused g c = λ v known none. if_err c.begin-back.result.1 c.in-Err.fault _ c.in-Err.is (c.begin-back.ensures.refused v known none)
 
 -- ---- one was begun
 
@@ -52,23 +43,23 @@ pub returns-in-Ok-hold-clause-begun : goal.returns-in-Ok-hold-clause-begun
 returns-in-Ok-hold-clause-begun g c = λ v known none.
     let turns = c.begin-back.result.0 in
     let begun = c.in-Ok.begun in
-    let base : begun.name.base ≡ c.args.base = told_ok c.begin-back.result.1 begun (λ z. z.name.base ≡ c.args.base) c.in-Ok.is c.begin-back.ensures.base in
+    let base : begun.name.base ≡ c.args.base = if_ok c.begin-back.result.1 begun (λ z. z.name.base ≡ c.args.base) c.in-Ok.is c.begin-back.ensures.base in
     either_way (λ b. (
       b.0,
       b.1,
       among_as begun.name begun.root (g.T.Bench.Bench.contents begun.bench) v b.0 b.2 _ (codes "rev") _ c.args.base (g.met.T.Turns.tells turns b.0 b.1).shown base c.in-Ok-hold.ensures.name c.in-Ok-hold.ensures.folder,
-    )) (λ past. past) (told_ok c.begin-back.result.1 begun _ c.in-Ok.is (c.begin-back.ensures.begun v known none))
+    )) (λ past. past) (if_ok c.begin-back.result.1 begun _ c.in-Ok.is (c.begin-back.ensures.begun v known none))
 
 pub returns-in-Ok-hold-clause-alone : goal.returns-in-Ok-hold-clause-alone
 returns-in-Ok-hold-clause-alone g c = λ still v known none.
     let turns = c.begin-back.result.0 in
     let begun = c.in-Ok.begun in
-    let base : begun.name.base ≡ c.args.base = told_ok c.begin-back.result.1 begun (λ z. z.name.base ≡ c.args.base) c.in-Ok.is c.begin-back.ensures.base in
+    let base : begun.name.base ≡ c.args.base = if_ok c.begin-back.result.1 begun (λ z. z.name.base ≡ c.args.base) c.in-Ok.is c.begin-back.ensures.base in
     either_way (λ b. (
       b.0,
       b.1,
       begins_as begun.name _ begun.root (g.T.Bench.Bench.contents begun.bench) v b.0 b.2 (codes "rev") _ c.args.base (g.met.T.Turns.tells turns b.0 b.1).shown base c.in-Ok-hold.ensures.name c.in-Ok-hold.ensures.folder,
-    )) (λ past. past) (told_ok c.begin-back.result.1 begun _ c.in-Ok.is (c.begin-back.ensures.alone still v known none))
+    )) (λ past. past) (if_ok c.begin-back.result.1 begun _ c.in-Ok.is (c.begin-back.ensures.alone still v known none))
 
 -- ---- there was no memory to hold it
 
@@ -80,12 +71,12 @@ returns-in-Err-hold-clause-refused g c = λ v known none.
     let there = begun_given begun.name begun.root held v b.0 b.2 in
     let d = c.forget.ensures.moved b.0 b.1 there.0 there.1 in
     (d.0, d.1, moved_on v b.0 d.0 (begun_moved begun.name begun.root held v b.0 b.2) d.2, tt, tt)) (λ past. (past.0, λ few. absurd (past.1 few)))
-    (told_ok c.begin-back.result.1 begun _ c.in-Ok.is (c.begin-back.ensures.begun v known none))
+    (if_ok c.begin-back.result.1 begun _ c.in-Ok.is (c.begin-back.ensures.begun v known none))
 
 -- ---- the labels
 
 pub returns-in-Err-clause-unlisted : goal.returns-in-Err-clause-unlisted
-returns-in-Err-clause-unlisted g c = told_on_err c.begin-back.result.1 c.in-Err.fault _ c.in-Err.is c.begin-back.ensures.unlisted
+returns-in-Err-clause-unlisted g c = on_err c.begin-back.result.1 c.in-Err.fault _ c.in-Err.is c.begin-back.ensures.unlisted
 
 pub returns-in-Ok-hold-clause-listed : goal.returns-in-Ok-hold-clause-listed
 returns-in-Ok-hold-clause-listed g c =
@@ -93,7 +84,7 @@ returns-in-Ok-hold-clause-listed g c =
     let old = g.T.Turns.labels c.args.turns in
     let new = g.T.Turns.labels c.begin-back.result.0 in
     subst (λ (n : TxnName). Relabels bound (with_label (txn_label (pair_of n))) old new) (sym c.in-Ok-hold.ensures.name)
-    (told_ok c.begin-back.result.1 c.in-Ok.begun (λ z. Relabels bound (with_label (txn_label (pair_of z.name))) old new) c.in-Ok.is c.begin-back.ensures.listed)
+    (if_ok c.begin-back.result.1 c.in-Ok.begun (λ z. Relabels bound (with_label (txn_label (pair_of z.name))) old new) c.in-Ok.is c.begin-back.ensures.listed)
 
 pub returns-in-Err-hold-clause-unlisted : goal.returns-in-Err-hold-clause-unlisted
 returns-in-Err-hold-clause-unlisted g c = λ free.
@@ -101,10 +92,10 @@ returns-in-Err-hold-clause-unlisted g c = λ free.
     let bound = g.T.Turns.bound c.args.turns in
     let old = g.T.Turns.labels c.args.turns in
     let mid = g.T.Turns.labels c.begin-back.result.0 in
-    let came = told_ok c.begin-back.result.1 begun (λ z. Relabels bound (with_label (txn_label (pair_of z.name))) old mid) c.in-Ok.is c.begin-back.ensures.listed in
+    let came = if_ok c.begin-back.result.1 begun (λ z. Relabels bound (with_label (txn_label (pair_of z.name))) old mid) c.in-Ok.is c.begin-back.ensures.listed in
     forgets c.args.base begun.name (Rose (g.T.Turns.faults c.begin-back.result.0) (g.T.Turns.faults c.forget.new.turns)) (Rose (g.T.Turns.faults c.args.turns) (g.T.Turns.faults c.forget.new.turns))
     old mid (g.T.Turns.labels c.forget.new.turns)
-    (told_ok c.begin-back.result.1 begun (λ z. z.name.base ≡ c.args.base) c.in-Ok.is c.begin-back.ensures.base) (relabelled bound (with_label (txn_label (pair_of begun.name))) old mid free came)
+    (if_ok c.begin-back.result.1 begun (λ z. z.name.base ≡ c.args.base) c.in-Ok.is c.begin-back.ensures.base) (relabelled bound (with_label (txn_label (pair_of begun.name))) old mid free came)
     (λ rose. omega (arith, rose, c.begin-back.ensures.later)) (c.forget.ensures.unlisted (c.begin-back.ensures.duty ∙ free))
 
 -- ---- the benches

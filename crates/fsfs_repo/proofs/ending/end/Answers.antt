@@ -1,6 +1,6 @@
 use Rattle.std.proofs.Common.{sym, subst, arith}
 use Rattle.fsfs_base.specs.Failures.{Rose}
-use Rattle.fsfs_commit.proofs.Turning.{if_ok, if_err}
+use Rattle.fsfs_base.proofs.ResultLemmas.{if_ok, if_err}
 use Rattle.fsfs_turn.specs.Alone.{BringsNoDoubt}
 use Rattle.fsfs_repo.specs.Fates.{Fated, IfStopped, UnlessDoubtful}
 use Rattle.fsfs_repo.proofs.BenchFaults.{fate_left}

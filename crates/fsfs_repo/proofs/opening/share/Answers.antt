@@ -1,7 +1,8 @@
 use Rattle.std.proofs.Common.{rules, sym, ap, subst, ◌∙◌}
 use Rattle.fsfs_pass.specs.First.{IsFirst}
 use Rattle.fsfs_pass.specs.Seats.{look_view}
-use Rattle.fsfs_repo.proofs.Opened.{first_kin, first_laid, first_met, first_unfailed, first_sound}
+use Rattle.fsfs_pass.proofs.Beginnings.{first_unfailed, first_sound, first_met}
+use Rattle.fsfs_repo.proofs.Opened.{first_kin, first_laid}
 use Rattle.fsfs_repo.proofs.opening.share.Goals as goal
 
 pub look-youngest-requires-clause-sits : goal.look-youngest-requires-clause-sits

@@ -2,13 +2,14 @@ use Rattle.std.proofs.Common.{◌≡◌, refl, sym, ap, subst, ◌∙◌}
 use Rattle.std.specs.Prelude.{Ok, Err, is_some}
 use Rattle.std.proofs.lemmas.Result.{err_from_is_err_and}
 use Rattle.fsfs_base.specs.Paths.{Path}
+use Rattle.fsfs_base.proofs.ResultLemmas.{none_of}
 use Rattle.fsfs_revision.specs.Told.{Knows}
 use Rattle.fsfs_model.specs.Edits.{parent}
 use Rattle.fsfs_draft.specs.Errors as errors
 use Rattle.fsfs_edit.specs.Copying.{MeetsCopy}
 use Rattle.fsfs_txn.specs.declared.copying.Copied.{Copied}
 use Rattle.fsfs_txn.specs.Copying.{IsCopying}
-use Rattle.fsfs_txn.proofs.Meeting.{stays_of, none_taken, is_tree, copied, barred_source, plain_source, same_takes}
+use Rattle.fsfs_txn.proofs.Meeting.{stays_of, is_tree, copied, barred_source, plain_source, same_takes}
 use Rattle.fsfs_txn.proofs.copying.copy_in.Goals as goal
 
 pub returns-in_err-source-clause-copies : goal.returns-in_err-source-clause-copies
@@ -85,6 +86,6 @@ returns-clause-copies g c = λ look trees top base tree marks path knows shown r
     let later : Knows (g.B.Book.told c.source_at.new.book).revs top look = λ n h. c.in_ok-source.ensures.kept.revs n (look n) (knows n h) in
     let young_later = c.in_ok-source.ensures.kept.youngest top young in
     let takes = same_takes (g.B.Book.told c.source_at.new.book).revs txn (g.N.Own.folder c.args.own.now) f c.args.step.now c.args.name.now (Ok c.in_ok-is_taken.field-0) c.requires.whole c.in_ok-is_taken.ensures.told in
-    let free = none_taken (tree path) (ap (λ (p : Path). is_some (tree p)) path_is ∙ takes look trees top base tree marks (parent path) later shown le stands.shows at has ∙ c.if-branch.false) in
+    let free = none_of (tree path) (ap (λ (p : Path). is_some (tree p)) path_is ∙ takes look trees top base tree marks (parent path) later shown le stands.shows at has ∙ c.if-branch.false) in
     subst (λ (o : Copied). IsCopying errors.IfStays look trees top base txn First tree marks path c.args.from.now f f (Ok o)) (sym c.barred_by.ensures)
     (barred_source look trees top base txn f tree marks revs stands path c.args.from.now f refl (has, free) source (sym c.is_plain.ensures ∙ c.if-is_plain.false) is)

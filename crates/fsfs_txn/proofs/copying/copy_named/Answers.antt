@@ -8,7 +8,8 @@ use Rattle.fsfs_txn.specs.declared.above.Above.{Above}
 use Rattle.fsfs_txn.specs.Seeing.{IsAbove}
 use Rattle.fsfs_txn.specs.declared.copying.Copied.{Copied}
 use Rattle.fsfs_txn.specs.Copying.{IsCopying}
-use Rattle.fsfs_txn.proofs.Meeting.{stays_of, none_taken, is_tree, barred_counted, same_copies}
+use Rattle.fsfs_txn.proofs.Meeting.{stays_of, is_tree, barred_counted, same_copies}
+use Rattle.fsfs_base.proofs.ResultLemmas.{none_of}
 use Rattle.fsfs_txn.proofs.copying.copy_named.Goals as goal
 
 pub returns-in_err-depth-clause-copies : goal.returns-in_err-depth-clause-copies
@@ -71,7 +72,7 @@ returns-in_ok-source-in-Counted-clause-copies g c = λ look trees top base tree 
     let is = c.in_ok-source-in-Counted.ensures.finds look trees top later shown (c.in_ok-depth.ensures.kept.youngest top young) in
     let after = g.N.Own.settled c.look_above.new.own in
     subst (λ (o : Copied). IsCopying errors.IfStays look trees top base txn First tree marks path c.args.from.now f after (Ok o)) (sym c.barred_by.ensures)
-    (barred_counted look trees top base txn f tree marks revs stands path c.args.from.now after c.in_ok-depth.ensures.settled (seen.0, none_taken (tree path) (seen.1 ∙ c.if-taken.false)) source seen.2 is)
+    (barred_counted look trees top base txn f tree marks revs stands path c.args.from.now after c.in_ok-depth.ensures.settled (seen.0, none_of (tree path) (seen.1 ∙ c.if-taken.false)) source seen.2 is)
 
 pub returns-in-Dir-clause-copies : goal.returns-in-Dir-clause-copies
 returns-in-Dir-clause-copies g c = λ look trees top base tree marks knows shown revs le young stands.

@@ -9,7 +9,8 @@ use Rattle.fsfs_txn.specs.declared.above.Above.{Above}
 use Rattle.fsfs_txn.specs.Seeing.{IsAbove}
 use Rattle.fsfs_txn.specs.declared.deleting.Deleted.{Deleted}
 use Rattle.fsfs_txn.specs.Deleting.{IsDeleting}
-use Rattle.fsfs_txn.proofs.Meeting.{stays_of, none_taken, is_tree, gone, same_delete}
+use Rattle.fsfs_txn.proofs.Meeting.{stays_of, is_tree, gone, same_delete}
+use Rattle.fsfs_base.proofs.ResultLemmas.{none_of}
 use Rattle.fsfs_txn.proofs.deleting.delete_named.Goals as goal
 
 pub returns-in_err-depth-clause-deletes : goal.returns-in_err-depth-clause-deletes
@@ -60,7 +61,7 @@ returns-in-Counted-clause-deletes g c = λ look trees top base tree marks knows 
     let First = stands.shows.0.shows.own in
     let tree_is = is_tree look trees top base txn f tree marks revs stands in
     let seen = subst (λ (x : Above). IsAbove look trees base First tree path (Ok x)) c.in-Counted.is (c.in_ok-depth.ensures.sees look trees top base tree marks knows shown le tree_is stands.shows) in
-    ((seen.0, none_taken (tree path) (seen.1 ∙ c.if-taken.false)), c.in_ok-depth.ensures.settled)
+    ((seen.0, none_of (tree path) (seen.1 ∙ c.if-taken.false)), c.in_ok-depth.ensures.settled)
 
 pub returns-in_err-gone-in-Dir-clause-deletes : goal.returns-in_err-gone-in-Dir-clause-deletes
 returns-in_err-gone-in-Dir-clause-deletes g c = λ look trees top base tree marks knows shown revs le stands.

@@ -9,7 +9,8 @@ use Rattle.fsfs_txn.specs.declared.above.Above.{Above}
 use Rattle.fsfs_txn.specs.Seeing.{IsAbove}
 use Rattle.fsfs_txn.specs.declared.making.Made.{Made}
 use Rattle.fsfs_txn.specs.Making.{IsMaking}
-use Rattle.fsfs_txn.proofs.Meeting.{stays_of, none_taken, is_tree, made, same_make}
+use Rattle.fsfs_txn.proofs.Meeting.{stays_of, is_tree, made, same_make}
+use Rattle.fsfs_base.proofs.ResultLemmas.{none_of}
 use Rattle.fsfs_txn.proofs.making.make_named.Goals as goal
 
 pub returns-in_err-depth-clause-makes : goal.returns-in_err-depth-clause-makes
@@ -60,7 +61,7 @@ returns-in-Counted-clause-makes g c = λ look trees top base tree marks knows sh
     let First = stands.shows.0.shows.own in
     let tree_is = is_tree look trees top base txn f tree marks revs stands in
     let seen = subst (λ (x : Above). IsAbove look trees base First tree path (Ok x)) c.in-Counted.is (c.in_ok-depth.ensures.sees look trees top base tree marks knows shown le tree_is stands.shows) in
-    ((seen.0, none_taken (tree path) (seen.1 ∙ c.if-taken.false)), seen.2, c.in_ok-depth.ensures.settled)
+    ((seen.0, none_of (tree path) (seen.1 ∙ c.if-taken.false)), seen.2, c.in_ok-depth.ensures.settled)
 
 pub returns-in_err-made-in-Dir-clause-makes : goal.returns-in_err-made-in-Dir-clause-makes
 returns-in_err-made-in-Dir-clause-makes g c = λ look trees top base tree marks knows shown revs le stands.

@@ -10,8 +10,9 @@ use Rattle.std.proofs.Common.{◌≡◌, false}
 use Rattle.fsfs_noderev.specs.declared.node_id.NodeId.{NodeId}
 use Rattle.fsfs_revision.specs.Nodes.{is_revision_id}
 use Rattle.fsfs_txn.specs.OpenedLeading.{IsSourceKnown}
-use Rattle.fsfs_txn.proofs.Following.{own_id, not_none, known_source}
+use Rattle.fsfs_txn.proofs.Following.{own_id, known_source}
 use Rattle.fsfs_txn.proofs.Staying.{want_all, settle_all, props_set}
+use Rattle.fsfs_base.proofs.ResultLemmas.{not_none}
 use Rattle.fsfs_txn.proofs.opened_properties.property_in.Goals as goal
 
 pub returns-in_err-pairs-clause-sets : goal.returns-in_err-pairs-clause-sets

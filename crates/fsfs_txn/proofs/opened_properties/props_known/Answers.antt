@@ -8,7 +8,7 @@ use Rattle.fsfs_draft.specs.Properties.{OfKeptProps}
 use Rattle.fsfs_draft.specs.Views.{kept_value}
 use Rattle.fsfs_draft.proofs.Readings.{kept_props_read}
 use Rattle.fsfs_txn.specs.OpenedLeading.{IsAmong, IsSourceKnown}
-use Rattle.fsfs_txn.proofs.Following.{not_none}
+use Rattle.fsfs_base.proofs.ResultLemmas.{not_none}
 use Rattle.fsfs_txn.proofs.opened_properties.props_known.Goals as goal
 
 pub returns-in_ok-pairs-in-Some-find-clause-tells : goal.returns-in_ok-pairs-in-Some-find-clause-tells

@@ -1,9 +1,10 @@
 use Rattle.std.proofs.Common.{◌≡◌, false, Some, sym, ap, subst, ◌∙◌}
 use Rattle.fsfs_revision.specs.Nodes.{is_revision_id}
-use Rattle.fsfs_txn.proofs.Following.{own_id, not_none}
+use Rattle.fsfs_txn.proofs.Following.{own_id}
 use Rattle.fsfs_txn.proofs.Leaving.{own_has_dir}
 use Rattle.fsfs_noderev.specs.declared.node_id.NodeId.{NodeId}
 use Rattle.fsfs_base.specs.declared.kind.Kind.TheVariants.{Dir}
+use Rattle.fsfs_base.proofs.ResultLemmas.{not_none}
 use Rattle.fsfs_draft.specs.Drafts.{Kept, kept_of}
 use Rattle.fsfs_draft.specs.Steps.{kept_at}
 use Rattle.fsfs_draft.specs.Views.{kept_value}

@@ -1,6 +1,7 @@
 use Rattle.std.proofs.Common.{◌≡◌, ◌≤◌, true, false, [], List, Some, Ok, refl, sym, ap, subst, ◌∙◌}
 use Rattle.std.specs.Prelude.{Option, IfOk, IfErr, IfSome}
 use Rattle.fsfs_base.specs.Paths.{PathName}
+use Rattle.fsfs_base.proofs.ResultLemmas.{not_none}
 use Rattle.fsfs_noderev.specs.declared.node_id.NodeId.{NodeId}
 use Rattle.fsfs_revision.specs.Nodes.{is_revision_id}
 use Rattle.fsfs_revision.specs.ShowsReading.{DirEntry, named, offset_of, OfId}
@@ -21,7 +22,7 @@ use Rattle.fsfs_draft.specs.Drafts.{kept_of}
 use Rattle.fsfs_draft.specs.Steps.{kept_at}
 use Rattle.fsfs_draft.specs.Entries.{OfKept, OfPredecessor, OfListed}
 use Rattle.fsfs_txn.specs.OpenedLeading.{LeadsDown}
-use Rattle.fsfs_txn.proofs.Following.{own_id, not_none, same_some, kept_one, known_there}
+use Rattle.fsfs_txn.proofs.Following.{own_id, same_some, kept_one, known_there}
 use Rattle.fsfs_txn.proofs.Leaving.{own_has, child_on, still_all}
 use Rattle.fsfs_txn.proofs.ReachLemmas.{child_reached}
 use Rattle.fsfs_txn.proofs.reaching.child_in.Goals as goal

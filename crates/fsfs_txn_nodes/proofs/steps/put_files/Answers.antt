@@ -1,8 +1,8 @@
 use Rattle.std.proofs.Common.{List}
 use Rattle.fsfs_revision.specs.ShowsReading.{DirEntry}
 use Rattle.fsfs_dag.specs.ListingViews.{listed}
+use Rattle.fsfs_dag.specs.Entries.{HasPut}
 use Rattle.fsfs_draft.specs.Views.{kept_value}
-use Rattle.fsfs_txn_files.specs.Children.{HasPut}
 use Rattle.fsfs_txn_nodes.specs.Telling.{Put}
 use Rattle.fsfs_txn_nodes.proofs.Writing.{tells_entry}
 use Rattle.fsfs_txn_nodes.proofs.steps.put_files.Goals as goal

@@ -6,9 +6,9 @@ use Rattle.fsfs_tree.specs.Revisions.{tree_of}
 use Rattle.fsfs_machine.specs.Machine.{revisions}
 use Rattle.fsfs_turn.specs.Bytes.{bytes_of}
 use Rattle.fsfs_turn.specs.Views.{View}
-use Rattle.fsfs_repo.proofs.Turning.{begins_take}
+use Rattle.fsfs_turn.proofs.Moments.{begins_take}
+use Rattle.fsfs_turn.proofs.Alone.{no_shorter}
 use Rattle.fsfs_script.specs.declared.job.Job.TheVariants as jobs
-use Rattle.fsfs_repo.specs.SeenLemmas.{no_shorter}
 use Rattle.fsfs_job_run.proofs.BenchCauses.{edit_told, edits_blamed}
 use Rattle.fsfs_job_run.proofs.Causes.{edit_fails}
 use Rattle.fsfs_job_run.proofs.Composed.{edits_done, edits_failed, edits_stopped, given_as}

@@ -4,17 +4,17 @@ use Rattle.fsfs_tree.specs.Revisions.{tree_of}
 use Rattle.fsfs_machine.specs.Machine.{revisions}
 use Rattle.fsfs_turn.specs.Bytes.{bytes_of}
 use Rattle.fsfs_turn.specs.Views.{View}
-use Rattle.fsfs_turn.proofs.GoingOn.{going_from}
+use Rattle.fsfs_turn.proofs.GoingOn.{going_from, known_below}
 use Rattle.fsfs_repo.specs.SeenLemmas.{shown_trees}
 use Rattle.fsfs_job_run.proofs.BenchCauses.{bench_failed}
 use Rattle.fsfs_job_run.proofs.Composed.{edits_as, failed_as}
 use Rattle.fsfs_workers.specs.Working.{up_to}
-use Rattle.fsfs_workers.proofs.EditLemmas.{known_less, part_some, part_shown, part_last, part_known, part_youngest}
+use Rattle.fsfs_workers.proofs.EditLemmas.{part_some, part_shown, part_last, part_known, part_youngest}
 use Rattle.fsfs_workers.proofs.Histories.{revisions_shown}
 use Rattle.fsfs_workers.proofs.editing.edit.Goals as goal
 
 pub over_pass-book-requires : goal.over_pass-book-requires
-over_pass-book-requires g c = record { there = known_less (g.T.Turns.store c.look-youngest.new.self).reach c.look-youngest.result c.at_most.result c.at_most.ensures.least c.look-youngest.ensures.there }
+over_pass-book-requires g c = record { there = known_below (g.T.Turns.store c.look-youngest.new.self).reach c.look-youngest.result c.at_most.result c.at_most.ensures.least c.look-youngest.ensures.there }
 
 pub returns-clause-edits : goal.returns-clause-edits
 returns-clause-edits g c = λ v known less told within stands.

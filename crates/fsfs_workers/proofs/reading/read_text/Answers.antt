@@ -1,5 +1,6 @@
 use Rattle.std.proofs.Common.{◌<◌, length, refl, sym, subst, ◌∙◌, arith}
 use Rattle.fsfs_base.specs.Failures.{Rose}
+use Rattle.fsfs_base.proofs.ResultLemmas.{if_ok, if_err}
 use Rattle.fsfs_fetch.specs.ViewLemmas.{known_later}
 use Rattle.fsfs_machine.specs.Machine.{revisions}
 use Rattle.fsfs_tree.specs.Revisions.{tree_of}
@@ -17,7 +18,6 @@ use Rattle.fsfs_workers.proofs.Based.{looked_last, looked_outside, looked_told, 
 use Rattle.fsfs_workers.proofs.EditLemmas.{part_known, part_last, part_shown, part_some}
 use Rattle.fsfs_workers.proofs.Going.{by_look, by_reading, goes_on}
 use Rattle.fsfs_workers.proofs.ReadLemmas.{read_so, unseen_so}
-use Rattle.fsfs_workers.proofs.Unbegun.{told_err, told_ok}
 use Rattle.fsfs_workers.proofs.reading.read_text.Goals as goal
 
 pub over_pass-book-requires : goal.over_pass-book-requires
@@ -29,12 +29,12 @@ pub returns-in-Err-clause-works : goal.returns-in-Err-clause-works
 returns-in-Err-clause-works g c = λ v moment known none.
     let young = c.base_of-youngest.result.0 in
     let l = c.base_of-youngest.ensures.looked v known in
-    no_base_read (g.T.Turns.knows c.base_of-youngest.new.turns) _ moment young c.args.job.now c.in-Err.fault v l.0 l.1 none l.2 (told_err c.base_of-youngest.result.1 c.in-Err.fault (LacksBase c.args.job.now.base young) c.in-Err.is c.base_of-youngest.ensures.lacks)
+    no_base_read (g.T.Turns.knows c.base_of-youngest.new.turns) _ moment young c.args.job.now c.in-Err.fault v l.0 l.1 none l.2 (if_err c.base_of-youngest.result.1 c.in-Err.fault (LacksBase c.args.job.now.base young) c.in-Err.is c.base_of-youngest.ensures.lacks)
 
 pub returns-in-Err-clause-cause : goal.returns-in-Err-clause-cause
 returns-in-Err-clause-cause g c =
     let young = c.base_of-youngest.result.0 in
-    let lacks = told_err c.base_of-youngest.result.1 c.in-Err.fault (LacksBase c.args.job.now.base young) c.in-Err.is c.base_of-youngest.ensures.lacks in
+    let lacks = if_err c.base_of-youngest.result.1 c.in-Err.fault (LacksBase c.args.job.now.base young) c.in-Err.is c.base_of-youngest.ensures.lacks in
     request_fails _ c.args.job.now.line c.in-Err.fault (lacks.0, young, lacks.3)
 
 -- ---- the youngest revision was not seen
@@ -62,7 +62,7 @@ returns-clause-works g c = λ v moment known none.
     let l = c.base_of-youngest.ensures.looked v known in
     let out = looked_outside young v l.0 none l.2 in
     let told = looked_told young v l.0 l.2 in
-    let base = told_ok c.base_of-youngest.result.1 c.in-Ok.base _ c.in-Ok.is c.base_of-youngest.ensures.base in
+    let base = if_ok c.base_of-youngest.result.1 c.in-Ok.base _ c.in-Ok.is c.base_of-youngest.ensures.base in
     let s = c.in-Ok-see.ensures.seen l.0 l.1 out in
     let m = s.0 in
     let less : young < length m.seen = omega (arith, told, s.5) in
@@ -84,7 +84,7 @@ returns-clause-works g c = λ v moment known none.
 pub returns-in-Err-clause-no_bench : goal.returns-in-Err-clause-no_bench
 returns-in-Err-clause-no_bench g c =
     let young = c.base_of-youngest.result.0 in
-    let lacks = told_err c.base_of-youngest.result.1 c.in-Err.fault (LacksBase c.args.job.now.base young) c.in-Err.is c.base_of-youngest.ensures.lacks in
+    let lacks = if_err c.base_of-youngest.result.1 c.in-Err.fault (LacksBase c.args.job.now.base young) c.in-Err.is c.base_of-youngest.ensures.lacks in
     request_is_none c.args.job.now.line c.in-Err.fault (lacks.0, young, lacks.3)
 
 pub returns-in-Err-see-clause-no_bench : goal.returns-in-Err-see-clause-no_bench

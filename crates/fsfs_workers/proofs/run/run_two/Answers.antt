@@ -1,15 +1,10 @@
 use Rattle.std.proofs.Common.{◌≡◌, ◌∙◌, sym, ap, subst, arith}
-use Rattle.std.specs.Prelude.{Result, Ok, Err, is_some, IfOk, OnErr}
+use Rattle.std.specs.Prelude.{is_some}
 use Rattle.fsfs_pass.specs.declared.seat_view.Kin.{Kin}
 use Rattle.fsfs_workers.specs.Ready.{IsReady}
 use Rattle.fsfs_workers.proofs.Ran.{ran_so}
+use Rattle.fsfs_base.proofs.ResultLemmas.{if_ok}
 use Rattle.fsfs_workers.proofs.run.run_two.Goals as goal
-
-told_ok : {X E : Type 0} (r : Result X E) (x : X) (P : X → Type 0) → r ≡ Ok x → IfOk r P → P x
-told_ok r x P e w = subst (λ z. IfOk z P) e w
-
-told_err : {X E : Type 0} (r : Result X E) (x : E) (P : Type 0) → r ≡ Err x → OnErr r P → P
-told_err r x P e w = subst (λ z. OnErr z P) e w
 
 pub do_beside-seat-requires-clause-sits : goal.do_beside-seat-requires-clause-sits
 do_beside-seat-requires-clause-sits g c κs within =
@@ -30,20 +25,20 @@ pub returns-in-Ok-clause-ran : goal.returns-in-Ok-clause-ran
 returns-in-Ok-clause-ran g c = λ t is.
     let b = c.do_beside-seat in
     ran_so c.args.micros c.look-youngest.result c.args.jobs.now c.in-Ok.answers.items c.args.seat.me.0 b.result.0.me.0 c.look-youngest.new.seat.me.0 (g.D.Disk.trace c.close.result) t is
-    (ap (λ m. m.0) c.look-youngest.ensures.same.2) c.close.ensures.told c.close.ensures.left (λ told. told_ok b.result.1 c.in-Ok.answers _ c.in-Ok.is (b.ensures.did told)) c.look-youngest.ensures.looked b.ensures.rests b.ensures.duty
+    (ap (λ m. m.0) c.look-youngest.ensures.same.2) c.close.ensures.told c.close.ensures.left (λ told. if_ok b.result.1 c.in-Ok.answers _ c.in-Ok.is (b.ensures.did told)) c.look-youngest.ensures.looked b.ensures.rests b.ensures.duty
     c.requires.seen c.requires.alone b.ensures.parts
 
 pub returns-in-Ok-clause-cause : goal.returns-in-Ok-clause-cause
 returns-in-Ok-clause-cause g c =
     let b = c.do_beside-seat in
-    let told = told_ok b.result.1 c.in-Ok.answers _ c.in-Ok.is b.ensures.cause in
+    let told = if_ok b.result.1 c.in-Ok.answers _ c.in-Ok.is b.ensures.cause in
     let looked : c.look-youngest.new.seat.me.0.failures ≡ b.result.0.me.0.failures = ap (λ m. m.0.failures) c.look-youngest.ensures.same.2 in
     omega (arith, told, looked, c.close.ensures.rose, c.requires.began.1, c.requires.fresh.1)
 
 pub returns-in-Ok-clause-benches : goal.returns-in-Ok-clause-benches
 returns-in-Ok-clause-benches g c =
     let b = c.do_beside-seat in
-    let told = told_ok b.result.1 c.in-Ok.answers _ c.in-Ok.is b.ensures.benches in
+    let told = if_ok b.result.1 c.in-Ok.answers _ c.in-Ok.is b.ensures.benches in
     let looked : c.look-youngest.new.seat.me.0.bench_failures ≡ b.result.0.me.0.bench_failures = ap (λ m. m.0.bench_failures) c.look-youngest.ensures.same.2 in
     omega (arith, told, looked, c.close.ensures.benches, c.requires.began.2, c.requires.fresh.2)
 

@@ -1,5 +1,4 @@
 use Rattle.std.proofs.Common.{◌≡◌, ◌∙◌, List, length, sym, ap, subst, arith}
-use Rattle.std.specs.Prelude.{Result, Ok, Err, IfOk, OnErr}
 use Rattle.fsfs_disk.specs.Trace.{Trace, FirmNames, FailsAt}
 use Rattle.fsfs_machine.specs.Machine.{revisions}
 use Rattle.fsfs_pass.specs.declared.seat_view.Kin.{Kin}
@@ -10,13 +9,8 @@ use Rattle.fsfs_job_run.specs.Lines.{disk_faults_in, RoseBy}
 use Rattle.fsfs_workers.specs.Two.{RanTwo}
 use Rattle.fsfs_workers.proofs.Begun.{is_ready, has_nothing, beside_over}
 use Rattle.fsfs_workers.proofs.Ends.{rose_since, unopened, unread, unroomed, worked}
+use Rattle.fsfs_base.proofs.ResultLemmas.{if_ok, on_err}
 use Rattle.fsfs_workers.proofs.running.work_known.Goals as goal
-
-told_ok : {X E : Type 0} (r : Result X E) (x : X) (P : X → Type 0) → r ≡ Ok x → IfOk r P → P x
-told_ok r x P e w = subst (λ z. IfOk z P) e w
-
-told_err : {X E : Type 0} (r : Result X E) (x : E) (P : Type 0) → r ≡ Err x → OnErr r P → P
-told_err r x P e w = subst (λ z. OnErr z P) e w
 
 pub run_two-disk-requires-clause-ready : goal.run_two-disk-requires-clause-ready
 run_two-disk-requires-clause-ready g c κs within =
@@ -54,11 +48,11 @@ returns-in-Ok-done-clause-works g c =
     let done = c.in-Ok-done.done in
     let made = c.run_two-disk.result in
     let given : c.as_slice.result.now ≡ js = c.as_slice.ensures in
-    let each : length done.answers.items ≡ length js = told_ok made.1 done _ c.in-Ok-done.is c.run_two-disk.ensures.each ∙ ap (λ (l : List Job). length l) given in
-    let rose = rose_since (disk_faults_in done.answers.items) (count c.args.disk) (count o.repo.first.value) (count made.0) e.later (told_ok made.1 done _ c.in-Ok-done.is c.run_two-disk.ensures.cause) in
+    let each : length done.answers.items ≡ length js = if_ok made.1 done _ c.in-Ok-done.is c.run_two-disk.ensures.each ∙ ap (λ (l : List Job). length l) given in
+    let rose = rose_since (disk_faults_in done.answers.items) (count c.args.disk) (count o.repo.first.value) (count made.0) e.later (if_ok made.1 done _ c.in-Ok-done.is c.run_two-disk.ensures.cause) in
     let over = beside_over (told c.args.disk) (told made.0) o.seat.me.0 e.seen c.run_two-disk.ensures.told c.args.micros js done.answers.items done.youngest
-    (λ (t : Trace) is. subst (λ l. RanTwo c.args.micros o.seat.me.0.since l done.answers.items done.youngest (revisions o.seat.me.0.seen) t) given (told_ok made.1 done _ c.in-Ok-done.is (c.run_two-disk.ensures.ran t is))) in
-    let failed = told_ok made.1 done _ c.in-Ok-done.is c.run_two-disk.ensures.benches in
+    (λ (t : Trace) is. subst (λ l. RanTwo c.args.micros o.seat.me.0.since l done.answers.items done.youngest (revisions o.seat.me.0.seen) t) given (if_ok made.1 done _ c.in-Ok-done.is (c.run_two-disk.ensures.ran t is))) in
+    let failed = if_ok made.1 done _ c.in-Ok-done.is c.run_two-disk.ensures.benches in
     let benches : RoseBy (bench_faults_in done.answers.items) 0 (g.D.Disk.bench_faults made.0) = omega (arith, failed) in
     worked c.args.micros (count c.args.disk) (count made.0) (λ n. RoseBy n 0 (g.D.Disk.bench_faults made.0)) (told c.args.disk) (told made.0) (g.I.Source.remaining c.args.input.now) (g.I.Source.remaining c.read_script.new.source) (g.I.Source.faults c.args.input.now) (g.I.Source.faults c.read_script.new.source) js done c.in-Ok-read_script.ensures.read c.in-Ok-read_script.ensures.whole each rose benches over
 
@@ -67,6 +61,6 @@ returns-clause-works g c =
     let told = g.D.Disk.trace in
     let o = c.in-Ok.opened in
     let e = c.in-Ok.ensures in
-    let same = told_err c.run_two-disk.result.1 c.in-Err-done.field-0 _ c.in-Err-done.is c.run_two-disk.ensures.none in
+    let same = on_err c.run_two-disk.result.1 c.in-Err-done.field-0 _ c.in-Err-done.is c.run_two-disk.ensures.none in
     let firm : FailsAt FirmNames (told c.args.disk) (told c.run_two-disk.result.0) = subst (FailsAt FirmNames (told c.args.disk)) (sym same) (firm_fails FirmNames (told c.args.disk) (told o.repo.first.value) e.firm) in
     unroomed c.args.micros _ _ _ _ _ _ _ _ _ c.in-Ok-read_script.jobs c.in-Ok-read_script.ensures.read firm

@@ -1,4 +1,5 @@
 use Rattle.std.proofs.Common.{◌<◌, ◌∙◌, ◌+◌, sym, ap, take, arith}
+use Rattle.std.proofs.lemmas.Result.{IfErr-weaker}
 use Rattle.std.specs.Prelude.{length}
 use Rattle.fsfs_base.proofs.ResultLemmas.{none_of}
 use Rattle.fsfs_layout.specs.FileNames.{file_name}
@@ -11,7 +12,7 @@ use Rattle.fsfs_commit.specs.StayingLemmas.{txn_stays}
 use Rattle.fsfs_commit.proofs.Landing.{stays_on}
 use Rattle.fsfs_commit.proofs.Merging.{reads_once, begins_part, whole_part}
 use Rattle.fsfs_commit.proofs.Onward.{part_same, means_over, landed_more, refuses_more}
-use Rattle.fsfs_commit.proofs.DraftWriting.{ok_then, if_err_then}
+use Rattle.fsfs_commit.proofs.DraftWriting.{ok_then}
 use Rattle.fsfs_commit.proofs.open_txn.OpenTxn.merge.Goals as goal
 
 -- no read takes a revision away
@@ -75,7 +76,7 @@ returns-in-Ok-clause-err g c = λ v x known means le long told.
     let less : head < length s.0.seen = omega (arith, s.5.all, told) in
     let low : base < head = omega (arith, is.on, le, c.if-get.false, c.base-base.ensures, c.get.ensures.same, c.get-2.ensures.same) in
     let part = txn_stays v.seen (take (head + 1) s.0.seen) _ _ _ x is (begins_part (head + 1) v.seen s.0.seen s.5.grows long) in
-    if_err_then c.land.result.1 _ _ (λ why w. (w.0, w.1, w.4 means, reads_on v s.0 w.0 (reads_once base y.0 s.1 v s.0 s.5) w.2, refuses_more why head s.0.seen w.0.seen x w.2.grows w.3))
+    IfErr-weaker c.land.result.1 _ _ (λ why w. (w.0, w.1, w.4 means, reads_on v s.0 w.0 (reads_once base y.0 s.1 v s.0 s.5) w.2, refuses_more why head s.0.seen w.0.seen x w.2.grows w.3))
     (c.land.ensures.err s.0 v.seen x s.3 none (λ spent. part) low less)
 
 pub returns-then-is_spent-clause-found : goal.returns-then-is_spent-clause-found

@@ -8,7 +8,7 @@ use Rattle.fsfs_commit.specs.Meaning.{OfStage}
 use Rattle.fsfs_commit.proofs.Marshalled.{stage_marshalled}
 use Rattle.fsfs_commit.proofs.Pinning.{is_noted, pinned_is, notes_adoption, adopts_as, marshalled_pinned}
 use Rattle.fsfs_commit.proofs.Stages.{behind, of_stage_then}
-use Rattle.fsfs_commit.proofs.DraftWriting.{on_ok, if_err}
+use Rattle.fsfs_base.proofs.ResultLemmas.{if_err, on_ok}
 use Rattle.fsfs_commit.proofs.txn_draft.TxnDraftBenchDraft.marshal.Goals as goal
 
 -- what was made may be noted

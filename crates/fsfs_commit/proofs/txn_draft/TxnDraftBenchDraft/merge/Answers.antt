@@ -3,7 +3,7 @@ use Rattle.fsfs_commit.specs.Meaning.{IfOpen}
 use Rattle.fsfs_commit.specs.Pinned.{LandsAs}
 use Rattle.fsfs_commit.proofs.Pinning.{is_noted, pinned_is, noted_same, notes_landing, lands_as, landed_pinned}
 use Rattle.fsfs_commit.proofs.Stages.{meaning}
-use Rattle.fsfs_commit.proofs.DraftWriting.{on_ok, if_err}
+use Rattle.fsfs_base.proofs.ResultLemmas.{if_err, on_ok}
 use Rattle.fsfs_commit.proofs.txn_draft.TxnDraftBenchDraft.merge.Goals as goal
 
 pub merge_stage-turns-requires : goal.merge_stage-turns-requires

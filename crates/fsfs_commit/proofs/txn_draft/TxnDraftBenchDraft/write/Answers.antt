@@ -1,5 +1,6 @@
 use Rattle.fsfs_commit.proofs.Stages.{no_open, of_stage_then}
-use Rattle.fsfs_commit.proofs.DraftWriting.{ok_then, if_err_then}
+use Rattle.fsfs_commit.proofs.DraftWriting.{ok_then}
+use Rattle.std.proofs.lemmas.Result.{IfErr-weaker}
 use Rattle.fsfs_commit.proofs.txn_draft.TxnDraftBenchDraft.write.Goals as goal
 
 pub returns-clause-means : goal.returns-clause-means
@@ -15,4 +16,4 @@ pub returns-clause-named : goal.returns-clause-named
 returns-clause-named g c = λ name is. no_open c.written-stage.result.0 _ c.written-stage.ensures.ended
 
 pub returns-clause-blamed : goal.returns-clause-blamed
-returns-clause-blamed g c = λ made. if_err_then c.written-stage.result.1 _ _ (λ why w. of_stage_then c.written-stage.result.0 (λ o. ⊥) _ _ _ (λ o no. absurd no) (λ e failed. failed) w) (c.written-stage.ensures.blamed made)
+returns-clause-blamed g c = λ made. IfErr-weaker c.written-stage.result.1 _ _ (λ why w. of_stage_then c.written-stage.result.0 (λ o. ⊥) _ _ _ (λ o no. absurd no) (λ e failed. failed) w) (c.written-stage.ensures.blamed made)

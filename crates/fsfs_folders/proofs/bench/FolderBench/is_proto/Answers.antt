@@ -1,7 +1,7 @@
 use Rattle.std.proofs.Common.{◌≡◌, rules, sym, ap, ◌∙◌}
-use Rattle.fsfs_folders.specs.Paths.{same_text}
 use Rattle.fsfs_folders.specs.Prototypes.{is_elsewhere}
 use Rattle.fsfs_folders.proofs.TxnEntries.{same_tested}
+use Rattle.fsfs_base.specs.Files.{same_text}
 use Rattle.fsfs_folders.proofs.bench.FolderBench.is_proto.Goals as goal
 
 pub returns-in-Some : goal.returns-in-Some

@@ -12,7 +12,7 @@ returns c =
       how_is = refl;
       text_is = record {
         value = c.in_ok-value.value.items;
-        value_is = c.in_ok-value.ensures;
+        value_is = c.in_ok-value.ensures.told;
         text_is = subst (λ (p : List ℕ × List ℕ). Pair text p) (λ i. (c.as_bytes.ensures.value i, c.as_slice.ensures.value i)) said;
       };
     }

@@ -1,4 +1,4 @@
-use Rattle.fsfs_txn_files.proofs.spelling.+push_base36.Given as goal
+use Rattle.fsfs_base.proofs.name_digits.+push_base36.Given as goal
 
 abbrev pub decreases-push_base36 : goal.decreases-push_base36
 decreases-push_base36 l = l.digits

@@ -1,76 +1,21 @@
 -- Names with values: what is found after a value is put or taken.
-use Rattle.std.proofs.Common.{◌≡◌, ◌∙◌, ◌+◌, ◌<◌, ℕ, length, take, get_or, Bool, true, false, cond, List, [], ◌∷◌, ◌++◌, Option, Some, None, refl, sym, ap, subst, Ordering, Less, Equal, Greater}
+use Rattle.std.proofs.Common.{◌≡◌, ◌∙◌, ◌+◌, ℕ, Bool, true, false, cond, List, [], ◌∷◌, ◌++◌, Option, Some, None, refl, sym, ap, subst, Ordering, Less, Equal, Greater}
 use Rattle.std.specs.Prelude.{is_some, if◌then◌else◌}
 use Rattle.std.specs.List.{AllByRecursion}
-use Rattle.std.specs.Ordering.{nat_cmp, is_eq, match_ordering, ordering_reverse}
-use Rattle.std.specs.Cmp.{tied_itself}
-use Rattle.std.specs.Cmp.Lexicographic.{slice_cmp, nat_list_cmp_total}
+use Rattle.std.specs.Ordering.{is_eq, match_ordering, ordering_reverse}
+use Rattle.std.specs.Cmp.Lexicographic.{nat_list_cmp_total}
 use Rattle.std.specs.BTreeMap.{insert_entry, is_at}
 use Rattle.std.specs.Map.{lookup, remove_entry}
-use Rattle.std.specs.FinMap.{slice_cmp-IsAntisymmetric, nat_cmp-IsAntisymmetric}
-use Rattle.std.proofs.lemmas.List.{take_more, map_push}
 use Rattle.fsfs_base.specs.Paths.{PathName, same_name}
-use Rattle.fsfs_base.proofs.PathLemmas.{same_name-refl, same_name-is}
+use Rattle.fsfs_base.proofs.PathLemmas.{same_name-is}
 use Rattle.fsfs_layout.specs.Dump.{Ascending}
 use Rattle.fsfs_revision.specs.ShowsReading.{Pairs, DirEntry, named}
-use Rattle.fsfs_dag.specs.declared.directory.DirEntry.{DirEntry as Listed}
-use Rattle.fsfs_dag.specs.Views.{entry_value, entry_values}
-use Rattle.fsfs_txn_files.specs.Children.{IsEntryText, SaysEntry, LeadTo, HasTaken}
-
-abbrev pub text_cmp : List ℕ → List ℕ → Ordering
-text_cmp = slice_cmp nat_cmp
-
-equal_is : (x y : List ℕ) → text_cmp x y ≡ Equal → x ≡ y
-equal_is x y e = slice_cmp-IsAntisymmetric nat_cmp-IsAntisymmetric x y e
-
-equal_of : (x y : List ℕ) → x ≡ y → text_cmp x y ≡ Equal
-equal_of x y e = sym (ap (λ (z : List ℕ). text_cmp x z) e) ∙ tied_itself nat_list_cmp_total x
+use Rattle.fsfs_revision.proofs.PairLookups.{text_cmp, swapped, tests_one, found_put}
+use Rattle.fsfs_dag.proofs.EntryLists.{pushed, named_push}
+use Rattle.fsfs_dag.specs.Entries.{IsEntryText, SaysEntry, LeadTo, HasTaken}
 
 reversed : (x y : List ℕ) (o : Ordering) → text_cmp x y ≡ o → text_cmp y x ≡ ordering_reverse o
 reversed x y o e = nat_list_cmp_total.antisymm y x ∙ ap ordering_reverse e
-
--- the two tests of a name are one
-tests_one : (q k : List ℕ) → is_eq (text_cmp q k) ≡ same_name k q
-tests_one q k = by (text_cmp q k) refl (same_name k q) refl
-  where
-    by : (o : Ordering) → text_cmp q k ≡ o → (b : Bool) → same_name k q ≡ b → is_eq (text_cmp q k) ≡ same_name k q
-    by Equal is true h = ap is_eq is ∙ sym h
-    by Equal is false h =
-        let same : same_name k q ≡ true = subst (λ (z : List ℕ). same_name k z ≡ true) (sym (equal_is q k is)) (same_name-refl k) in
-        let no : true ≡ false = sym same ∙ h in cc
-    by Less is true h = let no : Equal ≡ Less = sym (equal_of q k (sym (same_name-is k q h))) ∙ is in cc
-    by Less is false h = ap is_eq is ∙ sym h
-    by Greater is true h = let no : Equal ≡ Greater = sym (equal_of q k (sym (same_name-is k q h))) ∙ is in cc
-    by Greater is false h = ap is_eq is ∙ sym h
-
--- ---- a value put
-
-twice : {X : Type 0} (b : Bool) (x y z : X) → cond b x z ≡ cond b x (cond b y z)
-twice true x y z = refl
-twice false x y z = refl
-
-swapped : {X : Type 0} (s t : Bool) (x y z : X) → (s ≡ true → t ≡ true → ⊥) → cond s x (cond t y z) ≡ cond t y (cond s x z)
-swapped true true x y z h = absurd (h refl refl)
-swapped true false x y z h = refl
-swapped false true x y z h = refl
-swapped false false x y z h = refl
-
-pub found_put : (ps : Pairs) (k v q : List ℕ) → lookup (is_at (text_cmp q)) (insert_entry text_cmp ps k v) ≡ cond (same_name k q) (Some v) (lookup (is_at (text_cmp q)) ps)
-found_put [] k v q = ap (λ (b : Bool). cond b (Some v) None) (tests_one q k)
-found_put (p ∷ ps) k v q = by (text_cmp k p.0) refl (found_put ps k v q)
-  where
-    by : (o : Ordering) → text_cmp k p.0 ≡ o → lookup (is_at (text_cmp q)) (insert_entry text_cmp ps k v) ≡ cond (same_name k q) (Some v) (lookup (is_at (text_cmp q)) ps)
-        → lookup (is_at (text_cmp q)) (match_ordering o ((k, v) ∷ p ∷ ps) ((p.0, v) ∷ ps) (p ∷ insert_entry text_cmp ps k v)) ≡ cond (same_name k q) (Some v) (cond (is_eq (text_cmp q p.0)) (Some p.1) (lookup (is_at (text_cmp q)) ps))
-    by Less is rest = ap (λ (b : Bool). cond b (Some v) (cond (is_eq (text_cmp q p.0)) (Some p.1) (lookup (is_at (text_cmp q)) ps))) (tests_one q k)
-    by Equal is rest =
-        let test : is_eq (text_cmp q p.0) ≡ same_name k q = tests_one q p.0 ∙ ap (λ (z : List ℕ). same_name z q) (sym (equal_is k p.0 is)) in
-        ap (λ (b : Bool). cond b (Some v) (lookup (is_at (text_cmp q)) ps)) test
-        ∙ twice (same_name k q) (Some v) (Some p.1) (lookup (is_at (text_cmp q)) ps)
-        ∙ ap (λ (b : Bool). cond (same_name k q) (Some v) (cond b (Some p.1) (lookup (is_at (text_cmp q)) ps))) (sym test)
-    by Greater is rest =
-        ap (λ (o : Option (List ℕ)). cond (is_eq (text_cmp q p.0)) (Some p.1) o) rest
-        ∙ swapped (is_eq (text_cmp q p.0)) (same_name k q) (Some p.1) (Some v) (lookup (is_at (text_cmp q)) ps)
-        (λ s t. let no : Equal ≡ Greater = sym (equal_of k p.0 (same_name-is k q t ∙ sym (same_name-is p.0 q (sym (tests_one q p.0) ∙ s)))) ∙ is in cc)
 
 -- ---- a value taken, from pairs in the order of their names
 
@@ -177,18 +122,6 @@ lead_taken old new ps name order lead less = λ y.
 
 -- ---- one entry more at the end of the list
 
-abbrev pushed : Option DirEntry → DirEntry → PathName → Option DirEntry
-pushed None e name = if same_name e.name name then Some e else None
-pushed (Some x) e name = Some x
-
-named_push : (name : PathName) (es : List DirEntry) (e : DirEntry) → named name (es ++ e ∷ []) ≡ pushed (named name es) e name
-named_push name [] e = refl
-named_push name (x ∷ es) e = by (same_name x.name name) (named_push name es e)
-  where
-    by : (b : Bool) → named name (es ++ e ∷ []) ≡ pushed (named name es) e name → cond b (Some x) (named name (es ++ e ∷ [])) ≡ pushed (cond b (Some x) (named name es)) e name
-    by true rest = refl
-    by false rest = rest
-
 -- where the name has a value it has an entry
 has_entry : (x : Option DirEntry) (v : Option (List ℕ)) → SaysEntry x v → is_some v ≡ is_some x
 has_entry None v h = ap is_some h
@@ -220,9 +153,3 @@ lead_more es e ps value lead gone is = lead_put es (es ++ e ∷ []) ps e value l
 
 pub lead_none : LeadTo [] []
 lead_none = λ y. refl
-
--- ---- in the loop
-
-pub taken_more : (es : List Listed) (k : ℕ) (e : Listed) → k < length es → e ≡ get_or es k e → entry_values (take (k + 1) es) ≡ entry_values (take k es) ++ entry_value e ∷ []
-taken_more es k e lt is =
-    ap entry_values (take_more es k e lt ∙ ap (λ (x : Listed). take k es ++ x ∷ []) (sym is)) ∙ map_push entry_value (take k es) e

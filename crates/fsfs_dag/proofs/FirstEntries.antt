@@ -1,51 +1,27 @@
 -- Entries put to a list one after another, the first of each name.
-use Rattle.std.proofs.Common.{◌≡◌, ◌∙◌, ◌+◌, ◌<◌, ◌≤◌, arith, ℕ, length, take, get_or, Bool, true, false, cond, List, [], ◌∷◌, ◌++◌, Option, Some, None, refl, sym, ap, subst, Ordering, Less, Equal, Greater}
+use Rattle.std.proofs.Common.{◌≡◌, ◌∙◌, ◌+◌, ◌≤◌, arith, ℕ, length, Bool, true, false, cond, List, [], ◌∷◌, ◌++◌, Option, Some, None, refl, sym, ap, subst, Ordering, Less, Equal, Greater}
 use Rattle.std.specs.Prelude.{is_some, if◌then◌else◌}
 use Rattle.std.specs.List.{AllByRecursion}
-use Rattle.std.specs.Ordering.{nat_cmp, is_eq, match_ordering}
-use Rattle.std.specs.Cmp.{tied_itself}
-use Rattle.std.specs.Cmp.Lexicographic.{slice_cmp, nat_list_cmp_total}
+use Rattle.std.specs.Ordering.{is_eq, match_ordering}
 use Rattle.std.specs.BTreeMap.{insert_entry, is_at}
 use Rattle.std.specs.Map.{lookup}
-use Rattle.std.specs.FinMap.{slice_cmp-IsAntisymmetric, nat_cmp-IsAntisymmetric}
-use Rattle.std.proofs.lemmas.List.{take_more, map_push}
 use Rattle.std.proofs.lemmas.List.Sums.{sum_by-append, sum_by-cons}
 use Rattle.fsfs_base.specs.Paths.{PathName, same_name}
 use Rattle.fsfs_base.proofs.PathLemmas.{same_name-refl, same_name-is}
 use Rattle.fsfs_revision.specs.declared.damage.RevOffset.{RevOffset}
 use Rattle.fsfs_revision.specs.Nodes.{is_revision_id}
 use Rattle.fsfs_revision.specs.ShowsReading.{Pairs, DirEntry, IsEntryValue, AreEntries, named}
-use Rattle.fsfs_dag.specs.declared.directory.DirEntry.{DirEntry as Listed}
-use Rattle.fsfs_dag.specs.Views.{entry_value, entry_values}
-use Rattle.fsfs_final.specs.Entries.{IsFirstIn, ArePairs, pair_room, pairs_room, entry_room, entries_room, HasFirsts, MayStand, ListsEntries}
+use Rattle.fsfs_revision.specs.EntryRooms.{pair_room, pairs_room, entry_room, entries_room}
+use Rattle.fsfs_revision.proofs.PairLookups.{text_cmp, equal_is, equal_of, twice, swapped}
+use Rattle.fsfs_dag.proofs.EntryLists.{pushed, named_push}
+use Rattle.fsfs_dag.specs.Entries.{IsFirstIn, ArePairs, HasFirsts, MayStand, ListsEntries}
 
 -- ---- bytes
 
 pub more_room : (es : List DirEntry) (e : DirEntry) → entries_room (es ++ e ∷ []) ≡ entries_room es + entry_room e
 more_room es e = sum_by-append entry_room es (e ∷ []) ∙ omega arith
 
-abbrev pub text_cmp : List ℕ → List ℕ → Ordering
-text_cmp = slice_cmp nat_cmp
-
-equal_is : (x y : List ℕ) → text_cmp x y ≡ Equal → x ≡ y
-equal_is x y e = slice_cmp-IsAntisymmetric nat_cmp-IsAntisymmetric x y e
-
-equal_of : (x y : List ℕ) → x ≡ y → text_cmp x y ≡ Equal
-equal_of x y e = sym (ap (λ (z : List ℕ). text_cmp x z) e) ∙ tied_itself nat_list_cmp_total x
-
 -- ---- one entry more at the end
-
-abbrev pushed : Option DirEntry → DirEntry → PathName → Option DirEntry
-pushed None e name = if same_name e.name name then Some e else None
-pushed (Some x) e name = Some x
-
-named_push : (name : PathName) (es : List DirEntry) (e : DirEntry) → named name (es ++ e ∷ []) ≡ pushed (named name es) e name
-named_push name [] e = refl
-named_push name (x ∷ es) e = by (same_name x.name name) (named_push name es e)
-  where
-    by : (b : Bool) → named name (es ++ e ∷ []) ≡ pushed (named name es) e name → cond b (Some x) (named name (es ++ e ∷ [])) ≡ pushed (cond b (Some x) (named name es)) e name
-    by true rest = refl
-    by false rest = rest
 
 stays_first : (es : List DirEntry) (e x : DirEntry) → IsFirstIn es x → IsFirstIn (es ++ e ∷ []) x
 stays_first es e x h = named_push x.name es e ∙ ap (λ (o : Option DirEntry). pushed o e x.name) h
@@ -79,16 +55,6 @@ record IsPutIn (new : List DirEntry) (e : DirEntry) (xs : List DirEntry) (qs : P
   are : ArePairs qs sorted
   same : (y : PathName) → named y sorted ≡ (if same_name e.name y then Some e else named y xs)
   first : AllByRecursion (IsFirstIn new) sorted
-
-twice : {X : Type 0} (b : Bool) (x y z : X) → cond b x z ≡ cond b x (cond b y z)
-twice true x y z = refl
-twice false x y z = refl
-
-swapped : {X : Type 0} (s t : Bool) (x y z : X) → (s ≡ true → t ≡ true → ⊥) → cond s x (cond t y z) ≡ cond t y (cond s x z)
-swapped true true x y z h = absurd (h refl refl)
-swapped true false x y z h = refl
-swapped false true x y z h = refl
-swapped false false x y z h = refl
 
 module _ (new : List DirEntry) (e : DirEntry) (value : List ℕ) (is_value : is_revision_id e.id ≡ true → IsEntryValue value e.kind e.id) (mine : IsFirstIn new e) where
   put_in : (ps : Pairs) (xs : List DirEntry) → ArePairs ps xs → AllByRecursion (IsFirstIn new) xs → IsPutIn new e xs (insert_entry text_cmp ps e.name value)
@@ -189,9 +155,3 @@ are_entries es home (p ∷ ps) (x ∷ xs) w f h =
 
 pub firsts_list : (es : List DirEntry) (ps : Pairs) → HasFirsts es ps → ListsEntries es ps
 firsts_list es ps w = record { sorted = w.sorted; same = w.same; room = w.room; are = λ home h. are_entries es home ps w.sorted w.pairs_are w.first h }
-
--- ---- in the loop
-
-pub taken_more : (es : List Listed) (k : ℕ) (e : Listed) → k < length es → e ≡ get_or es k e → entry_values (take (k + 1) es) ≡ entry_values (take k es) ++ entry_value e ∷ []
-taken_more es k e lt is =
-    ap entry_values (take_more es k e lt ∙ ap (λ (x : Listed). take k es ++ x ∷ []) (sym is)) ∙ map_push entry_value (take k es) e

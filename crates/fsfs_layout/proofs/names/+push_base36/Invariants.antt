@@ -1,4 +1,0 @@
-use Rattle.fsfs_layout.proofs.names.+push_base36.Given as goal
-
-abbrev pub decreases-push_base36 : goal.decreases-push_base36
-decreases-push_base36 l = l.digits
