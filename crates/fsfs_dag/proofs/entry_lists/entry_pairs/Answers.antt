@@ -15,8 +15,7 @@ loop-entry-init c = (subst (λ (ps : Pairs). LeadTo [] ps) (sym c.new-pairs.ensu
 pub loop-entry-preserved : goal.loop-entry-preserved
 loop-entry-preserved c =
     let earlier : List DirEntry = entry_values (take c.loop-entry.entry-index c.args.entries.now) in
-    let more = sym (taken_more c.args.entries.now c.loop-entry.entry-index c.entry-item.result c.loop-entry-test.true c.entry-item.is) in
-    (
+    let more = sym (taken_more c.args.entries.now c.loop-entry.entry-index c.entry-item.result c.loop-entry-test.true c.entry-item.is) in (
       subst (λ (es : List DirEntry). LeadTo es c.put_first.new.pairs) more (c.in_ok-put_first.ensures.lead earlier c.loop-entry.invariant.0),
       subst (λ (es : List DirEntry). HasFirsts es c.put_first.new.pairs) more (c.in_ok-put_first.ensures.firsts earlier c.loop-entry.invariant.1),
     )
