@@ -1,17 +1,14 @@
 // Transactions that are begun, edited and committed, in a repository that is open.
-use crate::answers::{say_bar, say_begin_fault, say_disk_fault, say_edit_error};
-use crate::lines::{MOMENT, cut};
+use crate::answers::{say_bar, say_begin_fault, say_edit_error};
+use crate::calls::MOMENT;
 use fsfs_base::{FsPath, Pairs, RevNum};
 use fsfs_disk::Bench;
-use fsfs_memory::{MemBench, MemDisk, MemSource, NoGate, Transcript, bytes_of};
+use fsfs_example_calls::{HeldTxn, say_disk_fault};
+use fsfs_memory::{MemBench, MemDisk, MemSource, NoGate, Transcript, bytes_of, cut};
 use fsfs_repo::{CommitAnswer, Repo};
 use fsfs_revision::Book;
-use fsfs_txn::{Deleted, Made, PathOpened, TextSet, Txn, TxnError};
-use fsfs_txn_nodes::HeldNodes;
+use fsfs_txn::{Deleted, Made, PathOpened, TextSet, TxnError};
 use std::alloc::Global;
-
-/// A transaction over a bench.
-pub type HeldTxn<W> = Txn<HeldNodes<W>>;
 
 // Whether it was made.
 fn is_made(made: Result<Made, TxnError>, out: &mut Transcript) -> bool {
