@@ -1,18 +1,11 @@
 // What is answered.
-use fsfs_base::{DiskPlace, OpenFault, TxnName, put_txn_name};
+use fsfs_base::{CreateFault, DiskPlace, TxnName};
 use fsfs_draft::EditError;
+use fsfs_example_calls::{say_disk_fault, say_no_rev, say_txn};
 use fsfs_memory::Transcript;
 use fsfs_repo::{BeginFault, CommitBar, TxnError};
 use fsfs_revision::Wrong;
 use std::alloc::Global;
-
-fn say_txn(alloc: Global, name: &TxnName, out: &mut Transcript) {
-    let mut text = Vec::new(alloc);
-    match put_txn_name(&mut text, name) {
-        Ok(()) => out.bytes(&text),
-        Err(_) => out.lose(),
-    }
-}
 
 pub fn say_txns(alloc: Global, names: &[TxnName], out: &mut Transcript) {
     out.say("listed");
@@ -22,33 +15,29 @@ pub fn say_txns(alloc: Global, names: &[TxnName], out: &mut Transcript) {
     }
 }
 
-pub fn say_disk_fault(place: DiskPlace, out: &mut Transcript) {
-    out.say("DiskFault ");
+fn say_stuck(place: DiskPlace, out: &mut Transcript) {
+    out.say("Stuck ");
     out.say(place.word());
 }
 
-pub fn say_open_fault(fault: &OpenFault, out: &mut Transcript) {
+pub fn say_create_fault(fault: &CreateFault, out: &mut Transcript) {
     match fault {
-        OpenFault::DiskFault(place) => say_disk_fault(*place, out),
-        OpenFault::Memory => out.lose(),
-        _ => out.say("? not opened"),
+        CreateFault::AlreadyRepo => out.say("AlreadyRepo"),
+        CreateFault::DiskFault(place) => say_disk_fault(*place, out),
+        CreateFault::Memory => out.lose(),
     }
 }
 
 pub fn say_begin_fault(fault: &BeginFault, out: &mut Transcript) {
     match fault {
-        BeginFault::NoRev { asked, youngest } => {
-            out.tell("NoRev ", asked);
-            out.tell(" ", youngest);
-        }
-        BeginFault::Stuck(place) => {
-            out.say("Stuck ");
-            out.say(place.word());
-        }
+        BeginFault::NoRev { asked, youngest } => say_no_rev(*asked, *youngest, out),
+        BeginFault::Stuck(place) => say_stuck(*place, out),
+        BeginFault::Small(fault) => out.tell("Small TxnCurrent ", &fault.at),
+        BeginFault::NamesFull => out.say("NamesFull"),
+        BeginFault::Wrong(_) => out.say("Corrupt"),
         BeginFault::DiskFault(place) => say_disk_fault(*place, out),
         BeginFault::BenchFault => out.say("BenchFault"),
         BeginFault::Memory => out.lose(),
-        _ => out.say("? not begun"),
     }
 }
 
@@ -79,10 +68,7 @@ pub fn say_bar(bar: &CommitBar, out: &mut Transcript) {
             out.tell(" ", path);
         }
         CommitBar::RevsFull => out.say("RevsFull"),
-        CommitBar::Stuck(place) => {
-            out.say("Stuck ");
-            out.say(place.word());
-        }
+        CommitBar::Stuck(place) => say_stuck(*place, out),
         CommitBar::Wrong(wrong) => say_wrong(wrong, out),
         CommitBar::PastLimit(limit) => {
             out.say("PastLimit ");

@@ -11,6 +11,8 @@ pub enum Way {
     Bench,
     /// One of the disk, and each behind it.
     Stop,
+    /// The first of the bench; and one of the disk, and each behind it.
+    BenchAndStop,
 }
 
 impl Way {
@@ -19,6 +21,7 @@ impl Way {
             Way::Disk => "disk",
             Way::Bench => "bench",
             Way::Stop => "stop",
+            Way::BenchAndStop => "bench, stop",
         }
     }
 }
@@ -32,7 +35,10 @@ pub fn failing(
     out: &mut Transcript,
 ) -> MemDisk {
     let none = Vec::new(alloc);
-    let Ok(this) = Vec::from_slice(alloc, &[number]) else {
+    let (Ok(this), Ok(first)) = (
+        Vec::from_slice(alloc, &[number]),
+        Vec::from_slice(alloc, &[1]),
+    ) else {
         out.lose();
         return disk;
     };
@@ -41,6 +47,7 @@ pub fn failing(
         Way::Disk => disk.failing(this, none),
         Way::Bench => disk.failing(none, this),
         Way::Stop => disk.failing(none, Vec::new(alloc)).fuse(passing),
+        Way::BenchAndStop => disk.failing(none, first).fuse(passing),
     }
 }
 
@@ -49,26 +56,20 @@ pub fn sound(alloc: Global, disk: MemDisk) -> MemDisk {
     disk.failing(Vec::new(alloc), Vec::new(alloc))
 }
 
-/// In so many ways a crash leaves changes or not.
-pub const PATTERNS: u32 = 16;
-
-// Of changes beside one another no more can be left or not in each way.
-const PERIOD: u32 = 4;
-
 // So many changes and labels are picked; no example has more.
 const MOST: u32 = 64;
 
-// Which changes are left: the bits of the pattern, again and again.
-fn picks(alloc: Global, pattern: u32) -> Result<Vec<bool>, AllocError> {
+// Which changes are left: a bit for each.
+fn picks(alloc: Global, pattern: u64) -> Result<Vec<bool>, AllocError> {
     let mut picks = Vec::new(alloc);
     for at in 0..MOST {
-        picks.push((pattern >> (at % PERIOD)) & 1 == 1)?;
+        picks.push((pattern >> at) & 1 == 1)?;
     }
     Ok(picks)
 }
 
-/// What a crash leaves of the disk. Over all patterns four changes or labels beside one another are left or not in each way.
-pub fn crashed(alloc: Global, disk: MemDisk, pattern: u32, out: &mut Transcript) -> MemDisk {
+/// What a crash leaves of the disk: of changes and labels those whose bits are set, the oldest in the lowest.
+pub fn crashed(alloc: Global, disk: MemDisk, pattern: u64, out: &mut Transcript) -> MemDisk {
     let Ok(picks) = picks(alloc, pattern) else {
         out.lose();
         return disk;

@@ -1,15 +1,13 @@
 // Transactions that are begun, edited and committed, in a repository that is open.
-use crate::answers::{say_bar, say_begin_fault, say_disk_fault, say_edit_error};
-use crate::lines::{MOMENT, cut};
+use crate::answers::{say_bar, say_begin_fault, say_edit_error};
+use crate::calls::MOMENT;
 use fsfs_base::{FsPath, Pairs, RevNum};
 use fsfs_disk::Bench;
-use fsfs_memory::{MemBench, MemDisk, MemSource, NoGate, Transcript, bytes_of};
-use fsfs_repo::{CommitAnswer, Deleted, HeldNodes, Made, PathOpened, Repo, TextSet, Txn, TxnError};
+use fsfs_example_calls::{HeldTxn, say_disk_fault};
+use fsfs_memory::{MemBench, MemDisk, MemSource, NoGate, Transcript, bytes_of, cut};
+use fsfs_repo::{CommitAnswer, Deleted, Made, PathOpened, Repo, TextSet, TxnError};
 use fsfs_revision::Book;
 use std::alloc::Global;
-
-/// A transaction over a bench.
-pub type HeldTxn<W> = Txn<HeldNodes<W>>;
 
 // Whether it was made.
 fn is_made(made: Result<Made, TxnError>, out: &mut Transcript) -> bool {

@@ -1,18 +1,19 @@
-//! Commits: reads a text of examples, makes their calls over a disk in memory, and prints what is answered and what is left, where
-//! calls fail too, and behind crashes. `docs/EXAMPLES.md` has the form of the lines.
+//! Transactions that begin, are purged, removed and committed, and creations: reads a text of examples, makes their calls over a disk in
+//! memory, and prints what is answered and what is left, where calls fail too, and behind crashes. `docs/EXAMPLES.md` has the form of the
+//! lines.
 #![tactic(auto)]
 
 mod answers;
+mod calls;
 mod failing;
 mod jobs;
 mod lines;
-mod looking;
 mod play;
 mod racing;
 mod rivals;
-mod scene;
 mod table;
 mod tally;
+mod turns;
 
 use anyhow::Result;
 use fsfs_memory::Transcript;

@@ -1,8 +1,8 @@
 // A commit beside others.
 ghost use Rattle.fsfs_begin.specs.Benches.{TellsRoot};
 
-use crate::jobs::{HeldTxn, edit_all};
-use crate::lines::{MOMENT, cut};
+use crate::calls::MOMENT;
+use crate::jobs::edit_all;
 use crate::rivals::Rivals;
 use fsfs_base::{Pairs, RevNum};
 use fsfs_begin::Begun;
@@ -10,7 +10,8 @@ use fsfs_begin::turn_begin::{Numbers, begin};
 use fsfs_commit::{CommitFault, CommitRefusal, TxnDraft, commit, dated};
 use fsfs_create::open;
 use fsfs_disk::Bench;
-use fsfs_memory::{MemBench, MemDisk, NoGate, Transcript};
+use fsfs_example_calls::HeldTxn;
+use fsfs_memory::{MemBench, MemDisk, NoGate, Transcript, cut};
 use fsfs_repo::Txn;
 use fsfs_turn::{Owned, over_turns, turns_of};
 use std::alloc::Global;

@@ -1,4 +1,5 @@
 // The lines of a text of runs.
+use fsfs_memory::cut;
 
 /// What a block is for.
 #[derive(Clone, Copy)]
@@ -38,7 +39,7 @@ impl<'a> Line<'a> {
         if line.is_empty() || line.starts_with('#') {
             return Line::Nothing;
         }
-        let (word, rest) = line.split_once(' ').unwrap_or((line, ""));
+        let (word, rest) = cut(line);
         match word {
             "==" => Line::Run(rest),
             "steps" => Line::Begin(Block::Steps(rest)),

@@ -85,9 +85,7 @@ impl Player {
     /// Begins a run of this name, with a new repository.
     pub fn begin(&mut self, name: &str) -> Result<(), AllocError> {
         self.state = new_state(self.alloc)?;
-        self.out.say("== ");
-        self.out.say(name);
-        self.out.say("\n");
+        self.out.headline(name);
         Ok(())
     }
 

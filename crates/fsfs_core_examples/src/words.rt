@@ -2,6 +2,7 @@
 use anyhow::{Result, bail};
 use fsfs_base::{FsPath, RevNum};
 use fsfs_core::{BeginPlace, CommitPlace, Contents, DiskPlace, Went};
+use fsfs_memory::cut;
 use std::alloc::{AllocError, Global};
 
 /// The words that are left of a line, with a space between each two. Where one is not what it is read as, something stands in
@@ -31,7 +32,7 @@ impl<'a> Words<'a> {
 
     /// The next word; an empty one where none is left.
     pub fn word(&mut self) -> &'a str {
-        let (word, rest) = self.rest.split_once(' ').unwrap_or((self.rest, ""));
+        let (word, rest) = cut(self.rest);
         self.rest = rest;
         word
     }

@@ -1,5 +1,6 @@
 // Which calls fail.
 use anyhow::{Result, bail};
+use fsfs_memory::{cut, numbers_of};
 use std::alloc::Global;
 
 /// Calls that fail; the first is 1.
@@ -17,25 +18,16 @@ pub enum Failing {
     Behind(u64),
 }
 
-/// Numbers with a comma between each two.
-pub fn numbers_of(alloc: Global, text: &str) -> Result<Vec<u64>> {
-    let mut numbers = Vec::new(alloc);
-    for number in text.split(',') {
-        numbers.push(number.parse::<u64>()?)?;
-    }
-    Ok(numbers)
-}
-
 impl Failing {
     pub fn read(alloc: Global, text: &str) -> Result<Failing> {
         if text.is_empty() {
             return Ok(Failing::Never);
         }
-        let (word, numbers) = text.split_once(' ').unwrap_or((text, ""));
+        let (word, numbers) = cut(text);
         match word {
-            "failing" => Ok(Failing::OfDisk(numbers_of(alloc, numbers)?)),
-            "made" => Ok(Failing::Made(numbers_of(alloc, numbers)?)),
-            "bench" => Ok(Failing::OfBench(numbers_of(alloc, numbers)?)),
+            "failing" => Ok(Failing::OfDisk(numbers_of(alloc, numbers, ',')?)),
+            "made" => Ok(Failing::Made(numbers_of(alloc, numbers, ',')?)),
+            "bench" => Ok(Failing::OfBench(numbers_of(alloc, numbers, ',')?)),
             "behind" => Ok(Failing::Behind(numbers.parse::<u64>()?)),
             _ => bail!("no way to fail"),
         }

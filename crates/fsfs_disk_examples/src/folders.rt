@@ -7,7 +7,7 @@ use crate::words::Words;
 use anyhow::{Result, bail};
 use fsfs_disk::{Access, Disk, Host};
 use fsfs_hostcalls::HostFileSystem;
-use fsfs_memory::{Transcript, bytes_of};
+use fsfs_memory::{Transcript, bytes_of, cut};
 use fsfs_mount::FolderHost;
 use std::alloc::Global;
 use std::fs;
@@ -207,7 +207,7 @@ pub fn play(rt: &HostRuntime, lines: &[&str], out: &mut Transcript) -> Result<()
         let length = length_of_session(behind);
         let inner = behind.get(..length).unwrap_or(&[]);
         begin_line(line, out);
-        let (word, which) = line.split_once(' ').unwrap_or((line, ""));
+        let (word, which) = cut(line);
         match (access_of(word), which) {
             (Some(access), "second") => session(rt, &mut second, &mut first, access, inner, out),
             (Some(access), _) => session(rt, &mut first, &mut second, access, inner, out),

@@ -1,7 +1,7 @@
 // A whole text of examples.
 use crate::{edge, folders, memory};
 use anyhow::{Result, bail};
-use fsfs_memory::Transcript;
+use fsfs_memory::{Example, Transcript, cut, examples_of, lines_of};
 
 // How many lines stand before the first crash.
 fn count_calls(lines: &[&str]) -> usize {
@@ -11,9 +11,9 @@ fn count_calls(lines: &[&str]) -> usize {
         .unwrap_or(lines.len())
 }
 
-// Plays the lines of an example behind its headline; the first names the disk.
+// Plays the lines of an example behind the one that names the disk.
 fn play_example(rt: &HostRuntime, start: &str, lines: &[&str], out: &mut Transcript) -> Result<()> {
-    let (disk, failing) = start.split_once(' ').unwrap_or((start, ""));
+    let (disk, failing) = cut(start);
     let count = count_calls(lines);
     let calls = lines.get(..count).unwrap_or(&[]);
     let crashes = lines.get(count..).unwrap_or(&[]);
@@ -28,14 +28,11 @@ fn play_example(rt: &HostRuntime, start: &str, lines: &[&str], out: &mut Transcr
     }
 }
 
-// Plays the lines from a headline on.
-fn play_lines(rt: &HostRuntime, lines: &[&str], out: &mut Transcript) {
-    let Some((headline, behind)) = lines.split_first() else {
-        return;
-    };
-    out.say(headline);
+// Plays an example, whose first line names the disk.
+fn play_lines(rt: &HostRuntime, example: Example<'_>, out: &mut Transcript) {
+    out.say(example.headline);
     out.say("\n");
-    let Some((start, inner)) = behind.split_first() else {
+    let Some((start, inner)) = example.lines.split_first() else {
         return;
     };
     if let Err(error) = play_example(rt, start, inner, out) {
@@ -47,18 +44,10 @@ fn play_lines(rt: &HostRuntime, lines: &[&str], out: &mut Transcript) {
 /// What is printed of a text of examples.
 pub fn transcript_of(rt: &HostRuntime, text: &str) -> Result<String> {
     let alloc = rt.alloc();
-    let lines: Vec<&str> = text
-        .lines()
-        .filter(|line| !line.is_empty() && !line.starts_with('#'))
-        .collect(alloc)?;
+    let lines = lines_of(alloc, text)?;
     let mut out = Transcript::new(alloc);
-    let mut begun = 0;
-    for (at, line) in lines.iter().enumerate() {
-        if at > begun && line.starts_with("== ") {
-            play_lines(rt, lines.get(begun..at).unwrap_or(&[]), &mut out);
-            begun = at;
-        }
+    for example in examples_of(alloc, &lines)? {
+        play_lines(rt, example, &mut out);
     }
-    play_lines(rt, lines.get(begun..).unwrap_or(&[]), &mut out);
     Ok(out.finish()?)
 }

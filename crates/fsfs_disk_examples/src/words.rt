@@ -2,6 +2,7 @@
 use anyhow::{Result, bail};
 use fsfs_base::{Name, read_txn_name};
 use fsfs_disk::Label;
+use fsfs_memory::cut;
 
 /// What is left of a line, a word after another.
 #[derive(Clone, Copy)]
@@ -20,7 +21,7 @@ impl<'a> Words<'a> {
     }
 
     pub fn word(&mut self) -> &'a str {
-        let (word, rest) = self.rest.split_once(' ').unwrap_or((self.rest, ""));
+        let (word, rest) = cut(self.rest);
         self.rest = rest;
         word
     }

@@ -2,8 +2,10 @@
 use crate::files::{Files, firm_disk};
 use crate::line::Place;
 use anyhow::{Result, anyhow, bail};
-use fsfs_memory::{FixedClock, FixedDice, MemDisk, MemHost, MemSink, MemSource, NoGate, bytes_of};
-use fsfs_top::{Tool, command};
+use fsfs_example_calls::{Tool, command};
+use fsfs_memory::{
+    FixedClock, FixedDice, MemDisk, MemHost, MemSink, MemSource, NoGate, bytes_of, cut,
+};
 use std::alloc::{AllocError, Global};
 use std::sync::Wait;
 use std::thread::Threads;
@@ -104,7 +106,7 @@ pub fn run<T: Threads + Wait + Sync>(
     files: &Files,
     given: &Given,
 ) -> Result<Ran> {
-    let (tool, rest) = line.split_once(' ').unwrap_or((line, ""));
+    let (tool, rest) = cut(line);
     let tool = tool_of(tool)?;
     let mut words = Vec::new(alloc);
     for word in rest.split(' ').filter(|word| !word.is_empty()) {

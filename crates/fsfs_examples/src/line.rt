@@ -1,5 +1,6 @@
 // The lines of a text of examples.
 use anyhow::{Result, bail};
+use fsfs_memory::cut;
 
 /// Where a call fails.
 #[derive(Clone, Copy, Debug, PartialEq, Eq)]
@@ -101,10 +102,6 @@ pub enum Line<'a> {
     End,
 }
 
-fn split(line: &str) -> (&str, &str) {
-    line.split_once(' ').unwrap_or((line, ""))
-}
-
 impl<'a> FileLine<'a> {
     fn read(line: &'a str) -> Result<FileLine<'a>> {
         if let Some(text) = line.strip_prefix('|') {
@@ -113,17 +110,17 @@ impl<'a> FileLine<'a> {
         if let Some(text) = line.strip_prefix(':') {
             return Ok(FileLine::Cut(text));
         }
-        let (word, rest) = split(line);
+        let (word, rest) = cut(line);
         match word {
             "@" => Ok(FileLine::New(rest)),
             "+" => Ok(FileLine::More(rest)),
             "-" => Ok(FileLine::Absent(rest)),
             "times" => {
-                let (count, text) = split(rest);
+                let (count, text) = cut(rest);
                 Ok(FileLine::Times(count.parse::<u32>()?, text))
             }
             "at" => {
-                let (at, text) = split(rest);
+                let (at, text) = cut(rest);
                 Ok(FileLine::At(at.parse::<usize>()?, text))
             }
             "first" => Ok(FileLine::First(rest.parse::<usize>()?)),
@@ -137,7 +134,7 @@ impl<'a> Line<'a> {
         if line.is_empty() || line.starts_with('#') {
             return Ok(Line::Nothing);
         }
-        let (word, rest) = split(line);
+        let (word, rest) = cut(line);
         match word {
             "==" => Ok(Line::Example(rest)),
             "like" => Ok(Line::Like(rest)),
@@ -145,12 +142,12 @@ impl<'a> Line<'a> {
             "<" => Ok(Line::Input(rest)),
             "<:" => Ok(Line::InputCut(rest)),
             "<times" => {
-                let (count, text) = split(rest);
+                let (count, text) = cut(rest);
                 Ok(Line::InputTimes(count.parse::<u32>()?, text))
             }
             "$" => Ok(Line::Run(rest)),
             "failing" => {
-                let (place, calls) = split(rest);
+                let (place, calls) = cut(rest);
                 Ok(Line::Failing(Place::read(place)?, calls))
             }
             "crash" => Ok(Line::Crash(rest)),

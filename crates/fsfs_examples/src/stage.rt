@@ -5,7 +5,7 @@ use crate::files::{Files, copy_of, files_of};
 use crate::line::{Line, Place};
 use crate::transcript::{put_changes, put_file, put_files, put_run};
 use anyhow::{Result, bail};
-use fsfs_memory::{MemDisk, Transcript, bytes_of};
+use fsfs_memory::{MemDisk, Transcript, bytes_of, numbers_of, picks_of};
 use std::alloc::{AllocError, Global};
 use std::collections::BTreeMap;
 use std::mem;
@@ -65,9 +65,7 @@ impl Stage {
             Err(error) => Err(error),
         };
         if let Err(error) = done {
-            self.out.tell("? ", &number);
-            self.out.tell(": ", &error);
-            self.out.say("\n");
+            self.out.refuse(number, &error);
         }
     }
 
@@ -112,9 +110,7 @@ impl Stage {
         self.open = String::new(self.alloc);
         self.given = Given::new(self.alloc);
         self.disk = None;
-        self.out.say("== ");
-        self.out.say(name);
-        self.out.say("\n");
+        self.out.headline(name);
     }
 
     fn take_over(&mut self, name: &str) -> Result<()> {
@@ -142,7 +138,7 @@ impl Stage {
     }
 
     fn fail(&mut self, place: Place, calls: &str) -> Result<()> {
-        self.given.calls = numbers_of(self.alloc, calls)?;
+        self.given.calls = numbers_of(self.alloc, calls, ' ')?;
         self.given.place = place;
         self.out.say("failing ");
         self.out.say(place.word());
@@ -193,7 +189,9 @@ impl Stage {
         let Some(disk) = self.disk.take() else {
             bail!("no command before this");
         };
-        let picked = picks_of(self.alloc, picks, self.before.len())?;
+        // The disk was made by a change for each file and one that made them firm.
+        let before = self.before.len().saturating_add(1);
+        let picked = picks_of(self.alloc, picks, ' ', before, MOST_CHANGES)?;
         let left = disk.crash(&picked)?;
         self.files = files_of(self.alloc, &left)?;
         self.out.say("crash ");
@@ -218,32 +216,4 @@ fn is_first_part(whole: &Whole, given: &Given, ran: &Ran) -> bool {
         }
         _ => false,
     }
-}
-
-// Numbers with a space between each two.
-fn numbers_of(alloc: Global, text: &str) -> Result<Vec<u64>> {
-    let mut numbers = Vec::new(alloc);
-    for number in text.split(' ') {
-        numbers.push(number.parse::<u64>()?)?;
-    }
-    Ok(numbers)
-}
-
-// Which changes are left of a command over so many files: `none`, `all`, or those with these numbers, the first being 1.
-fn picks_of(alloc: Global, text: &str, files: usize) -> Result<Vec<bool>> {
-    // The disk was made by a change for each file and one that made them firm.
-    let before = files.saturating_add(1);
-    let all = before.saturating_add(MOST_CHANGES);
-    let mut picks = vec![in alloc; text == "all"; all]?;
-    if text == "all" || text == "none" {
-        return Ok(picks);
-    }
-    for number in numbers_of(alloc, text)? {
-        let at = usize::try_from(number)?.saturating_add(files);
-        match picks.get_mut(at) {
-            Some(pick) if number > 0 => *pick = true,
-            _ => bail!("no such change"),
-        }
-    }
-    Ok(picks)
 }

@@ -10,7 +10,7 @@ use crate::texts::{
 };
 use crate::trailers::{put_root, put_tail, put_whole};
 use crate::walks::{put_node_at, put_youngest};
-use fsfs_memory::Transcript;
+use fsfs_memory::{Transcript, cut};
 use fsfs_revision::Digester;
 use std::alloc::Global;
 use std::collections::BTreeMap;
@@ -89,7 +89,7 @@ fn put_part(out: &mut Transcript, alloc: Global, word: &str, of: &Given<'_>) {
 
 /// Writes what bytes are, read in a format: the value, or where it is refused.
 pub fn put_reading(out: &mut Transcript, alloc: Global, texts: &Texts, format: &str, bytes: &[u8]) {
-    let (word, with) = format.split_once(' ').unwrap_or((format, ""));
+    let (word, with) = cut(format);
     match word {
         "format" => put_format(out, bytes),
         "uuid" => put_uuid(out, alloc, bytes),

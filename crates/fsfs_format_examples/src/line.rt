@@ -1,5 +1,6 @@
 // The lines of a text about the formats.
 use anyhow::{Result, bail};
+use fsfs_memory::cut;
 
 /// A line. The bytes in it are as they are written, with their escapes.
 #[derive(Clone, Copy)]
@@ -27,16 +28,12 @@ pub enum Line<'a> {
     Byte(usize, &'a str, &'a str),
 }
 
-fn split(line: &str) -> (&str, &str) {
-    line.split_once(' ').unwrap_or((line, ""))
-}
-
 // Two offsets, or none.
 fn range(text: &str) -> Result<Option<(usize, usize)>> {
     if text.is_empty() {
         return Ok(None);
     }
-    let (from, to) = split(text);
+    let (from, to) = cut(text);
     Ok(Some((from.parse::<usize>()?, to.parse::<usize>()?)))
 }
 
@@ -51,13 +48,13 @@ impl<'a> Line<'a> {
         if let Some(text) = line.strip_prefix(':') {
             return Ok(Line::Cut(text));
         }
-        let (word, rest) = split(line);
+        let (word, rest) = cut(line);
         match word {
             "==" => Ok(Line::Headline(rest)),
             "@" => Ok(Line::Text(rest)),
             "+" => Ok(Line::Add(rest)),
             "take" => {
-                let (name, offsets) = split(rest);
+                let (name, offsets) = cut(rest);
                 Ok(Line::Take(name, range(offsets)?))
             }
             "read" => Ok(Line::Read(rest)),
@@ -66,12 +63,12 @@ impl<'a> Line<'a> {
                 Ok(Line::Of(format, text))
             }
             "lengths" => {
-                let (from, format) = split(rest);
+                let (from, format) = cut(rest);
                 Ok(Line::Lengths(from.parse::<usize>()?, format))
             }
             "byte" => {
-                let (at, rest) = split(rest);
-                let (byte, format) = split(rest);
+                let (at, rest) = cut(rest);
+                let (byte, format) = cut(rest);
                 Ok(Line::Byte(at.parse::<usize>()?, byte, format))
             }
             _ => bail!("no such line"),

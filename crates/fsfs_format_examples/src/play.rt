@@ -132,11 +132,7 @@ impl Player {
     fn act(&mut self, line: Line<'_>) -> Result<()> {
         match line {
             Line::Nothing => {}
-            Line::Headline(text) => {
-                self.out.say("== ");
-                self.out.say(text);
-                self.out.say("\n");
-            }
+            Line::Headline(text) => self.out.headline(text),
             Line::Lengths(first, format) => self.read_lengths(first, format),
             Line::Text(name) => return self.begin(name),
             Line::Whole(text) => return self.add_line(text, b"\n"),
@@ -157,9 +153,7 @@ impl Player {
             Err(error) => Err(error),
         };
         if let Err(error) = done {
-            self.out.tell("? ", &number);
-            self.out.tell(": ", &error);
-            self.out.say("\n");
+            self.out.refuse(number, &error);
         }
     }
 }

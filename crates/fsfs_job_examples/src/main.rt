@@ -1,10 +1,11 @@
-//! Jobs over a repository in memory: reads a text of scripts, and prints what is told of the jobs of each. Their edits are done, and
-//! nothing is committed.
+//! Job scripts: reads a text of scripts, and prints the jobs of each, or where and why it is refused; or does the edits of its jobs over a
+//! repository in memory, and prints what is told of each. Nothing is committed.
 #![tactic(auto)]
 
-mod beginning;
 mod jobs;
+mod line;
 mod play;
+mod shown;
 
 use anyhow::Result;
 use std::io;

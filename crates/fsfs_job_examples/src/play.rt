@@ -1,11 +1,17 @@
 // A whole text about scripts.
 use crate::jobs::run;
-use fsfs_base::{Failed, Name};
-use fsfs_disk::Disk;
-use fsfs_memory::{MemDisk, Transcript, bytes_of};
+use crate::line::Line;
+use crate::shown::{put_error, put_job};
+use anyhow::Result;
+use fsfs_memory::{MemDisk, MemSource, Transcript, bytes_of, put_file};
+use fsfs_script::Script;
 use std::alloc::{AllocError, Global};
+use std::mem;
 
-// A repository, the script so far, and what has been printed.
+// More jobs than this are counted, and not printed.
+const SHOWN: usize = 3;
+
+// A disk, the script so far, and what has been printed.
 #[derive(Drop)]
 struct Player {
     alloc: Global,
@@ -14,74 +20,95 @@ struct Player {
     out: Transcript,
 }
 
-fn put_firm(disk: &mut MemDisk, name: &Name, bytes: &[u8]) -> Result<(), Failed> {
-    disk.put(name, bytes)?;
-    disk.firm_names()
+// The jobs of a script, up to its end or the first refusal.
+fn put_jobs(out: &mut Transcript, alloc: Global, script: &mut Script<MemSource>) {
+    let mut count: usize = 0;
+    for _ in 0..u64::MAX {
+        match script.read_job(alloc) {
+            Ok(Some(job)) => {
+                if count < SHOWN {
+                    put_job(out, &job);
+                }
+                count = count.saturating_add(1);
+            }
+            Ok(None) => {
+                out.tell("end behind ", &count);
+                return out.say("\n");
+            }
+            Err(error) => return put_error(out, error),
+        }
+    }
 }
 
 impl Player {
-    // `file NAME BYTES`
     fn put_file(&mut self, rest: &str) {
-        let (name, text) = rest.split_once(' ').unwrap_or((rest, ""));
-        if name.len() > 128 {
-            return self.out.say("? no file\n");
-        }
-        let name = Name::new(name);
-        let Ok(bytes) = bytes_of(self.alloc, text) else {
-            return self.out.say("? no bytes\n");
-        };
-        match put_firm(&mut self.disk, &name, &bytes) {
-            Ok(()) => {}
-            Err(_) => self.out.say("? not put\n"),
-        }
-    }
-
-    // A line of the script.
-    fn add(&mut self, text: &str) {
-        let Ok(bytes) = bytes_of(self.alloc, text) else {
-            return self.out.say("? no bytes\n");
-        };
-        if self.script.extend_from_slice(&bytes).is_err() || self.script.push(b'\n').is_err() {
-            self.out.lose();
-        }
-    }
-
-    fn run(self) -> Player {
-        let Player {
-            alloc,
-            disk,
-            script,
-            out,
-        } = self;
-        let mut out = out;
-        let disk = run(alloc, disk, script, &mut out);
-        Player {
-            alloc,
-            disk,
-            script: Vec::new(alloc),
-            out,
-        }
-    }
-
-    // Does what a line says.
-    fn play(mut self, line: &str) -> Player {
-        if line.is_empty() || line.starts_with('#') {
-            return self;
-        }
-        if let Some(text) = line.strip_prefix('|') {
-            self.add(text);
-            return self;
-        }
-        if line.starts_with("==") {
-            self.out.say(line);
+        if !put_file(self.alloc, &mut self.disk, rest, &mut self.out) {
             self.out.say("\n");
-            return self;
         }
-        if let Some(rest) = line.strip_prefix("file ") {
-            self.put_file(rest);
-            return self;
+    }
+
+    fn add(&mut self, text: &str, end: &[u8]) -> Result<()> {
+        let bytes = bytes_of(self.alloc, text)?;
+        self.script.extend_from_slice(&bytes)?;
+        self.script.extend_from_slice(end)?;
+        Ok(())
+    }
+
+    fn add_many(&mut self, count: usize, text: &str) -> Result<()> {
+        for _ in 0..count {
+            self.add(text, b"")?;
         }
-        self.run()
+        Ok(())
+    }
+
+    // The script so far; another begins.
+    fn take(&mut self) -> Vec<u8> {
+        mem::replace(&mut self.script, Vec::new(self.alloc))
+    }
+
+    fn read(&mut self, failing: Vec<u64>) -> Result<()> {
+        let source = MemSource::with_faults(self.take(), failing);
+        let mut script = Script::new(self.alloc, source)?;
+        put_jobs(&mut self.out, self.alloc, &mut script);
+        Ok(())
+    }
+
+    fn read_failing(&mut self, call: u64) -> Result<()> {
+        let mut failing = Vec::new(self.alloc);
+        failing.push(call)?;
+        self.read(failing)
+    }
+
+    fn run(&mut self) {
+        let disk = mem::replace(&mut self.disk, MemDisk::new(self.alloc));
+        let script = self.take();
+        self.disk = run(self.alloc, disk, script, &mut self.out);
+    }
+
+    fn act(&mut self, line: Line<'_>) -> Result<()> {
+        match line {
+            Line::Nothing => {}
+            Line::Headline(text) => self.out.headline(text),
+            Line::File(rest) => self.put_file(rest),
+            Line::Whole(text) => return self.add(text, b"\n"),
+            Line::Cut(text) => return self.add(text, b""),
+            Line::Many(count, text) => return self.add_many(count, text),
+            Line::Read => return self.read(Vec::new(self.alloc)),
+            Line::Fails(call) => return self.read_failing(call),
+            Line::Run => self.run(),
+        }
+        Ok(())
+    }
+
+    // Does what a line says. Where that can't be done, its number is printed, and why.
+    fn play(&mut self, number: usize, line: &str) {
+        let done = match Line::read(line) {
+            Ok(line) => self.act(line),
+            Err(error) => Err(error),
+        };
+        if let Err(error) = done {
+            self.out.refuse(number, &error);
+        }
     }
 }
 
@@ -93,8 +120,8 @@ pub fn transcript_of(alloc: Global, text: &str) -> Result<String, AllocError> {
         script: Vec::new(alloc),
         out: Transcript::new(alloc),
     };
-    for line in text.lines() {
-        player = player.play(line);
+    for (at, line) in text.lines().enumerate() {
+        player.play(at.saturating_add(1), line);
     }
     player.out.finish()
 }

@@ -3,7 +3,8 @@
 //! Streams, a clock and dice kept in memory. They tell all that they have, and fail at the calls that are listed.
 //! A gate that holds a caller at a place of a run, until another place was passed.
 //! Bytes as a person writes and reads them in the texts of the example programs: `\n`, `\t`, `\\` and `\xNN` stand for a
-//! byte, and every other character for its own bytes. And what these programs write.
+//! byte, and every other character for its own bytes. What these programs write, the words and lines that they read, and the
+//! examples that these make.
 //! Sample revisions for tests, and books of them.
 #![tactic(auto)]
 
@@ -17,18 +18,24 @@ mod files;
 mod gate;
 mod host;
 mod labels;
+mod numbers;
 mod operations;
+mod putting;
 mod revisions;
 mod streams;
 mod transcript;
+mod words;
 
 pub use bench::MemBench;
 pub use disk::MemDisk;
 pub use escapes::{EscapeError, bytes_of};
 pub use gate::HoldGate;
 pub use host::MemHost;
+pub use numbers::{ListError, numbers_of, picks_of};
+pub use putting::{file_of, put_file};
 pub use revisions::{
     EMPTY_FILE, FIRST_DIRECTORY, MADE_1, MADE_2, MADE_3, REVISION_0, SHORT_TEXT, book_of,
 };
 pub use streams::{FixedClock, FixedDice, MemSink, MemSource, NoGate};
 pub use transcript::Transcript;
+pub use words::{Example, cut, examples_of, lines_of};

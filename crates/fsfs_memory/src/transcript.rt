@@ -60,6 +60,20 @@ impl Transcript {
         self.show(value);
     }
 
+    /// Writes the headline of an example.
+    pub fn headline(&mut self, name: &str) {
+        self.say("== ");
+        self.say(name);
+        self.say("\n");
+    }
+
+    /// Writes why the line of this number can't be done.
+    pub fn refuse<E: Display>(&mut self, number: usize, why: &E) {
+        self.tell("? ", &number);
+        self.tell(": ", why);
+        self.say("\n");
+    }
+
     /// Writes the name of a value.
     pub fn name<T: Debug>(&mut self, value: &T) {
         if write!(self.text, "{value:?}").is_err() {

@@ -1,14 +1,9 @@
-// A book over the files of a disk, and transactions over a bench.
+// A book over the files of a disk.
 use fsfs_create::open;
 use fsfs_disk::Disk;
 use fsfs_fetch::{Direct, OwnedReads, over_disk};
 use fsfs_memory::Transcript;
-use fsfs_txn::Txn;
-use fsfs_txn_nodes::HeldNodes;
 use std::alloc::Global;
-
-/// A transaction over a bench.
-pub type HeldTxn<W> = Txn<HeldNodes<W>>;
 
 /// A book over a disk.
 pub type DiskBook<D> = Direct<OwnedReads<D>>;

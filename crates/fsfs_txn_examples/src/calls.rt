@@ -1,9 +1,8 @@
 // The calls of a transaction.
-use crate::book::HeldTxn;
-use crate::words::cut;
 use crate::{edits, reading, texts};
 use fsfs_disk::Bench;
-use fsfs_memory::Transcript;
+use fsfs_example_calls::HeldTxn;
+use fsfs_memory::{Transcript, cut};
 use fsfs_revision::Book;
 use fsfs_txn::Opened;
 use std::alloc::Global;

@@ -1,10 +1,9 @@
 // The transactions that lines are about.
-use crate::book::HeldTxn;
 use crate::calls::{call_on, call_opened};
-use crate::words::cut;
 use fsfs_base::read_txn_name;
 use fsfs_disk::Bench;
-use fsfs_memory::Transcript;
+use fsfs_example_calls::HeldTxn;
+use fsfs_memory::{Transcript, cut};
 use fsfs_revision::Book;
 use fsfs_txn::Opened;
 use std::alloc::Global;

@@ -1,10 +1,10 @@
 // A transaction's bytes as the next revision.
-use crate::book::HeldTxn;
 use crate::faults::say_final_error;
 use fsfs_base::{Failed, Name, RevNum};
 use fsfs_commit::final_bytes;
 use fsfs_disk::Disk;
 use fsfs_draft::Own;
+use fsfs_example_calls::HeldTxn;
 use fsfs_layout::{Layout, OnlyFile, RepositoryFile, write_current};
 use fsfs_memory::{MemBench, MemDisk, MemSink, Transcript};
 use std::alloc::Global;

@@ -1,11 +1,11 @@
 // Edits that read a book.
 use crate::answers::{say_copied, say_deleted, say_depth, say_made};
-use crate::book::HeldTxn;
 use crate::faults::say_txn_error;
-use crate::words::{cut, path_of, rev_of};
+use crate::words::{path_of, rev_of};
 use fsfs_base::FsPath;
 use fsfs_disk::Bench;
-use fsfs_memory::Transcript;
+use fsfs_example_calls::HeldTxn;
+use fsfs_memory::{Transcript, cut};
 use fsfs_noderev::CopySource;
 use fsfs_revision::Book;
 use fsfs_txn::{Made, Opened, Outcome, PathOpened, TxnError};

@@ -1,5 +1,4 @@
 // Why a call gave nothing.
-use fsfs_begin::BeginFault;
 use fsfs_commit::FinalError;
 use fsfs_draft::EditError;
 use fsfs_memory::Transcript;
@@ -42,25 +41,6 @@ pub fn say_txn_error(error: &TxnError, out: &mut Transcript) {
     match error {
         TxnError::Spent { .. } => out.say("Spent"),
         TxnError::Fault(error) => say_edit_error(error, out),
-    }
-}
-
-/// Why no transaction began.
-pub fn say_begin_fault(fault: &BeginFault, out: &mut Transcript) {
-    match fault {
-        BeginFault::NoRev { asked, youngest } => {
-            out.tell("NoRev ", asked);
-            out.tell(" ", youngest);
-        }
-        BeginFault::Small(_) => out.say("Small"),
-        BeginFault::NamesFull => out.say("NamesFull"),
-        BeginFault::Wrong(wrong) => say_wrong(wrong, out),
-        BeginFault::DiskFault(place) => {
-            out.say("DiskFault ");
-            out.say(place.word());
-        }
-        BeginFault::BenchFault => out.say("BenchFault"),
-        BeginFault::Memory => out.lose(),
     }
 }
 

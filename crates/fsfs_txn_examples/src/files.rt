@@ -1,25 +1,12 @@
 // Files of a disk in memory.
-use crate::book::HeldTxn;
-use crate::words::{cut, file_of, text_of};
-use fsfs_base::{Failed, Name};
-use fsfs_disk::Disk;
-use fsfs_memory::{MemBench, MemDisk, Transcript};
+use fsfs_example_calls::HeldTxn;
+use fsfs_memory::{MemBench, MemDisk, Transcript, file_of, put_file};
 use std::alloc::Global;
 
-fn put_firm(disk: &mut MemDisk, name: &Name, bytes: &[u8]) -> Result<(), Failed> {
-    disk.put(name, bytes)?;
-    disk.firm_names()
-}
-
 /// `file NAME BYTES`
-pub fn put_file(alloc: Global, disk: &mut MemDisk, rest: &str, out: &mut Transcript) {
-    let (name, text) = cut(rest);
-    let (Some(name), Some(bytes)) = (file_of(name), text_of(alloc, text)) else {
-        return out.say("? no file");
-    };
-    match put_firm(disk, &name, &bytes) {
-        Ok(()) => out.say("put"),
-        Err(_) => out.say("DiskFault"),
+pub fn put(alloc: Global, disk: &mut MemDisk, rest: &str, out: &mut Transcript) {
+    if put_file(alloc, disk, rest, out) {
+        out.say("put");
     }
 }
 

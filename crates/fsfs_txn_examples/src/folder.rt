@@ -1,13 +1,12 @@
 // Transactions in a real folder.
 ghost use Rattle.std.specs.Prelude.{◌≡◌, IsTrue};
 
-use crate::beginning::begin_on;
 use crate::book::book_over;
 use crate::cast::Cast;
-use crate::words::cut;
 use fsfs_disk::{Access, Bench, Disk, Host};
+use fsfs_example_calls::begin_on;
 use fsfs_hostcalls::HostFileSystem;
-use fsfs_memory::Transcript;
+use fsfs_memory::{Transcript, cut, lines_of};
 use fsfs_mount::FolderHost;
 use fsfs_revision::Book;
 use std::alloc::Global;
@@ -26,6 +25,8 @@ fn begin_all<D: Disk>(
 where
     D::Bench: Drop,
     requires { IsTrue (D.may_write disk) }
+    ensures right { D.may_write result ≡ D.may_write disk }
+    ensures mounted { D.mount_path result ≡ D.mount_path disk }
 {
     let mut left = disk;
     for line in lines {
@@ -115,11 +116,40 @@ where
 /// Makes the calls of a text in the folder of a repository, and leaves there what they made.
 pub fn play(rt: &HostRuntime, repos: &str, text: &str, out: &mut Transcript) -> anyhow::Result<()> {
     let alloc = rt.alloc();
-    let lines: Vec<&str> = text
-        .lines()
-        .filter(|line| !line.is_empty() && !line.starts_with('#'))
-        .collect(alloc)?;
+    let lines = lines_of(alloc, text)?;
     let mut host = FolderHost::new(alloc, HostFileSystem::new(rt.clone()?));
     play_mounted(rt, alloc, &mut host, repos, &lines, out)?;
+    Ok(())
+}
+
+fn begin_mounted<H: Host>(
+    alloc: Global,
+    host: &mut H,
+    repos: &str,
+    lines: &[&str],
+    out: &mut Transcript,
+)
+where
+    <H::Mounted as Disk>::Bench: Drop,
+{
+    match host.mount(repos, Access::Write) {
+        Ok(disk) => {
+            let mut cast = Cast::new(alloc);
+            let disk = begin_all(alloc, disk, lines, &mut cast, out);
+            host.unmount(disk);
+        }
+        Err(_) => out.say("refused\n"),
+    }
+}
+
+/// Begins a transaction by each of these lines in the folder of a repository, and leaves them there.
+pub fn begin(
+    rt: &HostRuntime,
+    repos: &str,
+    lines: &[&str],
+    out: &mut Transcript,
+) -> anyhow::Result<()> {
+    let mut host = FolderHost::new(rt.alloc(), HostFileSystem::new(rt.clone()?));
+    begin_mounted(rt.alloc(), &mut host, repos, lines, out);
     Ok(())
 }

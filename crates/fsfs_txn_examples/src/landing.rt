@@ -1,8 +1,9 @@
 // Transactions that land, and what revision they become.
-use crate::book::{HeldTxn, book_over};
+use crate::book::book_over;
 use crate::committing::{append, revision_bytes};
 use crate::edits::merge;
 use fsfs_create::open;
+use fsfs_example_calls::HeldTxn;
 use fsfs_fetch::disk_of;
 use fsfs_memory::{MemBench, MemDisk, Transcript};
 use std::alloc::Global;

@@ -1,6 +1,6 @@
 // A whole text of examples.
 use crate::stage::Stage;
-use fsfs_memory::Transcript;
+use fsfs_memory::{Example, Transcript, examples_of, lines_of};
 use std::alloc::{AllocError, Global};
 use std::sync::Wait;
 use std::thread::Threads;
@@ -76,50 +76,34 @@ fn play_each<T: Threads + Wait + Sync>(
     }
 }
 
-// Plays the lines from a headline on, behind those with which each example begins.
+// Plays an example behind the lines with which it begins.
 fn play_example<T: Threads + Wait + Sync>(
     rt: &T,
     alloc: Global,
-    first: &[&str],
-    lines: &[&str],
+    example: Example<'_>,
     out: &mut Transcript,
 ) {
-    let Some((headline, behind)) = lines.split_first() else {
-        return;
-    };
-    out.say(headline);
+    let first = example.first;
+    out.say(example.headline);
     out.say("\n");
-    match behind.split_first() {
+    match example.lines.split_first() {
         Some((line, lines)) if *line == "failing each" => play_each(rt, alloc, first, lines, out),
         _ => {
-            let _ = call_lines(rt, set_stage(rt, alloc, first), behind, out);
+            let _ = call_lines(rt, set_stage(rt, alloc, first), example.lines, out);
         }
     }
 }
 
-/// Plays a text of examples; each begins with the lines before the first headline.
+/// Plays a text of examples.
 pub fn play<T: Threads + Wait + Sync>(
     rt: &T,
     alloc: Global,
     text: &str,
     out: &mut Transcript,
 ) -> Result<(), AllocError> {
-    let lines: Vec<&str> = text
-        .lines()
-        .filter(|line| !line.is_empty() && !line.starts_with('#'))
-        .collect(alloc)?;
-    let start = lines
-        .iter()
-        .position(|line| line.starts_with("== "))
-        .unwrap_or(lines.len());
-    let first = lines.get(..start).unwrap_or(&[]);
-    let mut begun = start;
-    for (at, line) in lines.iter().enumerate() {
-        if at > begun && line.starts_with("== ") {
-            play_example(rt, alloc, first, lines.get(begun..at).unwrap_or(&[]), out);
-            begun = at;
-        }
+    let lines = lines_of(alloc, text)?;
+    for example in examples_of(alloc, &lines)? {
+        play_example(rt, alloc, example, out);
     }
-    play_example(rt, alloc, first, lines.get(begun..).unwrap_or(&[]), out);
     Ok(())
 }

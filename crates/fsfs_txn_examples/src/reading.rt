@@ -1,10 +1,10 @@
 // What stands at a path of a transaction.
 use crate::answers::say_depth;
-use crate::book::HeldTxn;
 use crate::faults::say_txn_error;
 use crate::words::path_of;
 use fsfs_base::Kind;
 use fsfs_disk::Bench;
+use fsfs_example_calls::HeldTxn;
 use fsfs_memory::Transcript;
 use fsfs_noderev::{Rep, put_rep};
 use fsfs_revision::Book;

@@ -1,13 +1,11 @@
 // A repository in memory, the transactions on it, and the calls of a line.
-use crate::beginning::begin_on;
 use crate::book::book_over;
 use crate::cast::Cast;
-use crate::files::{failing, put_file, show, show_folder};
+use crate::files::{failing, put, show, show_folder};
 use crate::landing::land;
-use crate::looking::look;
-use crate::words::cut;
+use fsfs_example_calls::{begin_on, look};
 use fsfs_fetch::disk_of;
-use fsfs_memory::{MemBench, MemDisk, Transcript};
+use fsfs_memory::{MemBench, MemDisk, Transcript, cut};
 use std::alloc::Global;
 use std::sync::Wait;
 use std::thread::Threads;
@@ -93,7 +91,7 @@ impl Stage {
     ) -> Stage {
         let (word, rest) = cut(line);
         match word {
-            "file" => put_file(self.alloc, &mut self.disk, rest, out),
+            "file" => put(self.alloc, &mut self.disk, rest, out),
             "show" => show(&self.disk, rest, out),
             "folder" => self.show_folder(rest, out),
             "begin" => return self.begin(rest, out),

@@ -1,11 +1,11 @@
 // Texts and properties at what was opened.
 use crate::answers::{say_property_set, say_text_set};
-use crate::book::HeldTxn;
 use crate::faults::say_txn_error;
-use crate::words::{cut, prop_name_of, text_of};
+use crate::words::{prop_name_of, text_of};
 use fsfs_base::HexDigest;
 use fsfs_disk::Bench;
-use fsfs_memory::{MemSource, Transcript};
+use fsfs_example_calls::HeldTxn;
+use fsfs_memory::{MemSource, Transcript, cut};
 use fsfs_txn::Opened;
 use std::alloc::Global;
 

@@ -1,12 +1,7 @@
 // The words of a line.
-use fsfs_base::{FsPath, Name, PropName, RevNum};
+use fsfs_base::{FsPath, PropName, RevNum};
 use fsfs_memory::bytes_of;
 use std::alloc::Global;
-
-/// A word, and what is left of the line.
-pub fn cut(line: &str) -> (&str, &str) {
-    line.split_once(' ').unwrap_or((line, ""))
-}
 
 /// The path that a word is.
 pub fn path_of(alloc: Global, word: &str) -> Option<FsPath> {
@@ -21,14 +16,6 @@ pub fn prop_name_of(alloc: Global, word: &str) -> Option<PropName> {
 /// The revision that a word is.
 pub fn rev_of(word: &str) -> Option<RevNum> {
     RevNum::plain(word.as_bytes())
-}
-
-/// The name of a file that a word is.
-pub fn file_of(word: &str) -> Option<Name> {
-    if word.len() > 128 {
-        return None;
-    }
-    Some(Name::new(word))
 }
 
 /// The bytes that a text stands for.

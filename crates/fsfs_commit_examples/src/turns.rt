@@ -1,37 +1,14 @@
 // A transaction that is begun and purged by turns.
-use crate::calls::{say_open_fault, say_txn};
-use fsfs_base::{DiskPlace, RevNum};
+use crate::answers::say_begin_fault;
+use fsfs_base::RevNum;
 use fsfs_begin::Begun;
-use fsfs_begin::turn_begin::{BeginFault, Numbers, begin};
+use fsfs_begin::turn_begin::{Numbers, begin};
 use fsfs_begin::turn_purge::{PurgeFault, purge};
 use fsfs_create::{OpenedStore, Unopened, open_store};
+use fsfs_example_calls::{say_disk_fault, say_open_fault, say_txn};
 use fsfs_memory::{MemBench, MemDisk, Transcript};
 use fsfs_turn::Owned;
 use std::alloc::Global;
-
-fn say_disk_fault(place: DiskPlace, out: &mut Transcript) {
-    out.say("DiskFault ");
-    out.say(place.word());
-}
-
-fn say_begin_fault(fault: &BeginFault, out: &mut Transcript) {
-    match fault {
-        BeginFault::NoRev { asked, youngest } => {
-            out.tell("NoRev ", asked);
-            out.tell(" ", youngest);
-        }
-        BeginFault::Stuck(place) => {
-            out.say("Stuck ");
-            out.say(place.word());
-        }
-        BeginFault::Small(fault) => out.tell("Small TxnCurrent ", &fault.at),
-        BeginFault::NamesFull => out.say("NamesFull"),
-        BeginFault::Wrong(_) => out.say("Corrupt"),
-        BeginFault::DiskFault(place) => say_disk_fault(*place, out),
-        BeginFault::BenchFault => out.say("BenchFault"),
-        BeginFault::Memory => out.lose(),
-    }
-}
 
 fn purge_begun(
     alloc: Global,

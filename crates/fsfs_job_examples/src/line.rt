@@ -1,5 +1,6 @@
 // The lines of a text about scripts.
 use anyhow::{Result, bail};
+use fsfs_memory::cut;
 
 /// A line. The bytes in it are as they are written, with their escapes.
 #[derive(Clone, Copy)]
@@ -7,6 +8,8 @@ pub enum Line<'a> {
     Nothing,
     /// A headline, which is printed.
     Headline(&'a str),
+    /// Puts a file on the disk.
+    File(&'a str),
     /// Bytes of the script, and a newline.
     Whole(&'a str),
     /// Bytes of the script.
@@ -17,10 +20,8 @@ pub enum Line<'a> {
     Read,
     /// Reads it from a source of which this read fails.
     Fails(u64),
-}
-
-fn split(line: &str) -> (&str, &str) {
-    line.split_once(' ').unwrap_or((line, ""))
+    /// Runs it over the repository on the disk.
+    Run,
 }
 
 impl<'a> Line<'a> {
@@ -34,15 +35,17 @@ impl<'a> Line<'a> {
         if let Some(text) = line.strip_prefix(':') {
             return Ok(Line::Cut(text));
         }
-        let (word, rest) = split(line);
+        let (word, rest) = cut(line);
         match word {
             "==" => Ok(Line::Headline(rest)),
+            "file" => Ok(Line::File(rest)),
             "many" => {
-                let (count, text) = split(rest);
+                let (count, text) = cut(rest);
                 Ok(Line::Many(count.parse::<usize>()?, text))
             }
             "read" => Ok(Line::Read),
             "fails" => Ok(Line::Fails(rest.parse::<u64>()?)),
+            "run" => Ok(Line::Run),
             _ => bail!("no such line"),
         }
     }

@@ -2,8 +2,8 @@
 use crate::machine::{machine, run};
 use crate::overtaking::Overtaking;
 use crate::ways::{Course, Way};
+use fsfs_example_calls::Tool;
 use fsfs_memory::{MemHost, NoGate, Transcript};
-use fsfs_top::Tool;
 use std::alloc::Global;
 use std::sync::Wait;
 use std::thread::Threads;

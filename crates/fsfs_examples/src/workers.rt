@@ -1,4 +1,4 @@
-// A whole text of examples.
+// A whole text of examples of two workers.
 use crate::example::{Example, play_way};
 use crate::ways::read_way;
 use fsfs_memory::Transcript;
@@ -47,9 +47,7 @@ fn play_parts<T: Threads + Wait + Sync>(rt: &T, alloc: Global, parts: &str, out:
 pub fn play<T: Threads + Wait + Sync>(rt: &T, alloc: Global, text: &str, out: &mut Transcript) {
     for example in text.split("== ").skip(1) {
         let (headline, parts) = example.split_once('\n').unwrap_or((example, ""));
-        out.say("== ");
-        out.say(headline);
-        out.say("\n");
+        out.headline(headline);
         play_parts(rt, alloc, parts, out);
     }
 }

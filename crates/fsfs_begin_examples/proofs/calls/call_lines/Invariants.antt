@@ -1,8 +1,0 @@
-use Rattle.std.proofs.Common.{◌≡◌}
-use Rattle.fsfs_begin_examples.proofs.calls.call_lines.Given as goal
-
-abbrev pub invariant-loop-line : goal.invariant-loop-line
-invariant-loop-line g l = record {
-  mounted : g.D.Disk.mount_path l.left ≡ g.D.Disk.mount_path l.fn.disk;
-  right : g.D.Disk.may_write l.left ≡ g.D.Disk.may_write l.fn.disk;
-}
