@@ -1,8 +1,8 @@
 -- Texts that are written at the end, part by part.
 use Rattle.std.proofs.Common.{◌≡◌, ℕ, ◌≤◌, List, [], ◌∷◌, ◌++◌, ap, ◌∙◌, append_assoc, refl}
-use Rattle.fsfs_base.specs.Grammar.{Appends}
-use Rattle.fsfs_base.specs.Numeral.{IsPlain, AppendsNumeral}
-use Rattle.fsfs_base.specs.Cuts.{IsCutOf}
+use Rattle.fsfs_base.specs.Grammar.Relations.{Appends}
+use Rattle.fsfs_base.specs.Grammar.Numeral.{IsPlain, AppendsNumeral}
+use Rattle.fsfs_base.specs.Grammar.Cuts.{IsCutOf}
 
 -- a text of G, a byte, and a text of H
 pub appends_cut : {X Y : Type 0} {G : List ℕ → X → Type 0} {H : List ℕ → Y → Type 0} {a b c d : List ℕ} {x : X} {y : Y} (sep : ℕ)

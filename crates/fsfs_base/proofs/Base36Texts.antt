@@ -4,9 +4,9 @@ use Rattle.std.specs.Coded.{le_prop}
 use Rattle.std.proofs.lemmas.Bool.{eqb-true, eqb-false, eq-eqb}
 use Rattle.std.proofs.lemmas.Bool.Decides.{nat_tests}
 use Rattle.std.proofs.lemmas.List.{length-append}
-use Rattle.fsfs_base.specs.declared.base36.B36.{B36}
-use Rattle.fsfs_base.specs.Numeral.{digit, IsNumeral, AppendsNumeral}
-use Rattle.fsfs_base.specs.Base36.{glyph, last_digits, base36}
+use Rattle.fsfs_base.specs.declared.grammar.base36.B36.{B36}
+use Rattle.fsfs_base.specs.Grammar.Numeral.{digit, IsNumeral, AppendsNumeral}
+use Rattle.fsfs_base.specs.Grammar.Base36.{glyph, last_digits, base36}
 use Rattle.fsfs_base.proofs.Numerals.{numeral_one, numeral_push}
 use Rattle.fsfs_base.proofs.Unique.{numeral_same}
 

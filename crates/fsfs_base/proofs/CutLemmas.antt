@@ -2,7 +2,7 @@
 use Rattle.std.proofs.Common.{◌≡◌, ℕ, Bool, true, false, cond, eqb, List, [], ◌∷◌, ◌++◌, Option, Some, None, refl, sym, ap, subst, ◌∙◌}
 use Rattle.std.proofs.lemmas.Option.{some_pair_parts}
 use Rattle.std.proofs.lemmas.Bool.{eqb-true, eq-eqb}
-use Rattle.fsfs_base.specs.Cuts.{Lacks, IsCutOf, cut_on, cut}
+use Rattle.fsfs_base.specs.Grammar.Cuts.{Lacks, IsCutOf, cut_on, cut}
 
 -- what was cut
 pub record IsCut (c : ℕ) (text front rest : List ℕ) : Type 0 where

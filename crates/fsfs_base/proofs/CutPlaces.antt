@@ -6,7 +6,7 @@ use Rattle.std.proofs.lemmas.List.Sums.{prefix_len-le-length}
 use Rattle.std.proofs.lemmas.List.Folds.{prefix_len-append}
 use Rattle.std.proofs.lemmas.Simd.{chunk-drop, length-chunk}
 use Rattle.std.specs.Simd.Lanes.{chunk}
-use Rattle.fsfs_base.specs.Cuts.{before, cut, cut_on}
+use Rattle.fsfs_base.specs.Grammar.Cuts.{before, cut, cut_on}
 
 -- behind some of them, the rest of them
 pub before_rest : (c i : ℕ) (text : List ℕ) → i ≤ before c text → before c text ≡ i + before c (drop i text)

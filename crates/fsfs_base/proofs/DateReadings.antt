@@ -9,8 +9,8 @@ use Rattle.jiff_core.specs.Calendar.{IsDate, days_in_month}
 use Rattle.jiff_core.specs.Time.{IsTime, time_nanos}
 use Rattle.jiff.proofs.Family.{same_datetime, epoch_day_same, civil_nanos-parts}
 use Rattle.jiff.proofs.SpanFacts.{signed_arith}
-use Rattle.fsfs_base.specs.Dates.{date_text, IsDateText}
-use Rattle.fsfs_base.specs.DateReading.{two_of, Numbers, numbers_at, IsShownAs, HasNumbers}
+use Rattle.fsfs_base.specs.Fields.Dates.{date_text, IsDateText}
+use Rattle.fsfs_base.specs.Fields.DateReading.{two_of, Numbers, numbers_at, IsShownAs, HasNumbers}
 
 two_again : (n : ℕ) → n < 100 → two_of (48 + n / 10) (48 + n % 10) ≡ Some n
 two_again n lt = grind (arith, nat_tests)

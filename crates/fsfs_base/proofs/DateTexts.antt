@@ -13,7 +13,7 @@ use Rattle.jiff_fmt.specs.Text.{places}
 use Rattle.jiff_fmt.specs.Printer as Printer
 use Rattle.jiff.proofs.OnLiterals.{jiff_on_literals}
 use Rattle.jiff.proofs.SpanFacts.{signed_arith}
-use Rattle.fsfs_base.specs.Dates.{two_digits, four_digits, six_digits, date_text, IsDateAt}
+use Rattle.fsfs_base.specs.Fields.Dates.{two_digits, four_digits, six_digits, date_text, IsDateAt}
 
 abbrev epoch : Date
 epoch = record { year = pos 1970; month = 1; day = 1; year_in = (omega (arith, signed_arith), omega (arith, signed_arith)); month_in = (omega arith, omega arith); day_in = (omega arith, omega arith) }

@@ -10,7 +10,7 @@ use Rattle.hex.specs.declared.error.FromHexError.TheVariants.{OddLength, Invalid
 use Rattle.hex.proofs.HexLemmas.{decode_sized-encode_lower, length-encode_with}
 use Rattle.hex.proofs.Pairs.{decode_sized-pairs}
 use Rattle.fsfs_base.proofs.Readers.{chosen}
-use Rattle.fsfs_base.specs.Digests.{is_capital, is_lower_digit, IsDigestText}
+use Rattle.fsfs_base.specs.Fields.Digests.{is_capital, is_lower_digit, IsDigestText}
 
 -- ---- the table of digits
 

@@ -1,8 +1,8 @@
 -- Items read one after the other, as a loop does.
 use Rattle.std.proofs.Common.{◌≡◌, ℕ, suc, ◌-◌, ◌+◌, ◌≤◌, ◌<◌, true, false, List, [], ◌∷◌, ◌++◌, Result, Ok, Err, refl, sym, ap, ◌∙◌, append_assoc, arith}
 use Rattle.std.proofs.lemmas.List.{append-nil}
-use Rattle.fsfs_base.specs.Reading.{◌>>=◌, until_at}
-use Rattle.fsfs_base.specs.Grammar.{begins}
+use Rattle.fsfs_base.specs.Grammar.Reading.{◌>>=◌, until_at}
+use Rattle.fsfs_base.specs.Grammar.Relations.{begins}
 
 -- what was read before, and what is still read
 abbrev pub with_front : {X : Type 0} → List X → Result (List X × List ℕ) ℕ → Result (List X × List ℕ) ℕ

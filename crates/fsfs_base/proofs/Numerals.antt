@@ -5,8 +5,8 @@ use Rattle.std.proofs.lemmas.Bool.Decides.{nat_tests}
 use Rattle.std.proofs.Math.Nat.{mul-le-mul_left}
 use Rattle.std.specs.List.{AllByRecursion}
 use Rattle.std.specs.Prelude.{IfSome}
-use Rattle.fsfs_base.specs.Grammar.{Begins, IsBlocked, Stops}
-use Rattle.fsfs_base.specs.Numeral.{digit, value_after, IsNumeral, IsNumber, IsRest, digits_at, number_at, plain_at, numeral_at, AppendsNumeral, IsPlain}
+use Rattle.fsfs_base.specs.Grammar.Relations.{Begins, IsBlocked, Stops}
+use Rattle.fsfs_base.specs.Grammar.Numeral.{digit, value_after, IsNumeral, IsNumber, IsRest, digits_at, number_at, plain_at, numeral_at, AppendsNumeral, IsPlain}
 use Rattle.fsfs_base.proofs.Readers.{Reads, chosen, pair_same, err_same}
 
 -- digits behind a number never make it smaller

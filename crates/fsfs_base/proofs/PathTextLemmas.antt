@@ -10,10 +10,10 @@ use Rattle.fsfs_base.proofs.CutLemmas.{lacks_from}
 use Rattle.fsfs_base.specs.Paths.{PathName, Path, names_text, path_text, is_root}
 use Rattle.fsfs_base.specs.PathTexts.{is_control, is_dots, HasNoSlash, IsName, IsPath, IsNameFault, HasBadName, IsBadJoin, IsBadPath, IsJoined}
 use Rattle.fsfs_base.specs.PathReading.{control_fault_at, name_fault_at, or_else, names_fault_at}
-use Rattle.fsfs_base.specs.declared.bad_path.BadPath.{BadPath}
-use Rattle.fsfs_base.specs.declared.bad_path.PathFault.{PathFault}
-use Rattle.fsfs_base.specs.declared.bad_path.PathFault.TheVariants.{NotAbsolute, TooDeep, EmptyName, Control, NameTooLong, Dot}
-use Rattle.fsfs_base.specs.Cuts.{Lacks}
+use Rattle.fsfs_base.specs.declared.paths.bad_path.BadPath.{BadPath}
+use Rattle.fsfs_base.specs.declared.paths.bad_path.PathFault.{PathFault}
+use Rattle.fsfs_base.specs.declared.paths.bad_path.PathFault.TheVariants.{NotAbsolute, TooDeep, EmptyName, Control, NameTooLong, Dot}
+use Rattle.fsfs_base.specs.Grammar.Cuts.{Lacks}
 
 abbrev pub pieces : List ℕ → Path
 pieces = slice_split (λ b. eqb b 47)

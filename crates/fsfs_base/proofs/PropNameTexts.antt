@@ -4,8 +4,8 @@ use Rattle.std.proofs.lemmas.List.{append-nil, length-take, length-append, take_
 use Rattle.std.specs.List.{AllByRecursion, position, position_or_len}
 use Rattle.std.proofs.lemmas.Bool.{ltb-true, ltb-false}
 use Rattle.fsfs_base.proofs.Readers.{chosen}
-use Rattle.fsfs_base.specs.Grammar.{GoesOn, IsFaultAt}
-use Rattle.fsfs_base.specs.PropNames.{begins_name, continues_name, IsPropName, PropNameText}
+use Rattle.fsfs_base.specs.Grammar.Relations.{GoesOn, IsFaultAt}
+use Rattle.fsfs_base.specs.Fields.PropNames.{begins_name, continues_name, IsPropName, PropNameText}
 
 abbrev Continue : List ℕ → Type 0
 Continue = AllByRecursion (λ d. continues_name d ≡ true)

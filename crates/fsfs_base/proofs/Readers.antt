@@ -2,8 +2,8 @@
 use Rattle.std.proofs.Common.{◌≡◌, ℕ, zero, suc, ◌+◌, ◌-◌, ◌<◌, ◌≤◌, Bool, true, false, cond, eqb, ltb, List, [], ◌∷◌, ◌++◌, length, take, drop, replicate, Result, Ok, Err, refl, sym, ap, subst, ◌∙◌, append_assoc, arith, inl, inr, ◌⊎◌}
 use Rattle.std.proofs.lemmas.List.{append-nil, nil_from_length, length-append, take_at, drop_at, take-append-drop, length-take, length-replicate}
 use Rattle.std.proofs.lemmas.Bool.{ltb-false, ltb-true, le-ltb, eqb-true, eqb-false, eq-eqb, ne_eqb}
-use Rattle.fsfs_base.specs.Grammar.{GoesOn, IsFaultAt, Begins, IsBlocked, Stops, Then, IsText, AreBytes, Mapped, Either, Until, Maybe, Appends, begins, Except, Choice, Anything, Many}
-use Rattle.fsfs_base.specs.Reading.{◌>>=◌, text_at, bytes_at, whole, until_at, many_at}
+use Rattle.fsfs_base.specs.Grammar.Relations.{GoesOn, IsFaultAt, Begins, IsBlocked, Stops, Then, IsText, AreBytes, Mapped, Either, Until, Maybe, Appends, begins, Except, Choice, Anything, Many}
+use Rattle.fsfs_base.specs.Grammar.Reading.{◌>>=◌, text_at, bytes_at, whole, until_at, many_at}
 
 -- r reads G exactly, of fewer than n bytes
 pub record Reads {X : Type 0} (n : ℕ) (G : List ℕ → X → Type 0) (r : List ℕ → Result (X × List ℕ) ℕ) : Type 0 where

@@ -1,9 +1,9 @@
 -- Revision numbers are read exactly.
 use Rattle.std.proofs.Common.{ℕ, ◌≤◌, List, arith}
-use Rattle.fsfs_base.specs.Numeral.{digit}
-use Rattle.fsfs_base.specs.Cuts.{Lacks}
+use Rattle.fsfs_base.specs.Grammar.Numeral.{digit}
+use Rattle.fsfs_base.specs.Grammar.Cuts.{Lacks}
 use Rattle.fsfs_base.proofs.Spelling.{Spells, numeral_spells, plain_lacks}
-use Rattle.fsfs_base.specs.RevNums.{last_rev, IsRev, rev_at}
+use Rattle.fsfs_base.specs.Fields.RevNums.{last_rev, IsRev, rev_at}
 
 pub rev_spells : Spells IsRev rev_at
 rev_spells = numeral_spells 10 last_rev (omega arith)

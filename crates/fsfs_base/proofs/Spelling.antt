@@ -4,8 +4,8 @@ use Rattle.std.proofs.lemmas.Option.{same_Some}
 use Rattle.std.specs.Prelude.{IfSome, IsSomeAnd, option_map}
 use Rattle.std.specs.List.{AllByRecursion}
 use Rattle.std.proofs.lemmas.Bool.{ne_eqb}
-use Rattle.fsfs_base.specs.Numeral.{digit, IsPlain, numeral_at}
-use Rattle.fsfs_base.specs.Cuts.{Lacks, IsCutOf, cut, and_then, parts_at}
+use Rattle.fsfs_base.specs.Grammar.Numeral.{digit, IsPlain, numeral_at}
+use Rattle.fsfs_base.specs.Grammar.Cuts.{Lacks, IsCutOf, cut, and_then, parts_at}
 use Rattle.fsfs_base.proofs.Numerals.{numeral_found, numeral_again}
 use Rattle.fsfs_base.proofs.CutLemmas.{cut_found, cut_again}
 

@@ -2,13 +2,13 @@
 use Rattle.std.proofs.Common.{◌≡◌, ℕ, ◌<◌, List, [], ◌∷◌, ◌++◌, Option, Some, None, refl, sym, ap, ◌∙◌, append_assoc, arith}
 use Rattle.std.specs.Prelude.{IfSome, IsSomeAnd, option_map}
 use Rattle.std.proofs.lemmas.Option.{same_Some}
-use Rattle.fsfs_base.specs.Grammar.{Appends}
-use Rattle.fsfs_base.specs.Numeral.{AppendsNumeral}
+use Rattle.fsfs_base.specs.Grammar.Relations.{Appends}
+use Rattle.fsfs_base.specs.Grammar.Numeral.{AppendsNumeral}
 use Rattle.fsfs_base.proofs.Spelling.{Spells, cut_spells, numeral_spells}
-use Rattle.fsfs_base.specs.RevNums.{IsRev}
+use Rattle.fsfs_base.specs.Fields.RevNums.{IsRev}
 use Rattle.fsfs_base.proofs.RevNumTexts.{rev_spells, rev_text_lacks}
-use Rattle.fsfs_base.specs.declared.txn_name.TxnName.{TxnName}
-use Rattle.fsfs_base.specs.TxnNames.{IsTxnName, txn_name_at}
+use Rattle.fsfs_base.specs.declared.fields.txn_name.TxnName.{TxnName}
+use Rattle.fsfs_base.specs.Fields.TxnNames.{IsTxnName, txn_name_at}
 
 pub txn_name_spells : Spells IsTxnName txn_name_at
 txn_name_spells = cut_spells 45 (rev_text_lacks 45 (omega arith)) rev_spells (numeral_spells 36 170581728179578208255 (omega arith))

@@ -6,7 +6,7 @@ use Rattle.std.proofs.lemmas.Nat.{same_from_place}
 use Rattle.std.proofs.lemmas.Fmt.{decimal_by_steps}
 use Rattle.std.specs.Fmt.{decimal}
 use Rattle.std.specs.List.{AllByRecursion}
-use Rattle.fsfs_base.specs.Numeral.{digit, value_after, IsNumeral, IsPlain, AppendsNumeral}
+use Rattle.fsfs_base.specs.Grammar.Numeral.{digit, value_after, IsNumeral, IsPlain, AppendsNumeral}
 use Rattle.fsfs_base.proofs.Numerals.{value_grows, numeral_one, numeral_push, digit-decimal}
 
 pub digit_same : (c d : ℕ) → digit c < 36 → digit c ≡ digit d → c ≡ d

@@ -3,8 +3,8 @@ use Rattle.std.specs.Prelude.{ℕ, ◌+◌, ◌==◌, nat_lt, nat_le, [], ◌∷
 use Rattle.std.specs.List.{position}
 use Rattle.fsfs_base.specs.Paths.{PathName, Path}
 use Rattle.fsfs_base.specs.PathTexts.{is_control, is_dots}
-use Rattle.fsfs_base.specs.declared.bad_path.BadPath.{BadPath}
-use Rattle.fsfs_base.specs.declared.bad_path.PathFault.TheVariants.{TooDeep, EmptyName, Control, NameTooLong, Dot}
+use Rattle.fsfs_base.specs.declared.paths.bad_path.BadPath.{BadPath}
+use Rattle.fsfs_base.specs.declared.paths.bad_path.PathFault.TheVariants.{TooDeep, EmptyName, Control, NameTooLong, Dot}
 
 abbrev pub control_fault_at : ℕ → PathName → Option ℕ → Option BadPath
 control_fault_at at name (Some offset) = Some (record { at = at + offset; why = Control })

@@ -2,10 +2,10 @@
 use Rattle.std.specs.Prelude.{◌≡◌, ◌≢◌, ℕ, ◌+◌, ◌<◌, ◌≤◌, Bool, true, false, ◌||◌, ◌==◌, nat_lt, List, [], ◌∷◌, ◌++◌, length, Some, None, MatchBool, codes}
 use Rattle.std.specs.List.{AllByRecursion, position}
 use Rattle.fsfs_base.specs.Paths.{PathName, Path, names_text, path_text, same_name}
-use Rattle.fsfs_base.specs.declared.bad_path.PathError.{PathError}
-use Rattle.fsfs_base.specs.declared.bad_path.PathError.TheVariants.{Bad, OutOfMemory}
-use Rattle.fsfs_base.specs.declared.bad_path.PathFault.{PathFault}
-use Rattle.fsfs_base.specs.declared.bad_path.PathFault.TheVariants.{NotAbsolute, PathTooLong, TooDeep, EmptyName, Control, NameTooLong, Dot}
+use Rattle.fsfs_base.specs.declared.paths.bad_path.PathError.{PathError}
+use Rattle.fsfs_base.specs.declared.paths.bad_path.PathError.TheVariants.{Bad, OutOfMemory}
+use Rattle.fsfs_base.specs.declared.paths.bad_path.PathFault.{PathFault}
+use Rattle.fsfs_base.specs.declared.paths.bad_path.PathFault.TheVariants.{NotAbsolute, PathTooLong, TooDeep, EmptyName, Control, NameTooLong, Dot}
 
 abbrev pub is_control : ℕ → Bool
 is_control b = nat_lt b 32 || (b == 127)

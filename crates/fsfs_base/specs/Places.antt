@@ -1,15 +1,15 @@
 -- The word for each place of a call of a disk, as it is printed.
 use Rattle.std.specs.Prelude.{ℕ, List, codes}
-use Rattle.fsfs_base.specs.declared.place.OpenPlace.{OpenPlace}
-use Rattle.fsfs_base.specs.declared.place.OpenPlace.TheVariants as opening
-use Rattle.fsfs_base.specs.declared.place.CreatePlace.{CreatePlace}
-use Rattle.fsfs_base.specs.declared.place.CreatePlace.TheVariants as creation
-use Rattle.fsfs_base.specs.declared.place.BeginPlace.{BeginPlace}
-use Rattle.fsfs_base.specs.declared.place.BeginPlace.TheVariants as begin
-use Rattle.fsfs_base.specs.declared.place.CommitPlace.{CommitPlace}
-use Rattle.fsfs_base.specs.declared.place.CommitPlace.TheVariants.{PutRev, PutProps, FirmRev, PutCurrent, RenameCurrent, FirmCurrent}
-use Rattle.fsfs_base.specs.declared.place.DiskPlace.{DiskPlace}
-use Rattle.fsfs_base.specs.declared.place.DiskPlace.TheVariants as place
+use Rattle.fsfs_base.specs.declared.places.place.OpenPlace.{OpenPlace}
+use Rattle.fsfs_base.specs.declared.places.place.OpenPlace.TheVariants as opening
+use Rattle.fsfs_base.specs.declared.places.place.CreatePlace.{CreatePlace}
+use Rattle.fsfs_base.specs.declared.places.place.CreatePlace.TheVariants as creation
+use Rattle.fsfs_base.specs.declared.places.place.BeginPlace.{BeginPlace}
+use Rattle.fsfs_base.specs.declared.places.place.BeginPlace.TheVariants as begin
+use Rattle.fsfs_base.specs.declared.places.place.CommitPlace.{CommitPlace}
+use Rattle.fsfs_base.specs.declared.places.place.CommitPlace.TheVariants.{PutRev, PutProps, FirmRev, PutCurrent, RenameCurrent, FirmCurrent}
+use Rattle.fsfs_base.specs.declared.places.place.DiskPlace.{DiskPlace}
+use Rattle.fsfs_base.specs.declared.places.place.DiskPlace.TheVariants as place
 
 abbrev pub open_place_word : OpenPlace → List ℕ
 open_place_word opening.Firm = codes "OpenFirm"

@@ -1,6 +1,6 @@
 // Numbers in base 36 within the names of files and folders.
 ghost use Rattle.std.specs.Prelude.{◌≡◌, ◌≤◌, ◌<◌, ◌+◌, ◌++◌, length};
-ghost use Rattle.fsfs_base.specs.Base36.{glyph, last_digits};
+ghost use Rattle.fsfs_base.specs.Grammar.Base36.{glyph, last_digits};
 
 use crate::name::Name;
 
@@ -17,7 +17,7 @@ fn digit(d: u8) -> char
 }
 
 /// Puts the last digits of a number in base 36 at the end. It takes no memory, as no name does.
-#[tactic(auto, unfolding(crate::specs::Base36::last_digits))]
+#[tactic(auto, unfolding(crate::specs::Grammar::Base36::last_digits))]
 pub fn push_base36(name: &mut Name, digits: usize, number: u128)
     requires { length name.old + digits ≤ 128 }
     ensures text { name.new ≡ name.old ++ last_digits digits number }

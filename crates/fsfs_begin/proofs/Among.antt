@@ -2,17 +2,17 @@
 use Rattle.std.proofs.Common.{◌≡◌, ◌⊎◌, ◌≤◌, ◌<◌, ℕ, List, [], ◌∷◌, length, Bool, false, inl, inr, refl, sym, ap, subst, ◌∙◌, arith}
 use Rattle.std.specs.Prelude.{Some, None, is_some, Option, Result, Ok, Err, IfOk, IfErr, OnOk, OnErr}
 use Rattle.fsfs_base.specs.Files.{Files}
-use Rattle.fsfs_revision.specs.Readings.{Answers}
+use Rattle.fsfs_revision.specs.Damage.Readings.{Answers}
 use Rattle.fsfs_revision.specs.declared.wrong.ReadError.{ReadError}
 use Rattle.fsfs_revision.specs.declared.wrong.ReadError.TheVariants as errors
 use Rattle.fsfs_disk.specs.Labels.{Label, with_label}
-use Rattle.fsfs_base.specs.declared.txn_name.TxnName.{TxnName}
+use Rattle.fsfs_base.specs.declared.fields.txn_name.TxnName.{TxnName}
 use Rattle.fsfs_noderev.specs.declared.node_rev.NodeRev.{NodeRev}
-use Rattle.fsfs_base.specs.declared.place.BeginPlace.TheVariants as begin
+use Rattle.fsfs_base.specs.declared.places.place.BeginPlace.TheVariants as begin
 use Rattle.fsfs_revision.specs.Told.{RevisionBytes}
 use Rattle.fsfs_revision.specs.declared.wrong.Wrong.{Wrong}
-use Rattle.fsfs_revision.specs.ShowsReading.{RootOf}
-use Rattle.fsfs_disk.specs.Txns.{pair_of, txn_label}
+use Rattle.fsfs_revision.specs.Shows.Reading.{RootOf}
+use Rattle.fsfs_disk.specs.Transactions.Txns.{pair_of, txn_label}
 use Rattle.fsfs_begin.specs.Begun.{IsBegunOn}
 use Rattle.fsfs_begin.specs.declared.name_fault.NameFault.{NameFault}
 use Rattle.fsfs_begin.specs.declared.name_fault.NameFault.TheVariants as names
@@ -30,12 +30,12 @@ use Rattle.fsfs_turn.specs.Views.{View, Begins, Looked, LockTaken, LockGiven, Ma
 use Rattle.fsfs_turn.proofs.Doubts.{same_faults}
 use Rattle.fsfs_turn.proofs.Reading.{begins_on}
 use Rattle.fsfs_turn.proofs.Moments.{begins_itself}
-use Rattle.fsfs_begin.specs.Steps.{Steps, End, HasName, Moved}
-use Rattle.fsfs_begin.specs.TurnBeginDrawing.{Draws}
-use Rattle.fsfs_begin.specs.Faults.{Cause, LacksNumber, NoNumber, named_fault, read_fault}
-use Rattle.fsfs_begin.specs.TurnBeginBegun.{IsMade, IsMadeAmong, HasBegunAmong}
-use Rattle.fsfs_begin.specs.Labels.{ListsNoMore}
-use Rattle.fsfs_begin.specs.declared.turn_begin_begin_fault.BeginFault.{BeginFault}
+use Rattle.fsfs_begin.specs.TurnBegin.Steps.{Steps, End, HasName, Moved}
+use Rattle.fsfs_begin.specs.TurnBegin.Drawing.{Draws}
+use Rattle.fsfs_begin.specs.TurnBegin.Faults.{Cause, LacksNumber, NoNumber, named_fault, read_fault}
+use Rattle.fsfs_begin.specs.TurnBegin.Begun.{IsMade, IsMadeAmong, HasBegunAmong}
+use Rattle.fsfs_begin.specs.TurnBegin.Labels.{ListsNoMore}
+use Rattle.fsfs_begin.specs.declared.turn_begin.begin_fault.BeginFault.{BeginFault}
 use Rattle.fsfs_begin.proofs.Benching.{no_more_on}
 use Rattle.fsfs_begin.proofs.Going.{steps_on, one_turn}
 use Rattle.fsfs_begin.proofs.Moving.{moved_on, by_look, moved_by, may_give, given_over, bytes_stay, longer}

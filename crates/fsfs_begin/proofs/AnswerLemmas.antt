@@ -1,15 +1,15 @@
 -- What a drawing answers, by what stands in `db/txn-current`.
 use Rattle.std.proofs.Common.{◌≡◌, ◌≤◌, ℕ, ◌+◌, List, inl, inr, refl, sym, subst, ◌∙◌, arith}
 use Rattle.std.specs.Prelude.{Option, Some, None, IfSome, Ok, Err, Result}
-use Rattle.fsfs_base.specs.declared.txn_name.TxnName.{TxnName}
+use Rattle.fsfs_base.specs.declared.fields.txn_name.TxnName.{TxnName}
 use Rattle.fsfs_base.specs.declared.small_fault.SmallFault.{SmallFault}
 use Rattle.fsfs_base.specs.declared.small_fault.SmallFile.TheVariants as file
 use Rattle.fsfs_disk.specs.Trace.{Trace, files_now}
 use Rattle.fsfs_disk.specs.Crash.{AllImages, KeepsImages}
 use Rattle.fsfs_disk.proofs.CrashLemmas.{same_keeps}
 use Rattle.fsfs_layout.specs.Small.{IsBase36Line, IsRefusedFile}
-use Rattle.fsfs_base.specs.declared.place.BeginPlace.{BeginPlace}
-use Rattle.fsfs_base.specs.declared.place.BeginPlace.TheVariants as places
+use Rattle.fsfs_base.specs.declared.places.place.BeginPlace.{BeginPlace}
+use Rattle.fsfs_base.specs.declared.places.place.BeginPlace.TheVariants as places
 use Rattle.fsfs_begin.specs.Counter.{HasNumber, IsAtLeast, IsOldOrNext}
 use Rattle.fsfs_begin.specs.Drawing.{counter_told, IsUnread, IsStopped, StopsRaising, NameFails}
 use Rattle.fsfs_begin.specs.Deciding.{IsOutside, Decides}

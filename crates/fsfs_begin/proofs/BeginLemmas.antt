@@ -4,18 +4,18 @@ use Rattle.std.specs.Prelude.{Option, Some, None, IfSome, IfOk, IfErr, Result, O
 use Rattle.std.proofs.lemmas.Result.{IfOk-weaker}
 use Rattle.std.proofs.lemmas.Option.{IfSome_then}
 use Rattle.fsfs_base.specs.Files.{Files}
-use Rattle.fsfs_revision.specs.Readings.{Answers, IfWrong}
+use Rattle.fsfs_revision.specs.Damage.Readings.{Answers, IfWrong}
 use Rattle.fsfs_revision.specs.declared.wrong.Wrong.{Wrong}
 use Rattle.fsfs_revision.specs.declared.wrong.ReadError.{ReadError}
 use Rattle.fsfs_revision.specs.declared.wrong.ReadError.TheVariants as errors
-use Rattle.fsfs_base.specs.declared.txn_name.TxnName.{TxnName}
+use Rattle.fsfs_base.specs.declared.fields.txn_name.TxnName.{TxnName}
 use Rattle.fsfs_disk.specs.Labels.{Label, with_label, without_label}
 use Rattle.fsfs_disk.specs.Trace.{Trace, files_now, labels_now}
 use Rattle.fsfs_layout.specs.declared.opened.Opened.{Opened}
-use Rattle.fsfs_base.specs.declared.place.DiskPlace.TheVariants as place
+use Rattle.fsfs_base.specs.declared.places.place.DiskPlace.TheVariants as place
 use Rattle.fsfs_revision.specs.RevBytes.{rev_bytes}
-use Rattle.fsfs_revision.specs.ShowsReading.{RootOf}
-use Rattle.fsfs_disk.specs.Txns.{txn_label}
+use Rattle.fsfs_revision.specs.Shows.Reading.{RootOf}
+use Rattle.fsfs_disk.specs.Transactions.Txns.{txn_label}
 use Rattle.fsfs_disk.specs.Crash.{AllImages}
 use Rattle.fsfs_noderev.specs.declared.node_rev.NodeRev.{NodeRev}
 use Rattle.fsfs_begin.specs.Benches.{first_files, IsUnmade}

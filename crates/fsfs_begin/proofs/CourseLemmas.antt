@@ -14,9 +14,9 @@ use Rattle.fsfs_disk.proofs.CrashLemmas.{keeps_then, keeps_put, keeps_failed_put
 use Rattle.fsfs_layout.specs.FileNames.{only_name}
 use Rattle.fsfs_layout.specs.declared.only_file.OnlyFile.TheVariants.{TxnCurrent, TxnCurrentNext}
 use Rattle.fsfs_layout.specs.Small.{IsBase36Line}
-use Rattle.fsfs_base.specs.declared.place.BeginPlace.{BeginPlace}
-use Rattle.fsfs_base.specs.declared.place.BeginPlace.TheVariants as places
-use Rattle.fsfs_disk.specs.Removals.{WasKept, HasSameLabels}
+use Rattle.fsfs_base.specs.declared.places.place.BeginPlace.{BeginPlace}
+use Rattle.fsfs_base.specs.declared.places.place.BeginPlace.TheVariants as places
+use Rattle.fsfs_disk.specs.Transactions.Removals.{WasKept, HasSameLabels}
 use Rattle.fsfs_disk.proofs.InTurn.{stays_itself}
 use Rattle.fsfs_begin.specs.Counter.{HasNumber, IsAtLeast, IsOldOrNext, IsRaised, with_counter}
 use Rattle.fsfs_begin.specs.Drawing.{after_put, after_rename, after_drawing, StopsRaising}

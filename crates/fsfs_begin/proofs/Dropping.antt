@@ -3,7 +3,7 @@ use Rattle.std.proofs.Common.{◌≡◌, ◌<◌, ℕ, List, length, true, false
 use Rattle.std.specs.Prelude.{Bool, Option, Some, None, IfSome, option_map}
 use Rattle.fsfs_disk.specs.Labels.{Label, has_label, without_label}
 use Rattle.fsfs_disk.proofs.LabelLemmas.{has-without}
-use Rattle.fsfs_base.specs.declared.place.DiskPlace.TheVariants.{Remove}
+use Rattle.fsfs_base.specs.declared.places.place.DiskPlace.TheVariants.{Remove}
 use Rattle.fsfs_machine.specs.declared.machine.Step.{Step}
 use Rattle.fsfs_machine.specs.declared.machine.Went.{Went}
 use Rattle.fsfs_machine.specs.declared.machine.Went.TheVariants.{Fine, Before, After, Torn}

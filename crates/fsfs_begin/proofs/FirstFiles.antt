@@ -12,11 +12,11 @@ use Rattle.fsfs_txn_files.specs.FileNames.{node_name, file_name}
 use Rattle.fsfs_txn_files.specs.Texts.{IsNodeFile}
 use Rattle.fsfs_txn_files.specs.declared.folder_file.FolderFile.TheVariants.{Node}
 use Rattle.fsfs_txn_files.proofs.NameLemmas.{apart_at}
-use Rattle.fsfs_txn_nodes.specs.Folders.{TellsFolder}
-use Rattle.fsfs_txn_nodes.specs.Telling.{FitsNode, root_folder}
+use Rattle.fsfs_txn_nodes.specs.TxnFolder.Folders.{TellsFolder}
+use Rattle.fsfs_txn_nodes.specs.TxnFolder.Telling.{FitsNode, root_folder}
 use Rattle.fsfs_txn_nodes.proofs.StepLemmas.{changes_tell}
-use Rattle.fsfs_txn_nodes.specs.Views.{begun_folder}
-use Rattle.fsfs_txn_nodes.specs.HeldWritten.{HasTold}
+use Rattle.fsfs_txn_nodes.specs.Memory.Views.{begun_folder}
+use Rattle.fsfs_txn_nodes.specs.Memory.Written.{HasTold}
 use Rattle.fsfs_begin.specs.Benches.{first_files, TellsRoot}
 
 -- ---- the first files

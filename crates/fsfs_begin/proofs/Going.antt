@@ -2,9 +2,9 @@
 use Rattle.std.proofs.Common.{◌≡◌, ◌<◌, ℕ, List, [], ◌∷◌, ◌++◌, length, Bool, true, false, cond, refl, sym, ap, subst, ◌∙◌, arith, length-append}
 use Rattle.std.proofs.lemmas.Option.{same_Some}
 use Rattle.std.specs.Prelude.{Some, Result, Ok, Err}
-use Rattle.fsfs_base.specs.declared.place.BeginPlace.{BeginPlace}
-use Rattle.fsfs_base.specs.declared.place.BeginPlace.TheVariants as place
-use Rattle.fsfs_base.specs.declared.place.DiskPlace.TheVariants.{Begin}
+use Rattle.fsfs_base.specs.declared.places.place.BeginPlace.{BeginPlace}
+use Rattle.fsfs_base.specs.declared.places.place.BeginPlace.TheVariants as place
+use Rattle.fsfs_base.specs.declared.places.place.DiskPlace.TheVariants.{Begin}
 use Rattle.fsfs_machine.specs.declared.machine.Recorded.{Recorded}
 use Rattle.fsfs_machine.specs.declared.machine.Drawn.{Drawn}
 use Rattle.fsfs_machine.specs.declared.machine.Txn.{Txn}
@@ -18,11 +18,11 @@ use Rattle.fsfs_machine.specs.declared.machine.Went.TheVariants.{Fine, Before, A
 use Rattle.fsfs_machine.specs.Machine.{World, is_fine_in, answer, after, spoiled}
 use Rattle.fsfs_turn.specs.Views.{View, Turned, with_txns, Called, called_view, given_by}
 use Rattle.fsfs_turn.specs.Learning.{TurnedFrom, CounterRead, drawn_of}
-use Rattle.fsfs_base.specs.declared.txn_name.TxnName.{TxnName}
+use Rattle.fsfs_base.specs.declared.fields.txn_name.TxnName.{TxnName}
 use Rattle.fsfs_begin.specs.declared.name_fault.NameFault.TheVariants.{DiskFault, Memory}
 use Rattle.fsfs_turn.proofs.Reading.{begins_on}
-use Rattle.fsfs_begin.specs.Steps.{Steps, End, More, Reached, Stopped, IsGiven}
-use Rattle.fsfs_begin.specs.TurnBeginDrawing.{HasRead, Raises, Draws}
+use Rattle.fsfs_begin.specs.TurnBegin.Steps.{Steps, End, More, Reached, Stopped, IsGiven}
+use Rattle.fsfs_begin.specs.TurnBegin.Drawing.{HasRead, Raises, Draws}
 
 -- ---- courses
 

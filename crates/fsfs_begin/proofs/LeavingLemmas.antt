@@ -8,8 +8,8 @@ use Rattle.fsfs_disk.specs.Trace.{Trace, files_now, labels_now}
 use Rattle.fsfs_disk.specs.Crash.{AllImages, AreAll, KeepsImages, Leaves, LeavesBoth}
 use Rattle.fsfs_disk.proofs.CrashLemmas.{keeps_then, leaves_then, leaves_with}
 use Rattle.fsfs_disk.proofs.LeftLemmas.{both_then, both_with}
-use Rattle.fsfs_disk.specs.Txns.{txn_label}
-use Rattle.fsfs_disk.specs.Removals.{HasLabels, IsImageOf, WasKept}
+use Rattle.fsfs_disk.specs.Transactions.Txns.{txn_label}
+use Rattle.fsfs_disk.specs.Transactions.Removals.{HasLabels, IsImageOf, WasKept}
 use Rattle.fsfs_disk.specs.Published.{IsOldOrThis}
 use Rattle.fsfs_begin.specs.Begun.{IsOldOrDrawn, WasDrawn}
 use Rattle.fsfs_begin.specs.Counter.{HasNumber, IsAtLeast, IsOldOrNext}

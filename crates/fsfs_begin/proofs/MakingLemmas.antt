@@ -10,7 +10,7 @@ use Rattle.fsfs_disk.specs.Trace.{Trace, KeepLabel, DropLabel, files_now, labels
 use Rattle.fsfs_disk.specs.Crash.{AllImages, AreAll, Leaves, LeavesBoth}
 use Rattle.fsfs_disk.proofs.CrashLemmas.{keeps_label, keeps_no_label, keeps_then, own_images}
 use Rattle.fsfs_disk.proofs.LeftLemmas.{keeps_labels_then}
-use Rattle.fsfs_disk.specs.Removals.{HasLabels, IsImageOf}
+use Rattle.fsfs_disk.specs.Transactions.Removals.{HasLabels, IsImageOf}
 use Rattle.fsfs_disk.specs.Published.{IsOldOrThis}
 use Rattle.fsfs_disk.proofs.InTurn.{files_ended}
 use Rattle.fsfs_disk.proofs.PublishLemmas.{old_labels, makes_label, drops_label}

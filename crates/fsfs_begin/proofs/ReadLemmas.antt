@@ -4,7 +4,7 @@ use Rattle.std.proofs.lemmas.Bool.{cases_lt}
 use Rattle.std.proofs.lemmas.List.{take_all}
 use Rattle.std.proofs.lemmas.Option.{same_Some}
 use Rattle.std.specs.Prelude.{Option, Some, None, IfSome, IfOk, IfErr, Result, Ok, Err, unwrap_or}
-use Rattle.fsfs_base.specs.declared.base36.B36.{B36}
+use Rattle.fsfs_base.specs.declared.grammar.base36.B36.{B36}
 use Rattle.fsfs_base.specs.declared.small_fault.SmallFile.TheVariants as file
 use Rattle.fsfs_disk.specs.Trace.{Trace, IsRead, file_at, files_now}
 use Rattle.fsfs_disk.proofs.WholeFiles.{read_bytes}

@@ -3,7 +3,7 @@ use Rattle.std.proofs.Common.{◌≡◌, ◌⊎◌, ◌<◌, ◌≤◌, ◌-◌,
 use Rattle.std.specs.Prelude.{Option, Some, None, IfOk, IfErr, Result, Ok, Err, unwrap_or, nat_lt}
 use Rattle.std.specs.FinMap.{get}
 use Rattle.fsfs_base.specs.Files.{Files}
-use Rattle.fsfs_base.specs.declared.base36.B36.{B36}
+use Rattle.fsfs_base.specs.declared.grammar.base36.B36.{B36}
 use Rattle.fsfs_disk.specs.Trace.{IsRead}
 use Rattle.fsfs_fetch.specs.Views.{View as StoreView}
 use Rattle.fsfs_layout.specs.FileNames.{only_name}
@@ -20,10 +20,10 @@ use Rattle.fsfs_machine.specs.declared.machine.Went.{Went}
 use Rattle.fsfs_machine.specs.Machine.{is_fine_in}
 use Rattle.fsfs_turn.specs.Views.{View, Answers}
 use Rattle.fsfs_turn.specs.Learning.{ReadsCounter, CounterRead}
-use Rattle.fsfs_base.specs.declared.place.BeginPlace.TheVariants as place
-use Rattle.fsfs_begin.specs.Steps.{IsPastNumbers, MeetsPastNumbers}
-use Rattle.fsfs_begin.specs.TurnBeginDrawing.{Counts, HasRead}
-use Rattle.fsfs_begin.specs.Faults.{NoNumber}
+use Rattle.fsfs_base.specs.declared.places.place.BeginPlace.TheVariants as place
+use Rattle.fsfs_begin.specs.TurnBegin.Steps.{IsPastNumbers, MeetsPastNumbers}
+use Rattle.fsfs_begin.specs.TurnBegin.Drawing.{Counts, HasRead}
+use Rattle.fsfs_begin.specs.TurnBegin.Faults.{NoNumber}
 use Rattle.fsfs_begin.proofs.Going.{count_reached, count_stopped}
 
 few_or_many : (n : ℕ) → (n < 2 ^ 64 - 1) ⊎ (2 ^ 64 - 1 ≤ n)

@@ -8,7 +8,7 @@ use Rattle.std.specs.FinMap.{get, remove}
 use Rattle.fsfs_base.specs.Files.{Files}
 use Rattle.fsfs_base.specs.declared.small_fault.SmallFault.{SmallFault}
 use Rattle.fsfs_base.proofs.FileLemmas.{get_kept, get_left, apart_by}
-use Rattle.fsfs_base.specs.declared.txn_name.TxnName.{TxnName}
+use Rattle.fsfs_base.specs.declared.fields.txn_name.TxnName.{TxnName}
 use Rattle.fsfs_revision.specs.declared.wrong.Wrong.{Wrong}
 use Rattle.fsfs_revision.specs.Told.{RevisionBytes}
 use Rattle.fsfs_disk.specs.Trace.{Trace, files_now}
@@ -23,7 +23,7 @@ use Rattle.fsfs_revision.specs.RevBytes.{by_floor, cut_from, floor_in, floor_of,
 use Rattle.fsfs_revision.proofs.FloorLemmas.{floor_is}
 use Rattle.fsfs_noderev.specs.Ids.{PartValue, Old, part_value}
 use Rattle.fsfs_noderev.specs.declared.node_rev.NodeRev.{NodeRev}
-use Rattle.fsfs_revision.specs.ShowsReading.{RootOf, StandsAt}
+use Rattle.fsfs_revision.specs.Shows.Reading.{RootOf, StandsAt}
 use Rattle.fsfs_draft.specs.Own.{OwnNode}
 use Rattle.fsfs_draft.specs.Drafts.{Kept, IsBelow}
 use Rattle.fsfs_draft.specs.Steps.{same_value}
@@ -31,7 +31,7 @@ use Rattle.fsfs_draft.proofs.Bases.{revision_agrees}
 use Rattle.fsfs_draft.proofs.Files.{put_files, same_value-is}
 use Rattle.fsfs_draft.proofs.WholeLaw.{drafts_are_handed}
 use Rattle.fsfs_draft.specs.Views.{new_kept}
-use Rattle.fsfs_txn_nodes.specs.Views.{begun_folder}
+use Rattle.fsfs_txn_nodes.specs.Memory.Views.{begun_folder}
 use Rattle.fsfs_begin.specs.Begun.{IfWrongBase, IsBegunOn, IsUpToDate, StandsForBase}
 use Rattle.fsfs_begin.specs.declared.begin_fault.BeginFault.{BeginFault}
 use Rattle.fsfs_begin.specs.declared.begin_fault.BeginFault.TheVariants.{NoRev, Small, NamesFull, Wrong as WrongBase, DiskFault, BenchFault, Memory}

@@ -1,6 +1,6 @@
 -- The root of a transaction that begins.
 use Rattle.std.specs.Prelude.{◌≡◌, ◌++◌, ℕ, List, [], true, None, take}
-use Rattle.fsfs_base.specs.declared.txn_name.TxnName.{TxnName}
+use Rattle.fsfs_base.specs.declared.fields.txn_name.TxnName.{TxnName}
 use Rattle.fsfs_noderev.specs.declared.node_id.Place.TheVariants as places
 use Rattle.fsfs_noderev.specs.declared.node_rev.NodeRev.{NodeRev}
 use Rattle.fsfs_noderev.specs.NodeRevs.{IsNodeRev, IsRead}

@@ -3,7 +3,7 @@ use Rattle.std.specs.Prelude.{◌≡◌, ◌⊎◌, ◌≤◌, ◌<◌, ◌+◌,
 use Rattle.fsfs_tree.specs.Nodes.{TreeFunction}
 use Rattle.fsfs_base.specs.Files.{Files}
 use Rattle.fsfs_base.specs.declared.small_fault.SmallFile.TheVariants as file
-use Rattle.fsfs_base.specs.declared.txn_name.TxnName.{TxnName}
+use Rattle.fsfs_base.specs.declared.fields.txn_name.TxnName.{TxnName}
 use Rattle.fsfs_revision.specs.Told.{RevisionBytes}
 use Rattle.fsfs_revision.specs.declared.wrong.Wrong.{Wrong}
 use Rattle.fsfs_revision.specs.declared.wrong.ReadError.{ReadError}
@@ -17,16 +17,16 @@ use Rattle.fsfs_layout.specs.Opening.{text_at}
 use Rattle.fsfs_layout.specs.Small.{IsBase36Line, IsMinUnpackedRev, IsRefusedFile, IsRevLine}
 use Rattle.fsfs_layout.specs.declared.opened.Opened.{Opened}
 use Rattle.fsfs_noderev.specs.declared.node_rev.NodeRev.{NodeRev}
-use Rattle.fsfs_base.specs.declared.place.DiskPlace.{DiskPlace}
-use Rattle.fsfs_base.specs.declared.place.DiskPlace.TheVariants as place
+use Rattle.fsfs_base.specs.declared.places.place.DiskPlace.{DiskPlace}
+use Rattle.fsfs_base.specs.declared.places.place.DiskPlace.TheVariants as place
 use Rattle.fsfs_revision.specs.RevBytes.{rev_bytes}
-use Rattle.fsfs_revision.specs.IdRules.{IdRule}
-use Rattle.fsfs_revision.specs.ShowsReading.{RootOf}
+use Rattle.fsfs_revision.specs.Shows.IdRules.{IdRule}
+use Rattle.fsfs_revision.specs.Shows.Reading.{RootOf}
 use Rattle.fsfs_draft.specs.Drafts.{ShowTrees}
 use Rattle.fsfs_draft.specs.Whole.{IsDraftOf}
-use Rattle.fsfs_txn_nodes.specs.Views.{begun_folder}
-use Rattle.fsfs_disk.specs.Txns.{txn_label}
-use Rattle.fsfs_disk.specs.Removals.{HasLabels, WasKept}
+use Rattle.fsfs_txn_nodes.specs.Memory.Views.{begun_folder}
+use Rattle.fsfs_disk.specs.Transactions.Txns.{txn_label}
+use Rattle.fsfs_disk.specs.Transactions.Removals.{HasLabels, WasKept}
 use Rattle.fsfs_begin.specs.Beginning.{BeginsOn, IsRootText}
 use Rattle.fsfs_begin.specs.Benches.{first_files, IsUnmade}
 use Rattle.fsfs_begin.specs.Counter.{HasNumber, IsRaised}

@@ -4,13 +4,13 @@ use Rattle.std.specs.FinMap.{insert, empty}
 use Rattle.fsfs_base.specs.Files.{Files}
 use Rattle.fsfs_disk.specs.Labels.{Label, with_label, without_label}
 use Rattle.fsfs_disk.specs.Trace.{Trace}
-use Rattle.fsfs_disk.specs.Removals.{HasLabels}
+use Rattle.fsfs_disk.specs.Transactions.Removals.{HasLabels}
 use Rattle.fsfs_noderev.specs.declared.node_id.NodeId.{NodeId}
 use Rattle.fsfs_noderev.specs.declared.node_rev.NodeRev.{NodeRev}
 use Rattle.fsfs_txn_files.specs.FileNames.{file_name}
 use Rattle.fsfs_txn_files.specs.declared.folder_file.FolderFile.TheVariants.{Node}
-use Rattle.fsfs_txn_nodes.specs.Folders.{TellsFolder}
-use Rattle.fsfs_txn_nodes.specs.Telling.{root_folder}
+use Rattle.fsfs_txn_nodes.specs.TxnFolder.Folders.{TellsFolder}
+use Rattle.fsfs_txn_nodes.specs.TxnFolder.Telling.{root_folder}
 use Rattle.fsfs_begin.specs.declared.making.BenchFault.{BenchFault}
 use Rattle.fsfs_begin.specs.declared.making.BenchFault.TheVariants as fault
 

@@ -1,6 +1,6 @@
 -- What stands in `db/txn-current` decides what a drawing answers, unless the disk fails or memory is wanting.
 use Rattle.std.specs.Prelude.{◌≡◌, ◌⊎◌, ◌<◌, ℕ, List, Result, Ok, Err}
-use Rattle.fsfs_base.specs.declared.txn_name.TxnName.{TxnName}
+use Rattle.fsfs_base.specs.declared.fields.txn_name.TxnName.{TxnName}
 use Rattle.fsfs_layout.specs.Small.{IsBase36Line}
 use Rattle.fsfs_begin.specs.declared.name_fault.NameFault.{NameFault}
 use Rattle.fsfs_begin.specs.declared.name_fault.NameFault.TheVariants.{Small, NamesFull, DiskFault, Memory}

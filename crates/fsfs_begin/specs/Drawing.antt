@@ -8,8 +8,8 @@ use Rattle.fsfs_layout.specs.FileNames.{only_name}
 use Rattle.fsfs_layout.specs.declared.only_file.OnlyFile.TheVariants.{TxnCurrent, TxnCurrentNext}
 use Rattle.fsfs_layout.specs.Opening.{text_at}
 use Rattle.fsfs_layout.specs.Small.{IsBase36Line, IsRefusedFile}
-use Rattle.fsfs_base.specs.declared.place.BeginPlace.{BeginPlace}
-use Rattle.fsfs_base.specs.declared.place.BeginPlace.TheVariants as place
+use Rattle.fsfs_base.specs.declared.places.place.BeginPlace.{BeginPlace}
+use Rattle.fsfs_base.specs.declared.places.place.BeginPlace.TheVariants as place
 use Rattle.fsfs_begin.specs.Counter.{HasNumber}
 use Rattle.fsfs_begin.specs.declared.name_fault.NameFault.{NameFault}
 use Rattle.fsfs_begin.specs.declared.name_fault.NameFault.TheVariants.{Small, NamesFull, DiskFault, Memory}

@@ -4,9 +4,5 @@ pub mod Deciding
 pub mod Benches
 pub mod Beginning
 pub mod Begun
-pub mod Steps
-pub mod Faults
-pub mod TurnBeginDrawing
-pub mod TurnBeginBegun
-pub mod Labels
+pub mod TurnBegin
 pub mod Purged

@@ -1,17 +1,17 @@
 //! A transaction is begun.
 ghost use Rattle.std.specs.Prelude.{◌≡◌, ◌≤◌, ℕ, Some, Ok, Err, option_map, IfOk, IfErr, IfSome, OnOk, IsTrue};
 ghost use Rattle.fsfs_base.specs.Failures.{Rose};
-ghost use Rattle.fsfs_revision.specs.Causes.{IfDisk};
-ghost use Rattle.fsfs_revision.specs.Readings.{Answers, IfWrong};
+ghost use Rattle.fsfs_revision.specs.Damage.Causes.{IfDisk};
+ghost use Rattle.fsfs_revision.specs.Damage.Readings.{Answers, IfWrong};
 ghost use Rattle.fsfs_disk.specs.Labels.{with_label};
 ghost use Rattle.fsfs_disk.specs.Trace.{Trace, files_now};
 ghost use Rattle.fsfs_disk.specs.Crash.{AllImages, AreAll, KeepsImages, Leaves, LeavesBoth};
 ghost use Rattle.fsfs_noderev.specs.Writing.{HasText};
 ghost use Rattle.fsfs_noderev.specs.declared.node_rev.NodeRev.{NodeRev};
 ghost use Rattle.fsfs_revision.specs.RevBytes.{rev_bytes, floor_in};
-ghost use Rattle.fsfs_revision.specs.ShowsReading.{RootOf};
-ghost use Rattle.fsfs_disk.specs.Txns.{pair_of, txn_label};
-ghost use Rattle.fsfs_disk.specs.Removals.{HasLabels, IsImageOf};
+ghost use Rattle.fsfs_revision.specs.Shows.Reading.{RootOf};
+ghost use Rattle.fsfs_disk.specs.Transactions.Txns.{pair_of, txn_label};
+ghost use Rattle.fsfs_disk.specs.Transactions.Removals.{HasLabels, IsImageOf};
 ghost use Rattle.fsfs_disk.specs.Published.{IsOldOrThis};
 ghost use Rattle.fsfs_begin.specs.Beginning.{BeginsOn};
 ghost use Rattle.fsfs_begin.specs.Benches.{TellsRoot};

@@ -4,7 +4,7 @@ ghost use Rattle.fsfs_base.specs.Failures.{Rose};
 ghost use Rattle.fsfs_disk.specs.Trace.{files_now, labels_now};
 ghost use Rattle.fsfs_disk.specs.Crash.{AllImages, AreAll, IsFirm, KeepsImages, Leaves, LeavesBoth};
 ghost use Rattle.fsfs_layout.specs.Small.{IsBase36Line};
-ghost use Rattle.fsfs_disk.specs.Removals.{WasKept};
+ghost use Rattle.fsfs_disk.specs.Transactions.Removals.{WasKept};
 ghost use Rattle.fsfs_begin.specs.Counter.{HasNumber, IsAtLeast, IsOldOrNext, IsRaised};
 ghost use Rattle.fsfs_begin.specs.Drawing.{after_drawing, counter_told, IsSmallIn, IsUnread, StopsRaising, NameFails};
 ghost use Rattle.fsfs_begin.specs.Deciding.{Decides};

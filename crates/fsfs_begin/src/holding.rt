@@ -1,6 +1,6 @@
 //! A transaction that has begun, as edits are made in it.
 ghost use Rattle.std.specs.Prelude.{◌≡◌, IfOk, IfErr, codes};
-ghost use Rattle.fsfs_txn_nodes.specs.Views.{begun_folder};
+ghost use Rattle.fsfs_txn_nodes.specs.Memory.Views.{begun_folder};
 ghost use Rattle.fsfs_begin.specs.Benches.{TellsRoot};
 
 use crate::beginning::Begun;

@@ -4,8 +4,8 @@ ghost use Rattle.fsfs_base.specs.Failures.{HasCause, Rose};
 ghost use Rattle.fsfs_disk.specs.Labels.{with_label};
 ghost use Rattle.fsfs_disk.specs.Trace.{KeepLabel, Performs, files_now};
 ghost use Rattle.fsfs_disk.specs.Crash.{AllImages, AreAll, Leaves, LeavesBoth};
-ghost use Rattle.fsfs_disk.specs.Txns.{pair_of, txn_label};
-ghost use Rattle.fsfs_disk.specs.Removals.{HasLabels, IsImageOf};
+ghost use Rattle.fsfs_disk.specs.Transactions.Txns.{pair_of, txn_label};
+ghost use Rattle.fsfs_disk.specs.Transactions.Removals.{HasLabels, IsImageOf};
 ghost use Rattle.fsfs_disk.specs.Published.{IsOldOrThis};
 ghost use Rattle.fsfs_begin.specs.Benches.{first_files, with_first_files, IsUnmade};
 

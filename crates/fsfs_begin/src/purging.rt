@@ -4,8 +4,8 @@ ghost use Rattle.fsfs_base.specs.Failures.{HasCause, added_count};
 ghost use Rattle.fsfs_disk.specs.Labels.{has_label, without_label};
 ghost use Rattle.fsfs_disk.specs.Trace.{DropLabel, FailsAt, files_now, labels_now};
 ghost use Rattle.fsfs_disk.specs.Crash.{AllImages, AreAll, Leaves, LeavesBoth};
-ghost use Rattle.fsfs_disk.specs.Txns.{pair_of, txn_label};
-ghost use Rattle.fsfs_disk.specs.Removals.{HasLabels, IsImageOf, WasKept};
+ghost use Rattle.fsfs_disk.specs.Transactions.Txns.{pair_of, txn_label};
+ghost use Rattle.fsfs_disk.specs.Transactions.Removals.{HasLabels, IsImageOf, WasKept};
 
 use fsfs_base::{Failed, TxnName};
 use fsfs_disk::{Disk, Label};

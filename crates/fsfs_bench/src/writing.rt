@@ -1,6 +1,6 @@
 //! What was read, written again.
 ghost use Rattle.std.specs.Prelude.{◌≡◌, true, All, IfOk};
-ghost use Rattle.fsfs_noderev.specs.Items.{HasText};
+ghost use Rattle.fsfs_noderev.specs.Changes.Items.{HasText};
 
 use anyhow::{Result, bail};
 use fsfs_base::Pairs;

@@ -5,10 +5,10 @@ use Rattle.fsfs_cli.specs.Commands.{tool_name}
 use Rattle.fsfs_cli.specs.declared.tool.Tool.{Tool}
 use Rattle.fsfs_cli.specs.Lines.{request_text, fault_words, line_of}
 use Rattle.fsfs_cli.specs.Pieces.{request_front, fault_front, request_path, path_values, head_of}
-use Rattle.fsfs_cli.specs.declared.faults_fault.Fault.{Fault}
-use Rattle.fsfs_cli.specs.declared.faults_fault.Fault.TheVariants.{Request}
-use Rattle.fsfs_cli.specs.declared.request_fault.RequestFault.{RequestFault}
-use Rattle.fsfs_cli.specs.declared.request_fault.RequestFault.TheVariants.{NotFound, NotDir, NotFile, Exists, Mergeinfo}
+use Rattle.fsfs_cli.specs.declared.faults.fault.Fault.{Fault}
+use Rattle.fsfs_cli.specs.declared.faults.fault.Fault.TheVariants.{Request}
+use Rattle.fsfs_cli.specs.declared.faults.request_fault.RequestFault.{RequestFault}
+use Rattle.fsfs_cli.specs.declared.faults.request_fault.RequestFault.TheVariants.{NotFound, NotDir, NotFile, Exists, Mergeinfo}
 
 request_in_pieces : (why : RequestFault) → request_front why ++ request_path why ≡ request_text why
 request_in_pieces (NotFound path) = refl

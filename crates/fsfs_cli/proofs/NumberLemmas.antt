@@ -8,7 +8,7 @@ use Rattle.std.proofs.lemmas.Str.Parse.{IsNumeralModel, numerals_by_value, parse
 use Rattle.std.specs.Str.{bytes_eq}
 use Rattle.std.proofs.lemmas.Fmt.{digits_value-decimal}
 use Rattle.std.proofs.lemmas.Slice.Eq.{bytes_eq-Decides}
-use Rattle.fsfs_base.specs.Numeral.{IsPlain}
+use Rattle.fsfs_base.specs.Grammar.Numeral.{IsPlain}
 use Rattle.fsfs_base.proofs.Unique.{decimal_plain}
 use Rattle.fsfs_cli.specs.Grammars.{is_revision, revision_of, IsShard, is_shard, shard_of}
 

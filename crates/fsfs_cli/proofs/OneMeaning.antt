@@ -4,8 +4,8 @@ use Rattle.std.proofs.lemmas.Option.{same_Some, none-some}
 use Rattle.std.specs.Prelude.{Option, Some}
 use Rattle.fsfs_cli.specs.Readings.{IsPathGiven, Means, Asks, Refuses}
 use Rattle.fsfs_cli.specs.Words.{Asked, asked}
-use Rattle.fsfs_cli.specs.declared.fault.WordsFault.{WordsFault}
-use Rattle.fsfs_cli.specs.declared.fault.WordsFault.TheVariants.{Usage, BadPath, Memory}
+use Rattle.fsfs_cli.specs.declared.faults.words_fault.WordsFault.{WordsFault}
+use Rattle.fsfs_cli.specs.declared.faults.words_fault.WordsFault.TheVariants.{Usage, BadPath, Memory}
 use Rattle.fsfs_cli.specs.declared.request.Task.{Task}
 use Rattle.fsfs_cli.specs.declared.tool.Tool.{Tool}
 use Rattle.fsfs_cli.proofs.PathWords.{one_path_given, path_not_bad}

@@ -6,8 +6,8 @@ use Rattle.std.specs.Prelude.{MatchBool}
 use Rattle.std.specs.List.{AllByRecursion}
 use Rattle.fsfs_base.specs.Paths.{PathName, Path, names_text, path_text}
 use Rattle.fsfs_base.specs.PathTexts.{IsName, IsPath, IsNameFault, HasBadName, IsBadJoin, IsBadPath}
-use Rattle.fsfs_base.specs.declared.bad_path.PathFault.{PathFault}
-use Rattle.fsfs_base.specs.declared.bad_path.PathFault.TheVariants.{NotAbsolute, PathTooLong, TooDeep, EmptyName, Control, NameTooLong, Dot}
+use Rattle.fsfs_base.specs.declared.paths.bad_path.PathFault.{PathFault}
+use Rattle.fsfs_base.specs.declared.paths.bad_path.PathFault.TheVariants.{NotAbsolute, PathTooLong, TooDeep, EmptyName, Control, NameTooLong, Dot}
 use Rattle.fsfs_base.proofs.PathTextLemmas.{names_text_injective, names_whole, path_by_text, absolute}
 use Rattle.fsfs_cli.specs.Grammars.{path_meant, IsPathOf}
 use Rattle.fsfs_cli.specs.Readings.{IsPathGiven}

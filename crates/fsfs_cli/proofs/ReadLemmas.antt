@@ -6,8 +6,8 @@ use Rattle.fsfs_base.specs.Paths.{Path}
 use Rattle.fsfs_cli.specs.Words.{Asked, taken}
 use Rattle.fsfs_cli.specs.declared.request.Request.{Request}
 use Rattle.fsfs_cli.specs.Readings.{Refuses, Reads, GivesPath, IsPathGiven}
-use Rattle.fsfs_cli.specs.declared.fault.WordsFault.{WordsFault}
-use Rattle.fsfs_cli.specs.declared.fault.WordsFault.TheVariants.{Usage, BadPath, Memory}
+use Rattle.fsfs_cli.specs.declared.faults.words_fault.WordsFault.{WordsFault}
+use Rattle.fsfs_cli.specs.declared.faults.words_fault.WordsFault.TheVariants.{Usage, BadPath, Memory}
 
 -- the words of a command are taken, and its number is in its grammar
 pub asked_with : {N : Type 0} (app : App) (words : List (List ℕ)) (rows : List Row) (asks : List Row → N → Asked) (number : List Row → Option N) (n : N) → taken app words ≡ Some rows → number rows ≡ Some n

@@ -4,7 +4,7 @@ use Rattle.std.proofs.lemmas.List.{drop_more, map-append, take-append-drop, take
 use Rattle.std.proofs.lemmas.Option.{same_Some, none-some}
 use Rattle.std.specs.Prelude.{Option, Some, None, slice_index_or}
 use Rattle.std.specs.Borrow.{Bor}
-use Rattle.fsfs_base.specs.TxnNames.{txn_name_at}
+use Rattle.fsfs_base.specs.Fields.TxnNames.{txn_name_at}
 use Rattle.fsfs_cli.specs.Grammars.{txns_named}
 
 named_append : (xs ys : List (List ℕ)) (ns : List (ℕ × ℕ)) → txns_named xs ≡ Some ns → txns_named (xs ++ ys) ≡ option_map (λ ms. ns ++ ms) (txns_named ys)

@@ -6,7 +6,7 @@ use Rattle.std.specs.Str.{bytes_eq}
 use Rattle.std.specs.Str.Parse.{digits_value}
 use Rattle.fsfs_base.specs.Paths.{Path, path_text}
 use Rattle.fsfs_base.specs.PathTexts.{IsPath}
-use Rattle.fsfs_base.specs.TxnNames.{txn_name_at}
+use Rattle.fsfs_base.specs.Fields.TxnNames.{txn_name_at}
 
 -- REV: one to ten digits
 abbrev pub is_revision : List ℕ → Bool

@@ -2,9 +2,9 @@ pub mod Commands
 pub mod Grammars
 pub mod Requests
 pub mod Words
-pub mod Faults
+pub mod WordsFaults
 pub mod Readings
 pub mod Chains
-pub mod FaultsFaults
+pub mod CommandFaults
 pub mod Lines
 pub mod Pieces

@@ -1,12 +1,12 @@
 -- The line that tells of a fault on the error output, and the status.
 use Rattle.std.specs.Prelude.{ℕ, List, [], ◌∷◌, ◌++◌, codes, decimal}
 use Rattle.hex.specs.Hex.{encode_lower}
-use Rattle.fsfs_base.specs.declared.bad_path.BadPath.{BadPath as BadPathAt}
-use Rattle.fsfs_base.specs.declared.bad_path.PathFault.{PathFault}
-use Rattle.fsfs_base.specs.declared.bad_path.PathFault.TheVariants.{NotAbsolute, PathTooLong, TooDeep, EmptyName, Control, NameTooLong, Dot}
+use Rattle.fsfs_base.specs.declared.paths.bad_path.BadPath.{BadPath as BadPathAt}
+use Rattle.fsfs_base.specs.declared.paths.bad_path.PathFault.{PathFault}
+use Rattle.fsfs_base.specs.declared.paths.bad_path.PathFault.TheVariants.{NotAbsolute, PathTooLong, TooDeep, EmptyName, Control, NameTooLong, Dot}
 use Rattle.fsfs_tree.specs.FaultWords.{not_found, not_dir, not_file, no_rev, already_repo, not_repo, delta, path_value, two_numbers}
 use Rattle.fsfs_layout.specs.FileNames.{small_name}
-use Rattle.fsfs_base.specs.TxnNames.{txn_text}
+use Rattle.fsfs_base.specs.Fields.TxnNames.{txn_text}
 use Rattle.fsfs_base.specs.declared.small_fault.SmallFault.{SmallFault}
 use Rattle.fsfs_revision.specs.declared.damage.Damage.{Damage}
 use Rattle.fsfs_revision.specs.declared.damage.RevOffset.{RevOffset}
@@ -17,20 +17,20 @@ use Rattle.fsfs_revision.specs.declared.damage.RepWhat.TheVariants as rep
 use Rattle.fsfs_base.specs.Places.{place_word}
 use Rattle.fsfs_cli.specs.Commands.{tool_name}
 use Rattle.fsfs_cli.specs.declared.tool.Tool.{Tool}
-use Rattle.fsfs_cli.specs.declared.faults_fault.Fault.{Fault}
-use Rattle.fsfs_cli.specs.declared.faults_fault.Fault.TheVariants.{Words, Request, Repository, Outside, Memory, Limit}
-use Rattle.fsfs_cli.specs.declared.bad_words.BadWords.{BadWords}
-use Rattle.fsfs_cli.specs.declared.bad_words.BadWords.TheVariants.{Usage, BadPath}
-use Rattle.fsfs_cli.specs.declared.request_fault.RequestFault.{RequestFault}
-use Rattle.fsfs_cli.specs.declared.request_fault.RequestFault.TheVariants.{NotFound, NotDir, NotFile, NoRev, NoTxn, AlreadyRepo, NotRepo, Exists, RootFixed, Mergeinfo, BadScript}
-use Rattle.fsfs_cli.specs.declared.repository_fault.RepositoryFault.{RepositoryFault}
-use Rattle.fsfs_cli.specs.declared.repository_fault.RepositoryFault.TheVariants.{OtherFormat, Linear, Small, Corrupt, Delta}
-use Rattle.fsfs_cli.specs.declared.outside_fault.OutsideFault.{OutsideFault}
-use Rattle.fsfs_cli.specs.declared.outside_fault.OutsideFault.TheVariants as outside
-use Rattle.fsfs_cli.specs.declared.limit_fault.LimitFault.{LimitFault}
-use Rattle.fsfs_cli.specs.declared.limit_fault.LimitFault.TheVariants as limits
-use Rattle.fsfs_script.specs.declared.refusal.Why.{Why}
-use Rattle.fsfs_script.specs.declared.refusal.Why.TheVariants as whys
+use Rattle.fsfs_cli.specs.declared.faults.fault.Fault.{Fault}
+use Rattle.fsfs_cli.specs.declared.faults.fault.Fault.TheVariants.{Words, Request, Repository, Outside, Memory, Limit}
+use Rattle.fsfs_cli.specs.declared.faults.bad_words.BadWords.{BadWords}
+use Rattle.fsfs_cli.specs.declared.faults.bad_words.BadWords.TheVariants.{Usage, BadPath}
+use Rattle.fsfs_cli.specs.declared.faults.request_fault.RequestFault.{RequestFault}
+use Rattle.fsfs_cli.specs.declared.faults.request_fault.RequestFault.TheVariants.{NotFound, NotDir, NotFile, NoRev, NoTxn, AlreadyRepo, NotRepo, Exists, RootFixed, Mergeinfo, BadScript}
+use Rattle.fsfs_cli.specs.declared.faults.repository_fault.RepositoryFault.{RepositoryFault}
+use Rattle.fsfs_cli.specs.declared.faults.repository_fault.RepositoryFault.TheVariants.{OtherFormat, Linear, Small, Corrupt, Delta}
+use Rattle.fsfs_cli.specs.declared.faults.outside_fault.OutsideFault.{OutsideFault}
+use Rattle.fsfs_cli.specs.declared.faults.outside_fault.OutsideFault.TheVariants as outside
+use Rattle.fsfs_cli.specs.declared.faults.limit_fault.LimitFault.{LimitFault}
+use Rattle.fsfs_cli.specs.declared.faults.limit_fault.LimitFault.TheVariants as limits
+use Rattle.fsfs_script.specs.declared.job_lines.refusal.Why.{Why}
+use Rattle.fsfs_script.specs.declared.job_lines.refusal.Why.TheVariants as whys
 use Rattle.fsfs_script.specs.declared.script_error.BadScript.{BadScript as BadScriptAt}
 
 -- ---- names of the rules of a path

@@ -5,10 +5,10 @@ use Rattle.fsfs_tree.specs.FaultWords.{not_found, not_dir, not_file}
 use Rattle.fsfs_cli.specs.Commands.{tool_name}
 use Rattle.fsfs_cli.specs.declared.tool.Tool.{Tool}
 use Rattle.fsfs_cli.specs.Lines.{request_text, fault_words}
-use Rattle.fsfs_cli.specs.declared.faults_fault.Fault.{Fault}
-use Rattle.fsfs_cli.specs.declared.faults_fault.Fault.TheVariants.{Request}
-use Rattle.fsfs_cli.specs.declared.request_fault.RequestFault.{RequestFault}
-use Rattle.fsfs_cli.specs.declared.request_fault.RequestFault.TheVariants.{NotFound, NotDir, NotFile, Exists, Mergeinfo}
+use Rattle.fsfs_cli.specs.declared.faults.fault.Fault.{Fault}
+use Rattle.fsfs_cli.specs.declared.faults.fault.Fault.TheVariants.{Request}
+use Rattle.fsfs_cli.specs.declared.faults.request_fault.RequestFault.{RequestFault}
+use Rattle.fsfs_cli.specs.declared.faults.request_fault.RequestFault.TheVariants.{NotFound, NotDir, NotFile, Exists, Mergeinfo}
 
 -- its words, but of a path the space alone
 abbrev pub request_front : RequestFault → List ℕ

@@ -4,9 +4,9 @@ use Rattle.fsfs_base.specs.Paths.{Path}
 use Rattle.fsfs_base.specs.PathTexts.{IsBadPath}
 use Rattle.fsfs_cli.specs.Grammars.{path_meant, IsPathOf}
 use Rattle.fsfs_cli.specs.Words.{Asked, asked}
-use Rattle.fsfs_cli.specs.declared.fault.WordsFault.{WordsFault}
-use Rattle.fsfs_cli.specs.declared.fault.WordsFault.TheVariants.{Usage, BadPath, Memory}
-use Rattle.fsfs_base.specs.declared.bad_path.BadPath.{BadPath as BadPathAt}
+use Rattle.fsfs_cli.specs.declared.faults.words_fault.WordsFault.{WordsFault}
+use Rattle.fsfs_cli.specs.declared.faults.words_fault.WordsFault.TheVariants.{Usage, BadPath, Memory}
+use Rattle.fsfs_base.specs.declared.paths.bad_path.BadPath.{BadPath as BadPathAt}
 use Rattle.fsfs_cli.specs.declared.request.Request.{Request}
 use Rattle.fsfs_cli.specs.declared.request.Task.{Task}
 use Rattle.fsfs_cli.specs.declared.tool.Tool.{Tool}

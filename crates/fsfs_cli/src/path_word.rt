@@ -4,7 +4,7 @@ ghost use Rattle.std.specs.String.{string_bytes};
 ghost use Rattle.fsfs_cli.specs.Grammars.{IsPathOf, path_meant};
 ghost use Rattle.fsfs_cli.specs.Readings.{ReadsPath};
 
-use crate::fault::WordsFault;
+use crate::faults::words_fault::WordsFault;
 use fsfs_base::FsPath;
 use std::alloc::{AllocError, Global};
 

@@ -9,7 +9,7 @@ use crate::commands::{
     cat_command, create_command, history_command, jobs_command, look_command, revision_command,
     rmtxns_command, tree_command,
 };
-use crate::fault::WordsFault;
+use crate::faults::words_fault::WordsFault;
 use crate::path_word::read_path;
 use crate::request::{Look, Printed, Request, RevisionLook, Task};
 use crate::revision::read_revision;

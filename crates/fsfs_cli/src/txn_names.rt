@@ -3,7 +3,7 @@ ghost use Rattle.std.specs.Prelude.{◌≡◌, map};
 ghost use Rattle.fsfs_cli.specs.Grammars.{txns_named};
 ghost use Rattle.fsfs_cli.specs.Readings.{Finds};
 
-use crate::fault::WordsFault;
+use crate::faults::words_fault::WordsFault;
 use fsfs_base::{TxnName, plain_txn_name};
 use std::alloc::Global;
 use std::marker::Model;

@@ -2,35 +2,35 @@
 use Rattle.std.proofs.Common.{◌≡◌, ◌⊎◌, ◌<◌, ◌≤◌, ◌+◌, ℕ, suc, zero, List, [], ◌∷◌, ◌++◌, length, inl, inr, refl, sym, ap, subst, ◌∙◌, arith, length-append}
 use Rattle.std.specs.Prelude.{Some, None, slice_get}
 use Rattle.std.specs.FinMap.{get}
-use Rattle.fsfs_base.specs.RevNums.{last_rev}
-use Rattle.fsfs_base.specs.declared.txn_name.TxnName.{TxnName}
+use Rattle.fsfs_base.specs.Fields.RevNums.{last_rev}
+use Rattle.fsfs_base.specs.declared.fields.txn_name.TxnName.{TxnName}
 use Rattle.fsfs_tree.specs.Nodes.{TreeFunction}
 use Rattle.fsfs_tree.specs.Revisions.{Revision, tree_of}
 use Rattle.fsfs_tree.specs.Dated.{IsDated, last_of}
-use Rattle.fsfs_model.specs.declared.mark.Mark.{Mark}
-use Rattle.fsfs_model.specs.Landing.{land, NoClash}
-use Rattle.fsfs_model.specs.Transactions.{IsTransaction, IsNext}
+use Rattle.fsfs_model.specs.declared.flat.mark.Mark.{Mark}
+use Rattle.fsfs_model.specs.Flat.Landing.{land, NoClash}
+use Rattle.fsfs_model.specs.Flat.Transactions.{IsTransaction, IsNext}
 use Rattle.fsfs_tree.specs.Histories.{AreRevisions}
 use Rattle.fsfs_revision.specs.Told.{RevisionBytes}
-use Rattle.fsfs_revision.specs.Trees.{ShowTrees}
+use Rattle.fsfs_revision.specs.Ancestry.Trees.{ShowTrees}
 use Rattle.fsfs_draft.specs.Staying.{IsYoungest}
 use Rattle.fsfs_draft.specs.Whole.{IsDraftOf}
 use Rattle.fsfs_revision.proofs.Revisions.{shown_revisions}
-use Rattle.fsfs_revision.specs.IdRules.{IdRule}
-use Rattle.fsfs_noderev.specs.declared.item.ChangeItem.{ChangeItem}
+use Rattle.fsfs_revision.specs.Shows.IdRules.{IdRule}
+use Rattle.fsfs_noderev.specs.declared.changes.item.ChangeItem.{ChangeItem}
 use Rattle.fsfs_draft.specs.Drafts.{Folder}
 use Rattle.fsfs_merge.proofs.Sides as sides
 use Rattle.fsfs_final.proofs.Commit.{shows_as}
-use Rattle.fsfs_commit.specs.FinalBytes.{IsNextRevision}
-use Rattle.fsfs_commit.specs.Texts.{IsHandedOver, IsFinalText}
+use Rattle.fsfs_commit.specs.FinalRev.FinalBytes.{IsNextRevision}
+use Rattle.fsfs_commit.specs.FinalRev.Texts.{IsHandedOver, IsFinalText}
 use Rattle.fsfs_machine.specs.declared.machine.Recorded.{Recorded}
 use Rattle.fsfs_machine.specs.declared.machine.Txn.{Txn}
 use Rattle.fsfs_machine.specs.Machine.{revisions, entry_of}
 use Rattle.fsfs_machine.proofs.Growing.{revisions_length}
 use Rattle.fsfs_turn.specs.Bytes.{bytes_beside, bytes_of, ShowsOne, BytesShow}
 use Rattle.fsfs_turn.specs.Views.{Begins}
-use Rattle.fsfs_commit.specs.Meaning.{IsTxnOf}
-use Rattle.fsfs_commit.specs.SeenLemmas.{is_youngest, bytes_same, shown_trees, shown_still}
+use Rattle.fsfs_commit.specs.Transaction.Meaning.{IsTxnOf}
+use Rattle.fsfs_commit.specs.Transaction.SeenLemmas.{is_youngest, bytes_same, shown_trees, shown_still}
 use Rattle.fsfs_commit.proofs.Filled.{folded_changes, folded_changes_are}
 use Rattle.fsfs_commit.proofs.Landing.{landed_map, landed_map_is}
 

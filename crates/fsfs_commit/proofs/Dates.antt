@@ -6,9 +6,9 @@ use Rattle.std.specs.BTreeMap.{is_at}
 use Rattle.std.specs.Cmp.Lexicographic.{slice_cmp}
 use Rattle.std.specs.Ordering.{nat_cmp}
 use Rattle.fsfs_base.proofs.PathLemmas.{same_name-refl}
-use Rattle.fsfs_base.specs.Dates.{IsDateText}
+use Rattle.fsfs_base.specs.Fields.Dates.{IsDateText}
 use Rattle.fsfs_tree.specs.Dated.{date_name, IsDated}
-use Rattle.fsfs_commit.specs.Dating.{IsDatedAt}
+use Rattle.fsfs_commit.specs.Transaction.Dating.{IsDatedAt}
 use Rattle.fsfs_revision.proofs.PairLookups.{found_put}
 
 pub dated_form : (micros : ℕ) (old new : List (List ℕ × List ℕ)) → IsDatedAt micros old new → IsDated new

@@ -1,7 +1,7 @@
 -- Which answers of a commit bring no fault that leaves a revision in doubt.
 use Rattle.std.proofs.Common.{◌≡◌, false, ap}
-use Rattle.fsfs_base.specs.declared.place.DiskPlace.TheVariants.{Commit}
-use Rattle.fsfs_base.specs.declared.place.CommitPlace.{CommitPlace}
+use Rattle.fsfs_base.specs.declared.places.place.DiskPlace.TheVariants.{Commit}
+use Rattle.fsfs_base.specs.declared.places.place.CommitPlace.{CommitPlace}
 use Rattle.fsfs_turn.specs.Alone.{BringsNoDoubt, brings_doubt}
 use Rattle.fsfs_turn.specs.Views.{View}
 use Rattle.fsfs_turn.proofs.Doubts.{fault_more}

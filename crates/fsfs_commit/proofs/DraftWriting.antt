@@ -7,10 +7,10 @@ use Rattle.fsfs_base.specs.declared.failed.Failed.{Failed}
 use Rattle.fsfs_disk.specs.Benches.{appended, bytes_on}
 use Rattle.fsfs_disk.proofs.BenchLemmas.{bytes_in-appended}
 use Rattle.fsfs_draft.specs.Drafts.{Folder}
-use Rattle.fsfs_base.specs.declared.txn_name.TxnName.{TxnName}
+use Rattle.fsfs_base.specs.declared.fields.txn_name.TxnName.{TxnName}
 use Rattle.fsfs_machine.specs.declared.machine.Recorded.{Recorded}
 use Rattle.fsfs_machine.specs.declared.machine.Txn.{Txn}
-use Rattle.fsfs_commit.specs.Meaning.{IsTxnOf, Means}
+use Rattle.fsfs_commit.specs.Transaction.Meaning.{IsTxnOf, Means}
 
 pub written_behind : (old new : Option Files) (file text proto bytes : List ℕ) → IsSome old → new ≡ option_map (appended file text) old → bytes_on old file ≡ proto → bytes ≡ proto ++ text → bytes ≡ bytes_on new file
 written_behind None new file text proto bytes some is same w = absurd cc

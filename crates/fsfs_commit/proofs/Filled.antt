@@ -11,10 +11,10 @@ use Rattle.fsfs_base.specs.Paths.{Path, path_cmp, path_cmp_total, paths_tie, sam
 use Rattle.fsfs_base.proofs.ResultLemmas.{none_of}
 use Rattle.fsfs_tree.specs.declared.change_map.Change.{Change}
 use Rattle.fsfs_tree.specs.Nodes.{Node}
-use Rattle.fsfs_model.specs.declared.mark.Mark.{Mark}
-use Rattle.fsfs_model.specs.Marks.{effects}
-use Rattle.fsfs_model.specs.Landing.{land, landed_at}
-use Rattle.fsfs_model.specs.Folding.{fold}
+use Rattle.fsfs_model.specs.declared.flat.mark.Mark.{Mark}
+use Rattle.fsfs_model.specs.Flat.Marks.{effects}
+use Rattle.fsfs_model.specs.Flat.Landing.{land, landed_at}
+use Rattle.fsfs_model.specs.Flat.Folding.{fold}
 use Rattle.fsfs_model.proofs.Filling.{same_path_is}
 use Rattle.fsfs_model.proofs.FoldLemmas.{unmarked}
 

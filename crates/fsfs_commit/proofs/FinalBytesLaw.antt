@@ -6,14 +6,14 @@ use Rattle.std.proofs.lemmas.List.{length-append}
 use Rattle.fsfs_base.specs.Paths.{Path}
 use Rattle.fsfs_tree.specs.Revisions.{Revision, tree_of}
 use Rattle.fsfs_tree.specs.Dated.{last_of, IsDated}
-use Rattle.fsfs_model.specs.Landing.{land}
-use Rattle.fsfs_model.specs.Transactions.{Entry, IsEntry, IsNext}
+use Rattle.fsfs_model.specs.Flat.Landing.{land}
+use Rattle.fsfs_model.specs.Flat.Transactions.{Entry, IsEntry, IsNext}
 use Rattle.fsfs_revision.specs.Told.{RevisionBytes}
-use Rattle.fsfs_revision.specs.IdRules.{IdRule}
+use Rattle.fsfs_revision.specs.Shows.IdRules.{IdRule}
 use Rattle.fsfs_stands.specs.History.{ShowsRevision, ShowsHistory}
 use Rattle.fsfs_final.proofs.Commit.{shows_as}
 use Rattle.fsfs_final.proofs.NextShownLaw.{count, got_more}
-use Rattle.fsfs_commit.specs.FinalBytes.{IsCommittedAs, FinalBytesAreEnough}
+use Rattle.fsfs_commit.specs.FinalRev.FinalBytes.{IsCommittedAs, FinalBytesAreEnough}
 
 module _ (look props : RevisionBytes) (h : List Revision) (e : Entry) (next : Revision) (shows : ShowsHistory look props h) (entry : IsEntry h e) (is : IsNext h e next) (w : IsCommittedAs look props h e next) where
   abbrev top : ℕ

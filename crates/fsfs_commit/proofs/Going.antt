@@ -5,13 +5,13 @@ use Rattle.std.specs.Prelude.{Some, None, Result, Ok, Err, OnOk, OnErr}
 use Rattle.fsfs_base.specs.Failures.{HasCause, Rose}
 use Rattle.fsfs_tree.specs.Revisions.{Revision}
 use Rattle.fsfs_layout.specs.Small.{IsRevLine}
-use Rattle.fsfs_layout.specs.Dump.{IsDump}
+use Rattle.fsfs_layout.specs.Hash.Dump.{IsDump}
 use Rattle.fsfs_disk.specs.Trace.{Put}
 use Rattle.fsfs_machine.specs.declared.machine.Coming.{Coming}
 use Rattle.fsfs_machine.specs.declared.machine.Txn.{Txn}
-use Rattle.fsfs_base.specs.declared.place.DiskPlace.TheVariants.{Commit}
-use Rattle.fsfs_base.specs.declared.place.CommitPlace.{CommitPlace}
-use Rattle.fsfs_base.specs.declared.place.CommitPlace.TheVariants.{PutRev, PutProps}
+use Rattle.fsfs_base.specs.declared.places.place.DiskPlace.TheVariants.{Commit}
+use Rattle.fsfs_base.specs.declared.places.place.CommitPlace.{CommitPlace}
+use Rattle.fsfs_base.specs.declared.places.place.CommitPlace.TheVariants.{PutRev, PutProps}
 use Rattle.fsfs_machine.specs.declared.machine.Section.{Section}
 use Rattle.fsfs_machine.specs.declared.machine.Section.TheVariants.{RevPut, Doubtful, Over, CurrentFirm}
 use Rattle.fsfs_machine.specs.declared.machine.Outcome.TheVariants as outcome

@@ -1,14 +1,14 @@
 -- The entry of a landed transaction adds the revision that the one handed in adds.
 use Rattle.std.proofs.Common.{◌≡◌, ◌<◌, ◌≤◌, ℕ, suc, List, length, ⊎_elim, sym, ap, subst, ◌∙◌, arith}
 use Rattle.std.specs.FinMap.{get}
-use Rattle.fsfs_model.specs.declared.mark.Mark.{Mark}
+use Rattle.fsfs_model.specs.declared.flat.mark.Mark.{Mark}
 use Rattle.fsfs_base.specs.Paths.{Path}
 use Rattle.fsfs_tree.specs.Nodes.{TreeFunction}
-use Rattle.fsfs_model.specs.Folding.{fold}
-use Rattle.fsfs_model.specs.Landing.{land, is_clash, NoClash}
+use Rattle.fsfs_model.specs.Flat.Folding.{fold}
+use Rattle.fsfs_model.specs.Flat.Landing.{land, is_clash, NoClash}
 use Rattle.fsfs_tree.specs.Histories.{AreRevisions, IsHistory}
 use Rattle.fsfs_tree.specs.Revisions.{Revision, tree_of}
-use Rattle.fsfs_model.specs.Transactions.{IsTransaction, IsNext}
+use Rattle.fsfs_model.specs.Flat.Transactions.{IsTransaction, IsNext}
 use Rattle.fsfs_tree.specs.Dated.{last_of}
 use Rattle.fsfs_model.proofs.TwoMergesLaw.{two_merges_are_one}
 use Rattle.fsfs_machine.specs.declared.machine.Recorded.{Recorded}

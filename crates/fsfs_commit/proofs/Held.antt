@@ -5,23 +5,23 @@ use Rattle.std.proofs.lemmas.Bool.Decides.{nat_tests}
 use Rattle.fsfs_base.specs.Paths.{PathName, Path}
 use Rattle.fsfs_base.specs.declared.kind.Kind.{Kind}
 use Rattle.fsfs_base.specs.declared.kind.Kind.TheVariants.{File, Dir}
-use Rattle.fsfs_base.specs.declared.txn_name.TxnName.{TxnName}
+use Rattle.fsfs_base.specs.declared.fields.txn_name.TxnName.{TxnName}
 use Rattle.fsfs_tree.specs.Nodes.{Node, TreeFunction, Content}
 use Rattle.fsfs_revision.specs.Told.{RevisionBytes}
-use Rattle.fsfs_revision.specs.DamageDamages.{place_of}
-use Rattle.fsfs_noderev.specs.declared.item.ChangeItem.{ChangeItem}
+use Rattle.fsfs_revision.specs.Damage.Damages.{place_of}
+use Rattle.fsfs_noderev.specs.declared.changes.item.ChangeItem.{ChangeItem}
 use Rattle.fsfs_noderev.specs.declared.node_id.Place.{Place}
 use Rattle.fsfs_noderev.specs.declared.node_id.Place.TheVariants as places
 use Rattle.fsfs_noderev.specs.declared.rep.Rep.{Rep}
 use Rattle.fsfs_noderev.specs.declared.rep.Contents.{Contents}
 use Rattle.fsfs_noderev.specs.declared.rep.Contents.TheVariants as contents
 use Rattle.fsfs_noderev.specs.declared.node_rev.NodeRev.{NodeRev}
-use Rattle.fsfs_layout.specs.Dump.{dump_text}
-use Rattle.fsfs_revision.specs.Frames.{RepIn}
+use Rattle.fsfs_layout.specs.Hash.Dump.{dump_text}
+use Rattle.fsfs_revision.specs.Rep.Frames.{RepIn}
 use Rattle.fsfs_txn_files.proofs.Longer.{stays}
 use Rattle.fsfs_revision.specs.Nodes.{has_revision_rep, is_own_place, is_directory}
-use Rattle.fsfs_revision.specs.ShowsReading.{Pairs, OfContents, RepAt, PairsAt, PropsOf, StandsAt}
-use Rattle.fsfs_revision.specs.Shown.{IsTextOf}
+use Rattle.fsfs_revision.specs.Shows.Reading.{Pairs, OfContents, RepAt, PairsAt, PropsOf, StandsAt}
+use Rattle.fsfs_revision.specs.Shows.Shown.{IsTextOf}
 use Rattle.fsfs_revision.proofs.OneWalk.{stands_same}
 use Rattle.fsfs_revision.proofs.TreeLaw.{root_home}
 use Rattle.fsfs_revision.proofs.Walks.{child_stands}
@@ -44,13 +44,13 @@ use Rattle.fsfs_final.specs.Final.{IsFinal}
 use Rattle.fsfs_final.specs.Laid.{Laid}
 use Rattle.fsfs_final.proofs.Held.{held_drafts_are_read}
 use Rattle.fsfs_final.proofs.LaidLaw.{loop_laws}
-use Rattle.fsfs_final.specs.Endings.{IsEnded}
-use Rattle.fsfs_final.specs.Lists.{in_revision}
-use Rattle.fsfs_final.specs.Naming.{FinalIds}
-use Rattle.fsfs_final.specs.Nodes.{HasList}
+use Rattle.fsfs_final.specs.Pieces.Endings.{IsEnded}
+use Rattle.fsfs_final.specs.Pieces.Lists.{in_revision}
+use Rattle.fsfs_final.specs.Pieces.Naming.{FinalIds}
+use Rattle.fsfs_final.specs.Pieces.Nodes.{HasList}
 use Rattle.fsfs_final.proofs.OwnChildren.{above_own}
 use Rattle.fsfs_final.specs.Laying.{IsTextKept, IsPut, AreLaid}
-use Rattle.fsfs_commit.specs.FinalBytes.{IsFinalBytes}
+use Rattle.fsfs_commit.specs.FinalRev.FinalBytes.{IsFinalBytes}
 use Rattle.fsfs_commit.proofs.Bare.{same_bare}
 use Rattle.fsfs_commit.proofs.Holding as holding
 use Rattle.fsfs_commit.proofs.Holding.{lasting_kept}

@@ -5,19 +5,19 @@ use Rattle.std.proofs.lemmas.Bool.Decides.{nat_tests}
 use Rattle.std.proofs.lemmas.Bool.{cases_Bool}
 use Rattle.fsfs_base.specs.Paths.{PathName, Path}
 use Rattle.fsfs_base.specs.declared.kind.Kind.TheVariants.{Dir}
-use Rattle.fsfs_base.specs.declared.txn_name.TxnName.{TxnName}
+use Rattle.fsfs_base.specs.declared.fields.txn_name.TxnName.{TxnName}
 use Rattle.fsfs_tree.specs.Nodes.{TreeFunction}
 use Rattle.fsfs_revision.specs.Told.{RevisionBytes}
-use Rattle.fsfs_revision.specs.DamageDamages.{place_of}
+use Rattle.fsfs_revision.specs.Damage.Damages.{place_of}
 use Rattle.fsfs_noderev.specs.declared.node_id.NodeId.{NodeId}
 use Rattle.fsfs_noderev.specs.declared.rep.Rep.{Rep}
 use Rattle.fsfs_noderev.specs.declared.rep.Contents.{Contents}
 use Rattle.fsfs_noderev.specs.declared.rep.Contents.TheVariants as contents
 use Rattle.fsfs_noderev.specs.declared.node_rev.NodeRev.{NodeRev}
-use Rattle.fsfs_layout.specs.Dump.{dump_text}
+use Rattle.fsfs_layout.specs.Hash.Dump.{dump_text}
 use Rattle.fsfs_revision.specs.Nodes.{is_before, is_revision_id, has_revision_rep, is_some_rev}
-use Rattle.fsfs_revision.specs.ShowsReading.{DirEntry, AreEntries, ChildOf, StandsAt, named, offset_of}
-use Rattle.fsfs_revision.specs.Chains.{own_rev, IsPred}
+use Rattle.fsfs_revision.specs.Shows.Reading.{DirEntry, AreEntries, ChildOf, StandsAt, named, offset_of}
+use Rattle.fsfs_revision.specs.Shows.Chains.{own_rev, IsPred}
 use Rattle.fsfs_revision.proofs.TreeLaw.{stands_home}
 use Rattle.fsfs_revision.proofs.Earlier.{stands_of_id, pred_same}
 use Rattle.fsfs_draft.specs.Own.{OwnNode, Own, has_entry}
@@ -39,7 +39,7 @@ use Rattle.fsfs_final.specs.Bytes.{LeadsTo, Lists, Listed, Written, Inherited, B
 use Rattle.fsfs_final.specs.Laid.{Laid}
 use Rattle.fsfs_final.proofs.LaidLaw.{loop_laws}
 use Rattle.fsfs_final.proofs.Stays.{ready}
-use Rattle.fsfs_final.specs.Naming.{FinalIds}
+use Rattle.fsfs_final.specs.Pieces.Naming.{FinalIds}
 use Rattle.fsfs_final.proofs.OwnChildren.{Below, not_of_revision, heads, bare_dir}
 use Rattle.fsfs_final.specs.Laying.{LeadsOn, LeadAlike, IsListPut, IsTextKept, IsPut, AreLaid}
 use Rattle.fsfs_commit.proofs.Totals.{has_child}

@@ -6,16 +6,16 @@ use Rattle.fsfs_base.specs.Paths.{Path, same_path}
 use Rattle.fsfs_base.specs.declared.action.Action.{Action}
 use Rattle.fsfs_base.specs.declared.action.Action.TheVariants.{Add, Delete, Replace, Modify}
 use Rattle.fsfs_base.proofs.PathLemmas.{same_path-is, same_path-refl}
-use Rattle.fsfs_base.specs.declared.txn_name.TxnName.{TxnName}
+use Rattle.fsfs_base.specs.declared.fields.txn_name.TxnName.{TxnName}
 use Rattle.fsfs_tree.specs.declared.change_map.Change.{Change}
 use Rattle.fsfs_noderev.specs.declared.node_id.Place.TheVariants as places
-use Rattle.fsfs_noderev.specs.Items.{HasText}
-use Rattle.fsfs_noderev.specs.Changes.{HasNewPath, HavePathsOnce}
-use Rattle.fsfs_noderev.specs.declared.item.ChangeItem.{ChangeItem}
-use Rattle.fsfs_edit.specs.FoldedItems.{item_at, text_of}
-use Rattle.fsfs_edit.specs.Marks.{Tells, AgreesWith}
-use Rattle.fsfs_final.specs.Naming.{FinalIds, item_id}
-use Rattle.fsfs_commit.specs.Items.{own_id, told_item}
+use Rattle.fsfs_noderev.specs.Changes.Items.{HasText}
+use Rattle.fsfs_noderev.specs.Changes.Texts.{HasNewPath, HavePathsOnce}
+use Rattle.fsfs_noderev.specs.declared.changes.item.ChangeItem.{ChangeItem}
+use Rattle.fsfs_edit.specs.Folds.FoldedItems.{item_at, text_of}
+use Rattle.fsfs_edit.specs.Folds.Marks.{Tells, AgreesWith}
+use Rattle.fsfs_final.specs.Pieces.Naming.{FinalIds, item_id}
+use Rattle.fsfs_commit.specs.FinalRev.Items.{own_id, told_item}
 
 module _ (txn : TxnName) (ids : FinalIds) where
   abbrev told : ChangeItem → ChangeItem

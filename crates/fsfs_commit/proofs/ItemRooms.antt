@@ -7,22 +7,22 @@ use Rattle.fsfs_base.specs.Paths.{Path, same_path, covers}
 use Rattle.fsfs_base.proofs.PathLemmas.{same_path-is}
 use Rattle.fsfs_base.specs.declared.kind.Kind.TheVariants.{File, Dir}
 use Rattle.fsfs_base.specs.declared.action.Action.TheVariants.{Add, Delete, Replace, Modify}
-use Rattle.fsfs_base.specs.RevNums.{IsRev}
-use Rattle.fsfs_base.specs.Cuts.{IsCutOf}
-use Rattle.fsfs_base.specs.Numeral.{IsNumber}
+use Rattle.fsfs_base.specs.Fields.RevNums.{IsRev}
+use Rattle.fsfs_base.specs.Grammar.Cuts.{IsCutOf}
+use Rattle.fsfs_base.specs.Grammar.Numeral.{IsNumber}
 use Rattle.fsfs_base.proofs.Unique.{numeral_decimal}
 use Rattle.fsfs_noderev.specs.Fields.{IsIdText, IsKindText, IsPathText}
 use Rattle.fsfs_noderev.specs.declared.node_rev.CopySource.{CopySource}
 use Rattle.fsfs_noderev.proofs.Lengths.{id_most, AtMost, cut_most, path_most, rev_most}
-use Rattle.fsfs_noderev.specs.Words.{IsFlagText, IsActionText, IsActionAndKind}
-use Rattle.fsfs_noderev.specs.Items.{IsFirstLine, IsSecondLine, IsItem}
-use Rattle.fsfs_noderev.specs.Changes.{HasNewPath, Items, HavePathsOnce}
-use Rattle.fsfs_noderev.specs.declared.item.ChangeItem.{ChangeItem}
-use Rattle.fsfs_edit.specs.FoldedItems.{FoldedItem, joined, fold_items_from, fold_items, item_in, item_at}
+use Rattle.fsfs_noderev.specs.Changes.Words.{IsFlagText, IsActionText, IsActionAndKind}
+use Rattle.fsfs_noderev.specs.Changes.Items.{IsFirstLine, IsSecondLine, IsItem}
+use Rattle.fsfs_noderev.specs.Changes.Texts.{HasNewPath, Items, HavePathsOnce}
+use Rattle.fsfs_noderev.specs.declared.changes.item.ChangeItem.{ChangeItem}
+use Rattle.fsfs_edit.specs.Folds.FoldedItems.{FoldedItem, joined, fold_items_from, fold_items, item_in, item_at}
 use Rattle.fsfs_revision.specs.Trailers.{IsTrailer}
-use Rattle.fsfs_final.specs.Endings.{IsEndPut}
+use Rattle.fsfs_final.specs.Pieces.Endings.{IsEndPut}
 use Rattle.fsfs_commit.proofs.ItemLemmas.{apart_of, contained_at}
-use Rattle.fsfs_model.specs.Folding.{deletes}
+use Rattle.fsfs_model.specs.Flat.Folding.{deletes}
 
 -- ---- one item
 

@@ -4,14 +4,14 @@ use Rattle.std.specs.Prelude.{Option, Some, None, slice_get}
 use Rattle.std.specs.FinMap.{FinMap, get, get-empty}
 use Rattle.std.proofs.lemmas.List.{length-take-le}
 use Rattle.fsfs_base.specs.Paths.{Path, path_cmp}
-use Rattle.fsfs_base.specs.declared.txn_name.TxnName.{TxnName}
+use Rattle.fsfs_base.specs.declared.fields.txn_name.TxnName.{TxnName}
 use Rattle.fsfs_tree.specs.Nodes.{Node, TreeFunction}
 use Rattle.fsfs_tree.specs.Revisions.{Revision, node_in, tree_of}
 use Rattle.fsfs_tree.specs.Dated.{last_of}
-use Rattle.fsfs_model.specs.declared.mark.Mark.{Mark}
-use Rattle.fsfs_model.specs.Marks.{effects}
-use Rattle.fsfs_model.specs.Landing.{land, landed_at, NoClash}
-use Rattle.fsfs_model.specs.Transactions.{IsTransaction}
+use Rattle.fsfs_model.specs.declared.flat.mark.Mark.{Mark}
+use Rattle.fsfs_model.specs.Flat.Marks.{effects}
+use Rattle.fsfs_model.specs.Flat.Landing.{land, landed_at, NoClash}
+use Rattle.fsfs_model.specs.Flat.Transactions.{IsTransaction}
 use Rattle.fsfs_draft.specs.Drafts.{Folder}
 use Rattle.fsfs_txn.specs.Standing.{Stands}
 use Rattle.fsfs_machine.specs.declared.machine.Recorded.{Recorded}
@@ -22,7 +22,7 @@ use Rattle.fsfs_turn.specs.Bytes.{bytes_of}
 use Rattle.fsfs_turn.proofs.Longer.{tree_first, txn_later}
 use Rattle.fsfs_turn.proofs.Moments.{begins_take}
 use Rattle.fsfs_commit.specs.Works.{LandedOn}
-use Rattle.fsfs_commit.specs.Meaning.{IsTxnOf}
+use Rattle.fsfs_commit.specs.Transaction.Meaning.{IsTxnOf}
 use Rattle.fsfs_commit.proofs.Filled.{landed_tree, landed_tree_is}
 
 tree_in_is : (o : Option Revision) (q : Path) → get (tree_in o) q ≡ node_in o q

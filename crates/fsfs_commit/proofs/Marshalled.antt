@@ -4,21 +4,21 @@ use Rattle.std.specs.Prelude.{Option, IsSome, option_map}
 use Rattle.std.proofs.lemmas.List.{length-take-le}
 use Rattle.fsfs_base.specs.Files.{Files}
 use Rattle.fsfs_disk.specs.Benches.{bytes_on}
-use Rattle.fsfs_base.specs.RevNums.{last_rev}
-use Rattle.fsfs_base.specs.declared.txn_name.TxnName.{TxnName}
+use Rattle.fsfs_base.specs.Fields.RevNums.{last_rev}
+use Rattle.fsfs_base.specs.declared.fields.txn_name.TxnName.{TxnName}
 use Rattle.fsfs_tree.specs.Revisions.{Revision}
 use Rattle.fsfs_tree.specs.Dated.{IsDated}
-use Rattle.fsfs_model.specs.Transactions.{IsNext}
+use Rattle.fsfs_model.specs.Flat.Transactions.{IsNext}
 use Rattle.fsfs_draft.specs.Drafts.{Folder}
 use Rattle.fsfs_machine.specs.declared.machine.Recorded.{Recorded}
 use Rattle.fsfs_machine.specs.declared.machine.Txn.{Txn}
 use Rattle.fsfs_machine.specs.Machine.{revisions, entry_of}
 use Rattle.fsfs_turn.specs.Bytes.{BytesShow}
-use Rattle.fsfs_commit.specs.Meaning.{IsTxnOf, IsTextBehind, OfStage}
+use Rattle.fsfs_commit.specs.Transaction.Meaning.{IsTxnOf, IsTextBehind, OfStage}
 use Rattle.fsfs_commit.proofs.Coming.{next, is_next, next_shown}
 use Rattle.fsfs_commit.proofs.Stages.{settled_in, behind}
-use Rattle.fsfs_commit.specs.declared.txn_draft.Stage.{Stage}
-use Rattle.fsfs_commit.specs.declared.txn_draft.Stage.TheVariants.{Open, Ended}
+use Rattle.fsfs_commit.specs.declared.transaction.txn_draft.Stage.{Stage}
+use Rattle.fsfs_commit.specs.declared.transaction.txn_draft.Stage.TheVariants.{Open, Ended}
 
 module _ (seen : List Recorded) (rev : ℕ) (long : rev ≤ length seen) (fits : rev ≤ last_rev) (x : Txn) (properties : List (List ℕ × List ℕ)) (dated : IsDated properties) (next_to : x.base + 1 ≡ rev) (shown : BytesShow (take rev seen))
     (name : TxnName) (base : ℕ) (settled : Folder) (is : IsTxnOf (take rev seen) name base settled x) (text : Option (List ℕ)) (made : IsTextBehind (take rev seen) settled x text) where

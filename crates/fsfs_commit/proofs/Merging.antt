@@ -6,10 +6,10 @@ use Rattle.fsfs_base.specs.Paths.{Path}
 use Rattle.fsfs_base.specs.Counts.{Rose}
 use Rattle.fsfs_base.specs.declared.failed.Failed.{Failed}
 use Rattle.fsfs_revision.specs.Told.{Told, Knows}
-use Rattle.fsfs_base.specs.declared.txn_name.TxnName.{TxnName}
+use Rattle.fsfs_base.specs.declared.fields.txn_name.TxnName.{TxnName}
 use Rattle.fsfs_tree.specs.Revisions.{tree_of}
-use Rattle.fsfs_model.specs.Landing.{IsFirstClash}
-use Rattle.fsfs_revision.specs.Trees.{ShowTrees}
+use Rattle.fsfs_model.specs.Flat.Landing.{IsFirstClash}
+use Rattle.fsfs_revision.specs.Ancestry.Trees.{ShowTrees}
 use Rattle.fsfs_draft.specs.Drafts.{Folder}
 use Rattle.fsfs_merge.specs.declared.land.Outcome.{Outcome}
 use Rattle.fsfs_merge.specs.declared.land.Outcome.TheVariants as outcomes
@@ -30,19 +30,19 @@ use Rattle.fsfs_turn.specs.Views.{View, Begins, Turned}
 use Rattle.fsfs_turn.specs.Learning.{PropsRead}
 use Rattle.fsfs_turn.specs.Courses.{End, More, ReadOnly}
 use Rattle.fsfs_turn.proofs.Longer.{tree_first}
-use Rattle.fsfs_noderev.specs.declared.item.ChangeItem.{ChangeItem}
-use Rattle.fsfs_noderev.specs.declared.limit.PathLimit.{PathLimit}
-use Rattle.fsfs_commit.specs.Texts.{IsRefused, HasPathPast}
-use Rattle.fsfs_commit.specs.declared.error.FinalError.{FinalError}
-use Rattle.fsfs_commit.specs.declared.error.FinalError.TheVariants as finals
+use Rattle.fsfs_noderev.specs.declared.changes.item.ChangeItem.{ChangeItem}
+use Rattle.fsfs_noderev.specs.declared.limits.limit.PathLimit.{PathLimit}
+use Rattle.fsfs_commit.specs.FinalRev.Texts.{IsRefused, HasPathPast}
+use Rattle.fsfs_commit.specs.declared.final_rev.error.FinalError.{FinalError}
+use Rattle.fsfs_commit.specs.declared.final_rev.error.FinalError.TheVariants as finals
 use Rattle.fsfs_commit.specs.Works.{LandedOn}
 use Rattle.fsfs_turn.proofs.Doubts.{read_doubtless}
 use Rattle.fsfs_turn.proofs.Moments.{begins_take}
-use Rattle.fsfs_commit.specs.Meaning.{IsTxnOf}
-use Rattle.fsfs_commit.specs.declared.refusal.CommitRefusal.{CommitRefusal}
-use Rattle.fsfs_commit.specs.Findings.{Finds, SpentByBench, IfBench, Blames}
-use Rattle.fsfs_commit.specs.Refusals.{of_txn, of_final, IsClashAt, IsDiskFault, Refuses}
-use Rattle.fsfs_commit.specs.SeenLemmas.{bytes_same, shown_trees}
+use Rattle.fsfs_commit.specs.Transaction.Meaning.{IsTxnOf}
+use Rattle.fsfs_commit.specs.declared.transaction.refusal.CommitRefusal.{CommitRefusal}
+use Rattle.fsfs_commit.specs.Transaction.Findings.{Finds, SpentByBench, IfBench, Blames}
+use Rattle.fsfs_commit.specs.Transaction.Refusals.{of_txn, of_final, IsClashAt, IsDiskFault, Refuses}
+use Rattle.fsfs_commit.specs.Transaction.SeenLemmas.{bytes_same, shown_trees}
 use Rattle.fsfs_commit.proofs.Landing.{part_long, part_last, landed, landed_means, landed_on}
 
 -- ---- what only reading tells

@@ -6,8 +6,8 @@ use Rattle.fsfs_base.proofs.PathLemmas.{same_path-is}
 use Rattle.fsfs_noderev.specs.declared.node_id.NodeId.{NodeId}
 use Rattle.fsfs_draft.specs.Own.{OwnNode, Own}
 use Rattle.fsfs_draft.specs.Drafts.{Kept}
-use Rattle.fsfs_final.specs.Naming.{FinalIds}
-use Rattle.fsfs_final.specs.Orders.{path_of, is_in, AreInOrder}
+use Rattle.fsfs_final.specs.Pieces.Naming.{FinalIds}
+use Rattle.fsfs_final.specs.Order.Orders.{path_of, is_in, AreInOrder}
 use Rattle.fsfs_final.proofs.OrderLists.{in_front, in_later, in_either, differ}
 use Rattle.fsfs_final.specs.Putting.{ArePut}
 

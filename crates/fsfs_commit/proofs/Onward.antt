@@ -4,9 +4,9 @@ use Rattle.std.specs.Prelude.{Option}
 use Rattle.std.specs.FinMap.{get}
 use Rattle.std.proofs.lemmas.List.{take-append-le}
 use Rattle.fsfs_base.specs.declared.failed.Failed.{Failed}
-use Rattle.fsfs_base.specs.declared.txn_name.TxnName.{TxnName}
+use Rattle.fsfs_base.specs.declared.fields.txn_name.TxnName.{TxnName}
 use Rattle.fsfs_tree.specs.Revisions.{tree_of}
-use Rattle.fsfs_model.specs.Landing.{land, NoClash, IsFirstClash}
+use Rattle.fsfs_model.specs.Flat.Landing.{land, NoClash, IsFirstClash}
 use Rattle.fsfs_draft.specs.Drafts.{Folder}
 use Rattle.fsfs_machine.specs.declared.machine.Recorded.{Recorded}
 use Rattle.fsfs_machine.specs.declared.machine.Txn.{Txn}
@@ -15,10 +15,10 @@ use Rattle.fsfs_turn.specs.Views.{Begins}
 use Rattle.fsfs_turn.proofs.Longer.{tree_first, txn_later}
 use Rattle.fsfs_turn.proofs.Alone.{no_shorter}
 use Rattle.fsfs_commit.specs.Works.{LandedOn}
-use Rattle.fsfs_commit.specs.Meaning.{Means}
-use Rattle.fsfs_commit.specs.declared.refusal.CommitRefusal.{CommitRefusal}
-use Rattle.fsfs_commit.specs.declared.refusal.CommitRefusal.TheVariants as refusals
-use Rattle.fsfs_commit.specs.Refusals.{Refuses}
+use Rattle.fsfs_commit.specs.Transaction.Meaning.{Means}
+use Rattle.fsfs_commit.specs.declared.transaction.refusal.CommitRefusal.{CommitRefusal}
+use Rattle.fsfs_commit.specs.declared.transaction.refusal.CommitRefusal.TheVariants as refusals
+use Rattle.fsfs_commit.specs.Transaction.Refusals.{Refuses}
 
 -- the first part that ends with the head
 pub part_same : (head : ℕ) (h g : List Recorded) → Begins g h → head < length h → take (head + 1) g ≡ take (head + 1) h

@@ -3,7 +3,7 @@ use Rattle.std.proofs.Common.{◌≡◌, ◌<◌, ◌≤◌, ◌+◌, ℕ, suc, 
 use Rattle.std.specs.Prelude.{Option, Some, None, is_some}
 use Rattle.std.proofs.lemmas.List.{length-take-le}
 use Rattle.fsfs_tree.specs.Revisions.{Revision}
-use Rattle.fsfs_model.specs.Transactions.{IsNext}
+use Rattle.fsfs_model.specs.Flat.Transactions.{IsNext}
 use Rattle.fsfs_machine.specs.declared.machine.Recorded.{Recorded}
 use Rattle.fsfs_machine.specs.declared.machine.Txn.{Txn}
 use Rattle.fsfs_machine.specs.Machine.{revisions, entry_of}
@@ -13,8 +13,8 @@ use Rattle.fsfs_turn.specs.Courses.{ReadOnly}
 use Rattle.fsfs_turn.specs.Views.{View, Begins}
 use Rattle.fsfs_turn.specs.declared.adoption.Adoption.{Adoption}
 use Rattle.fsfs_commit.specs.Works.{LandedOn}
-use Rattle.fsfs_commit.specs.declared.standing.Standing.{Standing}
-use Rattle.fsfs_commit.specs.Pinned.{IsPinned, IsAdopted, LandsAs, AdoptsAs, NotesLanding, NotesAdoption}
+use Rattle.fsfs_commit.specs.declared.transaction.standing.Standing.{Standing}
+use Rattle.fsfs_commit.specs.Transaction.Pinned.{IsPinned, IsAdopted, LandsAs, AdoptsAs, NotesLanding, NotesAdoption}
 
 -- ---- what is noted
 

@@ -5,19 +5,19 @@ use Rattle.std.proofs.lemmas.Fmt.{length-decimal-le}
 use Rattle.std.proofs.lemmas.List.{length-append}
 use Rattle.std.proofs.lemmas.List.Sums.{sum_by-cons}
 use Rattle.fsfs_base.specs.Paths.{Path}
-use Rattle.fsfs_base.specs.Numeral.{IsNumber}
+use Rattle.fsfs_base.specs.Grammar.Numeral.{IsNumber}
 use Rattle.fsfs_base.proofs.Unique.{numeral_decimal}
 use Rattle.fsfs_noderev.specs.declared.rep.Contents.{Contents}
 use Rattle.fsfs_noderev.specs.declared.rep.Contents.TheVariants as contents
-use Rattle.fsfs_layout.specs.Dump.{Field, Pair, Entries, dump_text}
-use Rattle.fsfs_revision.specs.ShowsReading.{Pairs, DirEntry}
-use Rattle.fsfs_revision.specs.Frames.{framed_text}
+use Rattle.fsfs_layout.specs.Hash.Dump.{Field, Pair, Entries, dump_text}
+use Rattle.fsfs_revision.specs.Shows.Reading.{Pairs, DirEntry}
+use Rattle.fsfs_revision.specs.Rep.Frames.{framed_text}
 use Rattle.fsfs_revision.specs.EntryRooms.{pair_room, pairs_room, entry_room, entries_room}
 use Rattle.fsfs_draft.specs.Drafts.{Kept}
-use Rattle.fsfs_final.specs.Lists.{list_of, AreContentsPut}
-use Rattle.fsfs_final.specs.Naming.{FinalIds, final_entry}
+use Rattle.fsfs_final.specs.Pieces.Lists.{list_of, AreContentsPut}
+use Rattle.fsfs_final.specs.Pieces.Naming.{FinalIds, final_entry}
 use Rattle.fsfs_final.specs.Putting.{AreFinalPairs, ArePut}
-use Rattle.fsfs_commit.specs.Rooms.{list_room, set_room, kept_room}
+use Rattle.fsfs_commit.specs.FinalRev.Rooms.{list_room, set_room, kept_room}
 
 -- ---- dumps
 

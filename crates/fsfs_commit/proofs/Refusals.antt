@@ -5,26 +5,26 @@ use Rattle.std.specs.List.{AllByRecursion}
 use Rattle.std.proofs.lemmas.Bool.{and_from}
 use Rattle.std.proofs.lemmas.List.Elements.{All-from_recursion, All-contains}
 use Rattle.fsfs_base.specs.declared.kind.Kind.{Kind}
-use Rattle.fsfs_model.specs.Folding.{change_of}
-use Rattle.fsfs_model.specs.declared.mark.Mark.{Mark}
-use Rattle.fsfs_model.specs.declared.mark.What.{What}
-use Rattle.fsfs_model.specs.declared.mark.What.TheVariants as whats
-use Rattle.fsfs_noderev.specs.Words.{flags_fit}
-use Rattle.fsfs_noderev.specs.declared.item.ChangeItem.{ChangeItem}
+use Rattle.fsfs_model.specs.Flat.Folding.{change_of}
+use Rattle.fsfs_model.specs.declared.flat.mark.Mark.{Mark}
+use Rattle.fsfs_model.specs.declared.flat.mark.What.{What}
+use Rattle.fsfs_model.specs.declared.flat.mark.What.TheVariants as whats
+use Rattle.fsfs_noderev.specs.Changes.Words.{flags_fit}
+use Rattle.fsfs_noderev.specs.declared.changes.item.ChangeItem.{ChangeItem}
 use Rattle.fsfs_noderev.specs.Limits.{IfPast, is_told}
-use Rattle.fsfs_noderev.specs.declared.limit.PathLimit.{PathLimit}
-use Rattle.fsfs_noderev.specs.declared.limit.LimitError.{LimitError}
-use Rattle.fsfs_noderev.specs.declared.limit.LimitError.TheVariants as limits
+use Rattle.fsfs_noderev.specs.declared.limits.limit.PathLimit.{PathLimit}
+use Rattle.fsfs_noderev.specs.declared.limits.limit.LimitError.{LimitError}
+use Rattle.fsfs_noderev.specs.declared.limits.limit.LimitError.TheVariants as limits
 use Rattle.fsfs_draft.specs.Drafts.{Kept, Folder, IsItemOf, AreItemsOf, action_of}
-use Rattle.fsfs_final.specs.Orders.{AreHeld}
-use Rattle.fsfs_final.specs.declared.error.OrderError.{OrderError}
-use Rattle.fsfs_final.specs.declared.error.OrderError.TheVariants as orders
+use Rattle.fsfs_final.specs.Order.Orders.{AreHeld}
+use Rattle.fsfs_final.specs.declared.order.error.OrderError.{OrderError}
+use Rattle.fsfs_final.specs.declared.order.error.OrderError.TheVariants as orders
 use Rattle.fsfs_final.proofs.OrderLists.{differ}
 use Rattle.fsfs_final.specs.Putting.{IsOnePast}
-use Rattle.fsfs_commit.specs.Items.{IsOneUntold}
-use Rattle.fsfs_commit.specs.Texts.{IsWrittenText, IsRefused, HasPathPast, OfNode, IfPastLimit, IfSink, IfUnwritten, of_order, of_limit}
-use Rattle.fsfs_commit.specs.declared.error.FinalError.{FinalError}
-use Rattle.fsfs_commit.specs.declared.error.FinalError.TheVariants as errors
+use Rattle.fsfs_commit.specs.FinalRev.Items.{IsOneUntold}
+use Rattle.fsfs_commit.specs.FinalRev.Texts.{IsWrittenText, IsRefused, HasPathPast, OfNode, IfPastLimit, IfSink, IfUnwritten, of_order, of_limit}
+use Rattle.fsfs_commit.specs.declared.final_rev.error.FinalError.{FinalError}
+use Rattle.fsfs_commit.specs.declared.final_rev.error.FinalError.TheVariants as errors
 
 pub order_refused : (Past : PathLimit → Type 0) (e : OrderError) → IsRefused (Unit {0}) Past (of_order e)
 order_refused Past orders.OutOfMemory = tt

@@ -3,15 +3,15 @@ use Rattle.std.proofs.Common.{◌≡◌, ℕ, List, sym, subst}
 use Rattle.std.specs.Prelude.{Option, option_map}
 use Rattle.fsfs_base.specs.Files.{Files}
 use Rattle.fsfs_draft.specs.Drafts.{Folder}
-use Rattle.fsfs_txn_nodes.specs.Lists.{files_of}
-use Rattle.fsfs_txn_nodes.specs.Views.{folder_of}
+use Rattle.fsfs_txn_nodes.specs.Memory.Lists.{files_of}
+use Rattle.fsfs_txn_nodes.specs.Memory.Views.{folder_of}
 use Rattle.fsfs_machine.specs.declared.machine.Recorded.{Recorded}
 use Rattle.fsfs_machine.specs.declared.machine.Txn.{Txn}
-use Rattle.fsfs_commit.specs.declared.open_txn.OpenTxn.{OpenTxn}
-use Rattle.fsfs_commit.specs.declared.ended_txn.EndedTxn.{EndedTxn}
-use Rattle.fsfs_commit.specs.declared.txn_draft.Stage.{Stage}
-use Rattle.fsfs_commit.specs.declared.txn_draft.Stage.TheVariants.{Open, Ended}
-use Rattle.fsfs_commit.specs.Meaning.{Means, HoldsBehind, IfOpen, OfStage}
+use Rattle.fsfs_commit.specs.declared.transaction.open_txn.OpenTxn.{OpenTxn}
+use Rattle.fsfs_commit.specs.declared.transaction.ended_txn.EndedTxn.{EndedTxn}
+use Rattle.fsfs_commit.specs.declared.transaction.txn_draft.Stage.{Stage}
+use Rattle.fsfs_commit.specs.declared.transaction.txn_draft.Stage.TheVariants.{Open, Ended}
+use Rattle.fsfs_commit.specs.Transaction.Meaning.{Means, HoldsBehind, IfOpen, OfStage}
 
 -- what is settled of a transaction under way
 abbrev pub settled_in : {B : Type 0} {D : _} → (B → Option Files) → OpenTxn B D → Folder

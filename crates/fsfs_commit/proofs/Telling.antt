@@ -4,28 +4,28 @@ use Rattle.std.specs.Prelude.{◌≢◌, Contains, option_map, unwrap_or}
 use Rattle.std.specs.FinMap.{FinMap, get}
 use Rattle.fsfs_base.specs.Paths.{Path, path_cmp}
 use Rattle.fsfs_base.specs.declared.action.Action.TheVariants.{Delete}
-use Rattle.fsfs_base.specs.declared.txn_name.TxnName.{TxnName}
+use Rattle.fsfs_base.specs.declared.fields.txn_name.TxnName.{TxnName}
 use Rattle.fsfs_tree.specs.declared.change_map.Change.{Change}
-use Rattle.fsfs_model.specs.declared.mark.Mark.{Mark}
-use Rattle.fsfs_model.specs.Folding.{fold}
+use Rattle.fsfs_model.specs.declared.flat.mark.Mark.{Mark}
+use Rattle.fsfs_model.specs.Flat.Folding.{fold}
 use Rattle.fsfs_revision.specs.Told.{RevisionBytes}
 use Rattle.fsfs_noderev.specs.declared.node_id.NodeId.{NodeId}
 use Rattle.fsfs_noderev.specs.declared.node_id.Place.TheVariants as places
 use Rattle.fsfs_noderev.specs.declared.node_rev.NodeRev.{NodeRev}
-use Rattle.fsfs_noderev.specs.declared.item.ChangeItem.{ChangeItem}
+use Rattle.fsfs_noderev.specs.declared.changes.item.ChangeItem.{ChangeItem}
 use Rattle.fsfs_revision.specs.Nodes.{is_revision_id}
-use Rattle.fsfs_revision.specs.ShowsReading.{StandsAt}
-use Rattle.fsfs_revision.specs.Chains.{own_rev}
+use Rattle.fsfs_revision.specs.Shows.Reading.{StandsAt}
+use Rattle.fsfs_revision.specs.Shows.Chains.{own_rev}
 use Rattle.fsfs_stands.specs.Changes.{HasItems, Said, IsChangeOf, FitsTree, AreChangesOf}
 use Rattle.fsfs_draft.specs.Drafts.{AreItemsOf}
-use Rattle.fsfs_edit.specs.FoldedItems.{fold_items, item_at}
-use Rattle.fsfs_edit.specs.Marks.{Tells, AgreesWith}
-use Rattle.fsfs_final.specs.Naming.{FinalIds}
+use Rattle.fsfs_edit.specs.Folds.FoldedItems.{fold_items, item_at}
+use Rattle.fsfs_edit.specs.Folds.Marks.{Tells, AgreesWith}
+use Rattle.fsfs_final.specs.Pieces.Naming.{FinalIds}
 use Rattle.fsfs_final.proofs.OrderLists.{differ}
 use Rattle.fsfs_final.proofs.OwnChildren.{not_of_revision}
 use Rattle.fsfs_final.specs.FittingChanges.{ChangesFit}
-use Rattle.fsfs_commit.specs.Items.{told_item, AreFinalItems}
-use Rattle.fsfs_commit.specs.FinalBytes.{TellsItems}
+use Rattle.fsfs_commit.specs.FinalRev.Items.{told_item, AreFinalItems}
+use Rattle.fsfs_commit.specs.FinalRev.FinalBytes.{TellsItems}
 use Rattle.fsfs_commit.proofs.ItemLemmas.{told_at, told_agrees, told_id, told_delete, told_from, contained_at, at_contained, agreed, agreed_back}
 use Rattle.fsfs_txn.proofs.Saying.{say_marks}
 

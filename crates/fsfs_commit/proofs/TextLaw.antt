@@ -4,24 +4,24 @@ use Rattle.std.specs.Prelude.{Ok}
 use Rattle.std.proofs.lemmas.List.{length-append}
 use Rattle.std.proofs.lemmas.Option.{same_Some}
 use Rattle.fsfs_base.specs.Paths.{Path}
-use Rattle.fsfs_base.specs.declared.txn_name.TxnName.{TxnName}
+use Rattle.fsfs_base.specs.declared.fields.txn_name.TxnName.{TxnName}
 use Rattle.fsfs_tree.specs.Nodes.{TreeFunction, Content}
-use Rattle.fsfs_model.specs.declared.mark.Mark.{Mark}
-use Rattle.fsfs_model.specs.Landing.{land}
+use Rattle.fsfs_model.specs.declared.flat.mark.Mark.{Mark}
+use Rattle.fsfs_model.specs.Flat.Landing.{land}
 use Rattle.fsfs_revision.specs.Told.{RevisionBytes}
-use Rattle.fsfs_revision.specs.Bounded.{AreSameUpTo}
-use Rattle.fsfs_revision.specs.Trees as trees_shown
+use Rattle.fsfs_revision.specs.Ancestry.Bounded.{AreSameUpTo}
+use Rattle.fsfs_revision.specs.Ancestry.Trees as trees_shown
 use Rattle.fsfs_revision.proofs.Bounded.{back_same, stands_same_bytes, shows_same}
 use Rattle.fsfs_revision.proofs.BoundedIds.{ids_same}
 use Rattle.fsfs_revision.proofs.Revisions.{shown_revisions}
-use Rattle.fsfs_noderev.specs.declared.item.ChangeItem.{ChangeItem}
+use Rattle.fsfs_noderev.specs.declared.changes.item.ChangeItem.{ChangeItem}
 use Rattle.fsfs_noderev.specs.declared.node_id.NodeId.{NodeId}
 use Rattle.fsfs_noderev.specs.declared.node_rev.NodeRev.{NodeRev}
 use Rattle.fsfs_noderev.specs.declared.rep.Contents.{Contents}
-use Rattle.fsfs_layout.specs.Dump.{dump_text}
-use Rattle.fsfs_revision.specs.ShowsReading.{Pairs, StandsAt, PropsOf}
-use Rattle.fsfs_revision.specs.Shown.{IsTextOf, Shows}
-use Rattle.fsfs_revision.specs.Chains.{own_rev}
+use Rattle.fsfs_layout.specs.Hash.Dump.{dump_text}
+use Rattle.fsfs_revision.specs.Shows.Reading.{Pairs, StandsAt, PropsOf}
+use Rattle.fsfs_revision.specs.Shows.Shown.{IsTextOf, Shows}
+use Rattle.fsfs_revision.specs.Shows.Chains.{own_rev}
 use Rattle.fsfs_revision.proofs.TreeLaw.{stands_home}
 use Rattle.fsfs_draft.specs.Own.{OwnNode, Own, draft_tree}
 use Rattle.fsfs_draft.specs.Drafts.{Kept, Folder, IsDraft, ShowTrees, AreItemsOf, bare}
@@ -51,18 +51,18 @@ use Rattle.fsfs_final.proofs.KeepsIds.{written_keeps_ids}
 use Rattle.fsfs_final.proofs.LaidLaw.{loop_laws, some_text}
 use Rattle.fsfs_final.proofs.ShowsLanded.{written_shows_landing}
 use Rattle.fsfs_final.proofs.Written.{directories_are_enough}
-use Rattle.fsfs_final.specs.Endings.{IsEndPut, IsEnded}
-use Rattle.fsfs_final.specs.Naming.{FinalIds}
-use Rattle.fsfs_final.specs.Nodes.{HasList}
+use Rattle.fsfs_final.specs.Pieces.Endings.{IsEndPut, IsEnded}
+use Rattle.fsfs_final.specs.Pieces.Naming.{FinalIds}
+use Rattle.fsfs_final.specs.Pieces.Nodes.{HasList}
 use Rattle.fsfs_final.proofs.EndLaws.{put_ends_are_read}
 use Rattle.fsfs_final.proofs.ListLaws.{behind, put_behind}
-use Rattle.fsfs_final.specs.Orders.{IsOrder}
+use Rattle.fsfs_final.specs.Order.Orders.{IsOrder}
 use Rattle.fsfs_final.specs.Putting.{ArePut, no_ids}
 use Rattle.fsfs_final.specs.Laying.{IsCommittable, IsPut, AreLaid}
 use Rattle.fsfs_final.proofs.Turns.{puts_lay}
-use Rattle.fsfs_commit.specs.FinalBytes.{IsFinalBytes, IsNextRevision}
-use Rattle.fsfs_commit.specs.Items.{AreFinalItems}
-use Rattle.fsfs_commit.specs.Texts.{IsHandedOver, IsFinalText, offset_in, root_at}
+use Rattle.fsfs_commit.specs.FinalRev.FinalBytes.{IsFinalBytes, IsNextRevision}
+use Rattle.fsfs_commit.specs.FinalRev.Items.{AreFinalItems}
+use Rattle.fsfs_commit.specs.FinalRev.Texts.{IsHandedOver, IsFinalText, offset_in, root_at}
 use Rattle.fsfs_commit.proofs.Bare.{same_bare}
 use Rattle.fsfs_commit.proofs.Held as held
 use Rattle.fsfs_commit.proofs.Holding.{off_in}

@@ -7,8 +7,8 @@ use Rattle.fsfs_tree.specs.Nodes.{TreeFunction}
 use Rattle.fsfs_revision.specs.Told.{RevisionBytes}
 use Rattle.fsfs_noderev.specs.declared.node_rev.NodeRev.{NodeRev}
 use Rattle.fsfs_revision.proofs.OneAnswer.{ok_same}
-use Rattle.fsfs_revision.specs.ShowsReading.{ChildOf, MetFrom, StandsAt}
-use Rattle.fsfs_revision.specs.Shown.{Shows}
+use Rattle.fsfs_revision.specs.Shows.Reading.{ChildOf, MetFrom, StandsAt}
+use Rattle.fsfs_revision.specs.Shows.Shown.{Shows}
 use Rattle.fsfs_revision.proofs.OneNode.{root_of_one}
 use Rattle.fsfs_final.proofs.Written.{child_in}
 

@@ -2,14 +2,14 @@
 use Rattle.std.specs.Prelude.{◌≡◌, ◌<◌, ◌^◌, ℕ, List, [], ◌∷◌, ◌++◌, length, Bool, true, false, if◌then◌else◌, Some, None, Result, OnOk, IfErr}
 use Rattle.fsfs_tree.specs.Revisions.{Revision}
 use Rattle.fsfs_layout.specs.Small.{IsRevLine}
-use Rattle.fsfs_layout.specs.Dump.{IsDump}
+use Rattle.fsfs_layout.specs.Hash.Dump.{IsDump}
 use Rattle.fsfs_machine.specs.declared.machine.Coming.{Coming}
 use Rattle.fsfs_machine.specs.declared.machine.Txn.{Txn}
 use Rattle.fsfs_machine.specs.declared.machine.Section.{Section}
 use Rattle.fsfs_machine.specs.declared.machine.Section.TheVariants.{Doubtful, Over}
-use Rattle.fsfs_base.specs.declared.place.DiskPlace.TheVariants.{Commit}
-use Rattle.fsfs_base.specs.declared.place.CommitPlace.{CommitPlace}
-use Rattle.fsfs_base.specs.declared.place.CommitPlace.TheVariants.{RenameCurrent, FirmCurrent}
+use Rattle.fsfs_base.specs.declared.places.place.DiskPlace.TheVariants.{Commit}
+use Rattle.fsfs_base.specs.declared.places.place.CommitPlace.{CommitPlace}
+use Rattle.fsfs_base.specs.declared.places.place.CommitPlace.TheVariants.{RenameCurrent, FirmCurrent}
 use Rattle.fsfs_machine.specs.declared.machine.Step.{Step}
 use Rattle.fsfs_machine.specs.declared.machine.Step.TheVariants.{GiveLock, StickLock}
 use Rattle.fsfs_machine.specs.Machine.{reveals, with_next}

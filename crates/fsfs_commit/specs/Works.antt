@@ -2,7 +2,7 @@
 use Rattle.std.specs.Prelude.{◌≡◌, ◌⊎◌, ◌<◌, ◌≤◌, ℕ, List, length}
 use Rattle.std.specs.FinMap.{get}
 use Rattle.fsfs_base.specs.Paths.{Path}
-use Rattle.fsfs_model.specs.Landing.{land, NoClash}
+use Rattle.fsfs_model.specs.Flat.Landing.{land, NoClash}
 use Rattle.fsfs_tree.specs.Revisions.{tree_of}
 use Rattle.fsfs_tree.specs.Dated.{IsDated}
 use Rattle.fsfs_machine.specs.declared.machine.Recorded.{Recorded}

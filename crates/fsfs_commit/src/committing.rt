@@ -2,7 +2,7 @@
 //! youngest revision is another by then. The fourth takes the lock first, so it can't be lost.
 ghost use Rattle.std.specs.Prelude.{◌≡◌, ◌≤◌, ◌==◌, ℕ, List, true, None, IfOk, IfErr, OnOk};
 ghost use Rattle.fsfs_base.specs.Failures.{Rose};
-ghost use Rattle.fsfs_base.specs.declared.txn_name.TxnName.{TxnName};
+ghost use Rattle.fsfs_base.specs.declared.fields.txn_name.TxnName.{TxnName};
 ghost use Rattle.fsfs_tree.specs.Revisions.{Revision};
 ghost use Rattle.fsfs_machine.specs.declared.machine.Recorded.{Recorded};
 ghost use Rattle.fsfs_machine.specs.declared.machine.Txn.{Txn};

@@ -1,8 +1,8 @@
 //! What a commit is made of: a transaction, ready to be landed and written.
 ghost use Rattle.std.specs.Prelude.{◌≡◌, ◌≤◌, ◌+◌, ◌∷◌, [], ◌++◌, ℕ, List, Bool, true, take, length, IfOk, IfErr, OnOk};
-ghost use Rattle.fsfs_base.specs.declared.txn_name.TxnName.{TxnName};
+ghost use Rattle.fsfs_base.specs.declared.fields.txn_name.TxnName.{TxnName};
 ghost use Rattle.fsfs_tree.specs.Revisions.{Revision};
-ghost use Rattle.fsfs_model.specs.Transactions.{IsNext};
+ghost use Rattle.fsfs_model.specs.Flat.Transactions.{IsNext};
 ghost use Rattle.fsfs_machine.specs.declared.machine.Recorded.{Recorded};
 ghost use Rattle.fsfs_machine.specs.declared.machine.Txn.{Txn};
 ghost use Rattle.fsfs_machine.specs.Machine.{revisions, entry_of};

@@ -1,14 +1,14 @@
 //! What is done with the write lock held: from the revision's file to the reveal.
 ghost use Rattle.std.specs.Prelude.{◌≡◌, ℕ, List, true, Some, length, IfErr, OnOk, OnErr};
 ghost use Rattle.fsfs_layout.specs.FileNames.{only_name};
-ghost use Rattle.fsfs_base.specs.declared.txn_name.TxnName.{TxnName};
+ghost use Rattle.fsfs_base.specs.declared.fields.txn_name.TxnName.{TxnName};
 ghost use Rattle.fsfs_tree.specs.Revisions.{Revision};
 ghost use Rattle.fsfs_base.specs.Failures.{HasCause};
 ghost use Rattle.fsfs_disk.specs.Trace.{Put};
 ghost use Rattle.fsfs_machine.specs.declared.machine.Coming.{Coming};
 ghost use Rattle.fsfs_machine.specs.declared.machine.Recorded.{Recorded};
 ghost use Rattle.fsfs_machine.specs.declared.machine.Txn.{Txn};
-ghost use Rattle.fsfs_base.specs.declared.place.DiskPlace.{DiskPlace as SpecPlace};
+ghost use Rattle.fsfs_base.specs.declared.places.place.DiskPlace.{DiskPlace as SpecPlace};
 ghost use Rattle.fsfs_machine.specs.declared.machine.Section.TheVariants.{RevPut, PropsPut, RevFirm, CurrentPut, CurrentRenamed, CurrentFirm};
 ghost use Rattle.fsfs_machine.specs.declared.machine.Went.TheVariants.{Before};
 ghost use Rattle.fsfs_turn.specs.Adoptions.{NeedsFolder};

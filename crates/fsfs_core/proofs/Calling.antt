@@ -9,23 +9,23 @@ use Rattle.std.specs.Map.{lookup}
 use Rattle.std.specs.BTreeMap.{is_at}
 use Rattle.std.specs.Cmp.Lexicographic.{slice_cmp}
 use Rattle.std.specs.Ordering.{nat_cmp}
-use Rattle.fsfs_base.specs.Dates.{IsDateText}
-use Rattle.fsfs_model.specs.declared.edit.Edit.{Edit}
-use Rattle.fsfs_model.specs.declared.mark.Mark.{Mark}
+use Rattle.fsfs_base.specs.Fields.Dates.{IsDateText}
+use Rattle.fsfs_model.specs.declared.flat.edit.Edit.{Edit}
+use Rattle.fsfs_model.specs.declared.flat.mark.Mark.{Mark}
 use Rattle.fsfs_base.specs.Paths.{Path, path_cmp}
 use Rattle.fsfs_tree.specs.Nodes.{Node}
-use Rattle.fsfs_model.specs.Edits.{applied, mark_of}
-use Rattle.fsfs_model.specs.Landing.{land, NoClash, IsFirstClash}
+use Rattle.fsfs_model.specs.Flat.Edits.{applied, mark_of}
+use Rattle.fsfs_model.specs.Flat.Landing.{land, NoClash, IsFirstClash}
 use Rattle.fsfs_tree.specs.Revisions.{Revision, tree_of}
 use Rattle.fsfs_tree.specs.Dated.{IsDated, date_name}
-use Rattle.fsfs_model.specs.Transactions.{IsNext}
+use Rattle.fsfs_model.specs.Flat.Transactions.{IsNext}
 use Rattle.fsfs_machine.specs.declared.contents.NameChange.{NameChange}
 use Rattle.fsfs_machine.specs.declared.contents.FileName.TheVariants.{Rev}
 use Rattle.fsfs_machine.specs.declared.contents.NameChange.TheVariants.{Put}
 use Rattle.fsfs_machine.specs.declared.machine.Coming.{Coming}
-use Rattle.fsfs_base.specs.declared.place.DiskPlace.{DiskPlace}
-use Rattle.fsfs_base.specs.declared.place.DiskPlace.TheVariants.{Commit}
-use Rattle.fsfs_base.specs.declared.place.CommitPlace.TheVariants.{PutRev}
+use Rattle.fsfs_base.specs.declared.places.place.DiskPlace.{DiskPlace}
+use Rattle.fsfs_base.specs.declared.places.place.DiskPlace.TheVariants.{Commit}
+use Rattle.fsfs_base.specs.declared.places.place.CommitPlace.TheVariants.{PutRev}
 use Rattle.fsfs_machine.specs.declared.machine.Recorded.{Recorded}
 use Rattle.fsfs_machine.specs.declared.machine.Txn.{Txn}
 use Rattle.fsfs_machine.specs.declared.machine.Section.{Section}

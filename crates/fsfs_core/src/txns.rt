@@ -1,12 +1,12 @@
 //! Transactions: their trees and marks, and what committing them adds.
 ghost use Rattle.std.specs.Prelude.{◌≡◌, ◌+◌, ◌<◌, ◌≤◌, ◌++◌, ◌∷◌, [], length, slice_get, List, ℕ, OnOk, OnErr, IfOk, IfSome, MatchOption, MatchResult, Some, None, IsTrue, ◌↔◌};
 ghost use Rattle.std.specs.FinMap as finmap;
-ghost use Rattle.fsfs_base.specs.RevNums.{last_rev};
+ghost use Rattle.fsfs_base.specs.Fields.RevNums.{last_rev};
 ghost use Rattle.fsfs_base.specs.Paths.{Path};
-ghost use Rattle.fsfs_model.specs.Landing.{land, NoClash, IsFirstClash};
+ghost use Rattle.fsfs_model.specs.Flat.Landing.{land, NoClash, IsFirstClash};
 ghost use Rattle.fsfs_tree.specs.Revisions.{Revision as Stands, tree_of};
 ghost use Rattle.fsfs_tree.specs.Dated.{IsDated, last_of};
-ghost use Rattle.fsfs_model.specs.Transactions.{IsNext};
+ghost use Rattle.fsfs_model.specs.Flat.Transactions.{IsNext};
 ghost use Rattle.fsfs_machine.specs.Machine.{tree_in, entry_of};
 ghost use Rattle.fsfs_core.specs.Commits.{GivesEdit};
 

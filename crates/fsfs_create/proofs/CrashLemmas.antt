@@ -5,15 +5,15 @@ use Rattle.std.specs.Ordering.{nat_cmp, is_eq}
 use Rattle.std.specs.Cmp.Lexicographic.{slice_cmp}
 use Rattle.std.specs.FinMap.{get, insert, remove}
 use Rattle.fsfs_base.specs.Files.{Files, NamedFile, renamed}
-use Rattle.fsfs_base.specs.Dates.{IsDateAt}
+use Rattle.fsfs_base.specs.Fields.Dates.{IsDateAt}
 use Rattle.fsfs_base.proofs.FileLemmas.{get_new, get_kept, apart_by, remove-insert_same}
 use Rattle.fsfs_disk.specs.Trace.{Trace, Put, Rename, FirmNames, Done, IsImage, add_operation, files_now, Performs, FailsAt, FailsToPut}
 use Rattle.fsfs_disk.specs.Crash.{AllImages, IsFirm, Leaves, KeepsImages}
 use Rattle.fsfs_disk.proofs.CrashLemmas.{leaves_at, leaves_then, leaves_with, keeps_then, keeps_put, keeps_failed_put, keeps_firm, same_keeps, same_leaves, firm_after, Stable}
 use Rattle.fsfs_layout.specs.CreatedFiles.{format_text, unpublished_files, created_over}
 use Rattle.fsfs_create.specs.Creation.{after_puts, after_firm, after_next, after_rename, after_publishing, after_creation, StopsInPuts, StopsPublishing, StopsAt, IsUnpublished, IsNoneOrWhole}
-use Rattle.fsfs_base.specs.declared.place.CreatePlace.{CreatePlace}
-use Rattle.fsfs_base.specs.declared.place.CreatePlace.TheVariants as place
+use Rattle.fsfs_base.specs.declared.places.place.CreatePlace.{CreatePlace}
+use Rattle.fsfs_base.specs.declared.places.place.CreatePlace.TheVariants as place
 use Rattle.fsfs_create.proofs.CreatedFilesLemmas.{files_now-after_publishing, files_now-after_creation}
 use Rattle.fsfs_layout.proofs.NamedFiles.{lacks, first_apart, lacks_rest}
 

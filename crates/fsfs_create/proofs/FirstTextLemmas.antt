@@ -7,19 +7,19 @@ use Rattle.fsfs_base.specs.declared.small_fault.SmallFault.{SmallFault}
 use Rattle.fsfs_base.specs.declared.small_fault.SmallFile.{SmallFile}
 use Rattle.fsfs_layout.specs.Formats.{IsFormat, IsOurFormat}
 use Rattle.fsfs_layout.specs.Small.{IsUuid, IsRevLine, IsBase36Line, IsRefusedFile, IsMinUnpackedFault}
-use Rattle.fsfs_layout.specs.declared.format_file.Format.{Format}
-use Rattle.fsfs_layout.specs.declared.format_file.Format.TheVariants.{Linear, Sharded, Other}
+use Rattle.fsfs_layout.specs.declared.small_files.format_file.Format.{Format}
+use Rattle.fsfs_layout.specs.declared.small_files.format_file.Format.TheVariants.{Linear, Sharded, Other}
 use Rattle.fsfs_layout.specs.declared.layout.Layout.{Layout}
 use Rattle.fsfs_layout.specs.declared.opened.Opened.{Opened}
 use Rattle.fsfs_layout.specs.Opening.{SmallTexts, IsFsfs, IsNone, IsOpened, IsOpenedBehind, IsRefused, IsRefusedFormat, IsRefusedBehind, IsPastYoungest}
-use Rattle.fsfs_disk.specs.FirstBytes.{IsShorter}
+use Rattle.fsfs_disk.specs.WholeFiles.FirstBytes.{IsShorter}
 use Rattle.fsfs_disk.proofs.FirstBytesLemmas.{all_of_short, text_of_first, first_of_text, fault_of_first}
 use Rattle.fsfs_create.specs.FirstTexts.{first_texts}
 use Rattle.fsfs_create.specs.Deciding.{Decides}
 use Rattle.fsfs_create.specs.OpenFaults.{JudgedBecause}
 use Rattle.fsfs_create.proofs.ShortTexts.{decimal_line_short, rev_line_short, base36_line_short, uuid_short, our_format_short}
-use Rattle.fsfs_base.specs.declared.open_fault.OpenFault.{OpenFault}
-use Rattle.fsfs_base.specs.declared.open_fault.OpenFault.TheVariants as why_not
+use Rattle.fsfs_base.specs.declared.places.open_fault.OpenFault.{OpenFault}
+use Rattle.fsfs_base.specs.declared.places.open_fault.OpenFault.TheVariants as why_not
 
 -- ---- db/format, behind whose number anything may stand in another format
 

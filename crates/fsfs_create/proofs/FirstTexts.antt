@@ -4,8 +4,8 @@ use Rattle.std.specs.Prelude.{codes, is_some, unwrap_or}
 use Rattle.std.proofs.lemmas.Option.{same_Some}
 use Rattle.std.specs.List.{flat_map}
 use Rattle.hex.specs.Hex.{encode_lower, decode_pairs}
-use Rattle.fsfs_base.specs.Grammar.{Appends}
-use Rattle.fsfs_base.specs.Numeral.{IsPlain, IsNumeral, numeral_at, plain_at}
+use Rattle.fsfs_base.specs.Grammar.Relations.{Appends}
+use Rattle.fsfs_base.specs.Grammar.Numeral.{IsPlain, IsNumeral, numeral_at, plain_at}
 use Rattle.fsfs_base.proofs.Numerals.{numeral_found}
 use Rattle.fsfs_base.proofs.Unique.{numeral_same}
 use Rattle.fsfs_base.specs.declared.kind.Kind.{Kind}

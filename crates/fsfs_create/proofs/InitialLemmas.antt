@@ -2,12 +2,12 @@
 use Rattle.std.proofs.Common.{◌≡◌, ℕ, List, [], ◌∷◌, ◌++◌, length, refl, sym, ap, ◌∙◌, append_assoc, arith}
 use Rattle.std.proofs.lemmas.List.{append-nil}
 use Rattle.fsfs_base.proofs.Unique.{numeral_decimal}
-use Rattle.fsfs_layout.specs.Dump.{dump_text}
+use Rattle.fsfs_layout.specs.Hash.Dump.{dump_text}
 use Rattle.fsfs_layout.specs.CreatedFiles.{date_properties}
 use Rattle.std.specs.Prelude.{codes, decimal}
 use Rattle.std.proofs.Math.Nat.{zero-div}
 use Rattle.std.proofs.lemmas.Fmt.{decimal_digit}
-use Rattle.fsfs_base.specs.Numeral.{numeral_at, plain_at}
+use Rattle.fsfs_base.specs.Grammar.Numeral.{numeral_at, plain_at}
 use Rattle.fsfs_base.proofs.Numerals.{numeral_one, numeral_found}
 use Rattle.fsfs_base.proofs.Unique.{numeral_same}
 use Rattle.fsfs_base.specs.Files.{NamedFile}

@@ -5,12 +5,12 @@ use Rattle.std.specs.Result.{is_err}
 use Rattle.std.proofs.lemmas.Option.{same_Some}
 use Rattle.fsfs_base.specs.Files.{Files}
 use Rattle.fsfs_base.specs.declared.small_fault.SmallFault.{SmallFault}
-use Rattle.fsfs_base.specs.Grammar.{begins}
+use Rattle.fsfs_base.specs.Grammar.Relations.{begins}
 use Rattle.std.proofs.lemmas.Fmt.{decimal_digit}
 use Rattle.fsfs_base.proofs.Unique.{numeral_decimal}
 use Rattle.fsfs_disk.specs.Trace.{Trace, Performs, FailsAt, FirmNames, Done, Attempted, add_operation, files_now}
 use Rattle.fsfs_layout.specs.Formats.{IsCount, IsFormat}
-use Rattle.fsfs_layout.specs.declared.format_file.Format.TheVariants.{Linear, Sharded, Other}
+use Rattle.fsfs_layout.specs.declared.small_files.format_file.Format.TheVariants.{Linear, Sharded, Other}
 use Rattle.fsfs_layout.specs.Small.{IsUuid, IsRevLine, IsMinUnpackedRev, IsBase36Line, IsRefusedFile, IsMinUnpackedFault}
 use Rattle.fsfs_base.specs.declared.small_fault.SmallFile.TheVariants as file
 use Rattle.fsfs_layout.specs.declared.layout.Layout.{Layout}
@@ -18,8 +18,8 @@ use Rattle.fsfs_layout.specs.Opening.{SmallTexts, small_texts, IsRefusedBehind, 
 use Rattle.fsfs_create.specs.FirstTexts.{first_texts}
 use Rattle.fsfs_create.specs.OpenFaults.{JudgedBecause, OpensBecause}
 use Rattle.fsfs_create.proofs.FirstTextLemmas.{because_of_first}
-use Rattle.fsfs_base.specs.declared.open_fault.OpenFault.{OpenFault}
-use Rattle.fsfs_base.specs.declared.open_fault.OpenFault.TheVariants as why_not
+use Rattle.fsfs_base.specs.declared.places.open_fault.OpenFault.{OpenFault}
+use Rattle.fsfs_base.specs.declared.places.open_fault.OpenFault.TheVariants as why_not
 
 pub refused_uuid : (n : Layout) (s : SmallTexts) (u : List ℕ) (fault : SmallFault) → u ≡ s.uuid → IsRefusedFile file.Uuid IsUuid u fault → IsRefusedBehind n s fault
 refused_uuid n s u fault su iu = inl (subst (λ t. IsRefusedFile file.Uuid IsUuid t fault) su iu)

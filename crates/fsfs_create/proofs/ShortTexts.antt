@@ -2,13 +2,13 @@
 use Rattle.std.proofs.Common.{◌≡◌, ℕ, ◌≤◌, ◌+◌, List, [], ◌∷◌, length, sym, ap, subst, ◌∙◌, ⊎_elim, arith}
 use Rattle.std.proofs.lemmas.List.{length-append}
 use Rattle.std.proofs.lemmas.Fmt.{length-decimal-le}
-use Rattle.fsfs_base.specs.Numeral.{IsNumber}
+use Rattle.fsfs_base.specs.Grammar.Numeral.{IsNumber}
 use Rattle.fsfs_base.proofs.Unique.{numeral_decimal}
 use Rattle.fsfs_base.proofs.Base36Texts.{numeral_base36, length-last_digits}
 use Rattle.fsfs_layout.specs.Formats.{IsLayout, IsOurFormat}
 use Rattle.fsfs_layout.specs.Small.{IsUuid, IsRevLine, IsBase36Line}
-use Rattle.fsfs_layout.specs.declared.format_file.Format.{Format}
-use Rattle.fsfs_disk.specs.FirstBytes.{IsShorter}
+use Rattle.fsfs_layout.specs.declared.small_files.format_file.Format.{Format}
+use Rattle.fsfs_disk.specs.WholeFiles.FirstBytes.{IsShorter}
 
 -- a number of 64 bits has at most 20 digits
 pub decimal_line_short : (limit end : ℕ) (text : List ℕ) (n : ℕ) → limit ≤ 18446744073709551615 → IsNumber 10 limit end text n → length text ≤ 21

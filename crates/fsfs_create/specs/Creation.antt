@@ -2,19 +2,19 @@
 use Rattle.std.specs.Prelude.{◌≡◌, ◌⊎◌, ℕ, List, [], ◌∷◌, ◌++◌, Option, None, IfSome, IsSome, option_map}
 use Rattle.std.specs.FinMap.{get}
 use Rattle.fsfs_base.specs.Files.{Files, NamedFile}
-use Rattle.fsfs_base.specs.Dates.{IsDateAt}
+use Rattle.fsfs_base.specs.Fields.Dates.{IsDateAt}
 use Rattle.fsfs_disk.specs.Trace.{Trace, add_operation, files_now, file_at, FailsAt, FailsToPut}
 use Rattle.fsfs_disk.specs.Trace.Operation.{Done}
 use Rattle.fsfs_disk.specs.Trace.NameChange.{Put, Rename, FirmNames}
 use Rattle.fsfs_layout.specs.FileNames.{only_name}
 use Rattle.fsfs_layout.specs.declared.only_file.OnlyFile.TheVariants.{Format, FormatNext}
 use Rattle.fsfs_layout.specs.CreatedFiles.{unpublished_files, format_text, created_over}
-use Rattle.fsfs_base.specs.declared.create_fault.CreateFault.{CreateFault}
-use Rattle.fsfs_base.specs.declared.create_fault.CreateFault.TheVariants.{AlreadyRepo, DiskFault, Memory}
-use Rattle.fsfs_base.specs.declared.place.DiskPlace.{DiskPlace}
-use Rattle.fsfs_base.specs.declared.place.DiskPlace.TheVariants.{Read, Create}
-use Rattle.fsfs_base.specs.declared.place.CreatePlace.{CreatePlace}
-use Rattle.fsfs_base.specs.declared.place.CreatePlace.TheVariants as place
+use Rattle.fsfs_base.specs.declared.places.create_fault.CreateFault.{CreateFault}
+use Rattle.fsfs_base.specs.declared.places.create_fault.CreateFault.TheVariants.{AlreadyRepo, DiskFault, Memory}
+use Rattle.fsfs_base.specs.declared.places.place.DiskPlace.{DiskPlace}
+use Rattle.fsfs_base.specs.declared.places.place.DiskPlace.TheVariants.{Read, Create}
+use Rattle.fsfs_base.specs.declared.places.place.CreatePlace.{CreatePlace}
+use Rattle.fsfs_base.specs.declared.places.place.CreatePlace.TheVariants as place
 
 -- these files were put, in order
 abbrev pub after_puts : List NamedFile → Trace → Trace

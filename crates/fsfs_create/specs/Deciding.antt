@@ -3,8 +3,8 @@ use Rattle.std.specs.Prelude.{◌≡◌, ℕ, Result, Ok, Err, ◌⊎◌}
 use Rattle.fsfs_layout.specs.Opening.{SmallTexts, IsOpened, IsNone, HasFormat, IsLinear}
 use Rattle.fsfs_create.specs.OpenFaults.{IfOutside}
 use Rattle.fsfs_layout.specs.declared.opened.Opened.{Opened}
-use Rattle.fsfs_base.specs.declared.open_fault.OpenFault.{OpenFault}
-use Rattle.fsfs_base.specs.declared.open_fault.OpenFault.TheVariants.{NotRepo, OtherFormat, Linear}
+use Rattle.fsfs_base.specs.declared.places.open_fault.OpenFault.{OpenFault}
+use Rattle.fsfs_base.specs.declared.places.open_fault.OpenFault.TheVariants.{NotRepo, OtherFormat, Linear}
 
 -- a failure of the outside, or want of memory
 abbrev pub IsOutside : OpenFault → Type 0

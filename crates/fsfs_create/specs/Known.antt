@@ -4,7 +4,7 @@ use Rattle.fsfs_tree.specs.Revisions.{Revision}
 use Rattle.fsfs_layout.specs.Opening.{SmallTexts}
 use Rattle.fsfs_layout.specs.declared.opened.Opened.{Opened}
 use Rattle.fsfs_disk.specs.Trace.{Trace}
-use Rattle.fsfs_base.specs.declared.open_fault.OpenFault.{OpenFault}
+use Rattle.fsfs_base.specs.declared.places.open_fault.OpenFault.{OpenFault}
 use Rattle.fsfs_create.specs.Deciding.{Decides}
 use Rattle.fsfs_machine.specs.Machine.{first_pass, revisions}
 use Rattle.fsfs_turn.specs.Views.{View}

@@ -1,7 +1,7 @@
 -- What the files of a creation stand for.
 use Rattle.std.specs.Prelude.{◌≡◌, ◌⊎◌, ℕ, List}
 use Rattle.fsfs_base.specs.Files.{Files}
-use Rattle.fsfs_base.specs.Dates.{IsDateAt}
+use Rattle.fsfs_base.specs.Fields.Dates.{IsDateAt}
 use Rattle.fsfs_tree.specs.Answers.{new_history}
 use Rattle.fsfs_stands.specs.Files.{StandsFor}
 use Rattle.fsfs_create.specs.Creation.{IsUnpublished}

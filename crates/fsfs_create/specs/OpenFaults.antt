@@ -3,13 +3,13 @@ use Rattle.std.specs.Prelude.{Option, IfSome, option_map, ◌≡◌}
 use Rattle.fsfs_disk.specs.Trace.{Trace, files_now}
 use Rattle.fsfs_layout.specs.Opening.{SmallTexts, small_texts, IsNone, HasFormat, IsLinear, IsRefused}
 use Rattle.fsfs_create.specs.declared.opening.SmallFiles.{SmallFiles}
-use Rattle.fsfs_base.specs.declared.open_fault.OpenFault.{OpenFault}
-use Rattle.fsfs_base.specs.declared.open_fault.OpenFault.TheVariants.{NotRepo, OtherFormat, Linear, Small, DiskFault, Memory}
-use Rattle.fsfs_disk.specs.declared.file_fault.FileFault.{FileFault}
-use Rattle.fsfs_disk.specs.declared.file_fault.FileFault.TheVariants as file
-use Rattle.fsfs_base.specs.declared.place.DiskPlace.{DiskPlace}
-use Rattle.fsfs_base.specs.declared.place.DiskPlace.TheVariants.{Open}
-use Rattle.fsfs_base.specs.declared.place.OpenPlace.TheVariants as place
+use Rattle.fsfs_base.specs.declared.places.open_fault.OpenFault.{OpenFault}
+use Rattle.fsfs_base.specs.declared.places.open_fault.OpenFault.TheVariants.{NotRepo, OtherFormat, Linear, Small, DiskFault, Memory}
+use Rattle.fsfs_disk.specs.declared.whole_files.file_fault.FileFault.{FileFault}
+use Rattle.fsfs_disk.specs.declared.whole_files.file_fault.FileFault.TheVariants as file
+use Rattle.fsfs_base.specs.declared.places.place.DiskPlace.{DiskPlace}
+use Rattle.fsfs_base.specs.declared.places.place.DiskPlace.TheVariants.{Open}
+use Rattle.fsfs_base.specs.declared.places.place.OpenPlace.TheVariants as place
 
 abbrev pub texts_of : SmallFiles → SmallTexts
 texts_of s = record {

@@ -6,9 +6,9 @@
 mod creation;
 mod first_revision;
 mod initial;
-mod opened_store_opening;
 mod opening;
+mod store_opening;
 
 pub use creation::create;
-pub use opened_store_opening::{OpenedStore, Unopened, open_store};
 pub use opening::open;
+pub use store_opening::{OpenedStore, Unopened, open_store};

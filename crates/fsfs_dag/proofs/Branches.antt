@@ -3,10 +3,10 @@ use Rattle.std.proofs.Common.{◌≡◌, ◌<◌, ◌≤◌, ℕ, Bool, true, fa
 use Rattle.std.specs.Prelude.{Option, nat_lt}
 use Rattle.std.proofs.lemmas.Bool.{and_parts}
 use Rattle.fsfs_base.specs.Paths.{PathName}
-use Rattle.fsfs_revision.specs.ShowsReading.{DirEntry, named}
-use Rattle.fsfs_dag.specs.declared.tree.Tree.{Tree}
-use Rattle.fsfs_dag.specs.Lists.{IsChangedList, IsSameList, kept_names, all_names, is_below, is_from}
-use Rattle.fsfs_dag.specs.Trees.{values, is_sorted}
+use Rattle.fsfs_revision.specs.Shows.Reading.{DirEntry, named}
+use Rattle.fsfs_dag.specs.declared.listing.tree.Tree.{Tree}
+use Rattle.fsfs_dag.specs.Listing.Lists.{IsChangedList, IsSameList, kept_names, all_names, is_below, is_from}
+use Rattle.fsfs_dag.specs.Listing.Trees.{values, is_sorted}
 use Rattle.fsfs_dag.proofs.Lists.{kept_is}
 use Rattle.fsfs_dag.proofs.Changing.{same_parts, low_named, high_named, low_changed, high_changed}
 

@@ -7,8 +7,8 @@ use Rattle.std.proofs.lemmas.List.Folds.{list_all-append}
 use Rattle.std.proofs.lemmas.List.Filters.{length-filter_both}
 use Rattle.fsfs_base.specs.Paths.{PathName, same_name}
 use Rattle.fsfs_base.proofs.PathLemmas.{same_name-is, same_name-symm}
-use Rattle.fsfs_revision.specs.ShowsReading.{DirEntry, named}
-use Rattle.fsfs_dag.specs.Lists.{IsPut, IsChangedList, IsSameList, kept_names, all_names, is_other, is_below, is_from}
+use Rattle.fsfs_revision.specs.Shows.Reading.{DirEntry, named}
+use Rattle.fsfs_dag.specs.Listing.Lists.{IsPut, IsChangedList, IsSameList, kept_names, all_names, is_other, is_below, is_from}
 use Rattle.fsfs_dag.proofs.Lists.{or_other, or_none, named_append, none_named, kept_named, kept_all, count_others}
 
 all_append : (is : PathName → Bool) (a b : List DirEntry) → all_names is (a ++ b) ≡ (all_names is a && all_names is b)

@@ -3,7 +3,7 @@ use Rattle.std.proofs.Common.{◌≡◌, ◌∙◌, ◌+◌, ◌<◌, ℕ, lengt
 use Rattle.std.specs.Prelude.{if◌then◌else◌}
 use Rattle.std.proofs.lemmas.List.{take_more, map_push}
 use Rattle.fsfs_base.specs.Paths.{PathName, same_name}
-use Rattle.fsfs_revision.specs.ShowsReading.{DirEntry, named}
+use Rattle.fsfs_revision.specs.Shows.Reading.{DirEntry, named}
 use Rattle.fsfs_dag.specs.declared.directory.DirEntry.{DirEntry as Listed}
 use Rattle.fsfs_dag.specs.Views.{entry_value, entry_values}
 

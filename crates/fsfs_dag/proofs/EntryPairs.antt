@@ -8,8 +8,8 @@ use Rattle.std.specs.BTreeMap.{insert_entry, is_at}
 use Rattle.std.specs.Map.{lookup, remove_entry}
 use Rattle.fsfs_base.specs.Paths.{PathName, same_name}
 use Rattle.fsfs_base.proofs.PathLemmas.{same_name-is}
-use Rattle.fsfs_layout.specs.Dump.{Ascending}
-use Rattle.fsfs_revision.specs.ShowsReading.{Pairs, DirEntry, named}
+use Rattle.fsfs_layout.specs.Hash.Dump.{Ascending}
+use Rattle.fsfs_revision.specs.Shows.Reading.{Pairs, DirEntry, named}
 use Rattle.fsfs_revision.proofs.PairLookups.{text_cmp, swapped, tests_one, found_put}
 use Rattle.fsfs_dag.proofs.EntryLists.{pushed, named_push}
 use Rattle.fsfs_dag.specs.Entries.{IsEntryText, SaysEntry, LeadTo, HasTaken}

@@ -10,7 +10,7 @@ use Rattle.fsfs_base.specs.Paths.{PathName, same_name}
 use Rattle.fsfs_base.proofs.PathLemmas.{same_name-refl, same_name-is}
 use Rattle.fsfs_revision.specs.declared.damage.RevOffset.{RevOffset}
 use Rattle.fsfs_revision.specs.Nodes.{is_revision_id}
-use Rattle.fsfs_revision.specs.ShowsReading.{Pairs, DirEntry, IsEntryValue, AreEntries, named}
+use Rattle.fsfs_revision.specs.Shows.Reading.{Pairs, DirEntry, IsEntryValue, AreEntries, named}
 use Rattle.fsfs_revision.specs.EntryRooms.{pair_room, pairs_room, entry_room, entries_room}
 use Rattle.fsfs_revision.proofs.PairLookups.{text_cmp, equal_is, equal_of, twice, swapped}
 use Rattle.fsfs_dag.proofs.EntryLists.{pushed, named_push}

@@ -5,10 +5,10 @@ use Rattle.std.proofs.lemmas.Bool.{and_parts}
 use mathlib.Core.Bool.{false≢true}
 use Rattle.fsfs_base.specs.Paths.{PathName, same_name}
 use Rattle.fsfs_base.proofs.PathLemmas.{same_name-is}
-use Rattle.fsfs_revision.specs.ShowsReading.{DirEntry, named}
-use Rattle.fsfs_dag.specs.declared.target.Target.{Target}
-use Rattle.fsfs_dag.specs.Lists.{kept_names, all_names, is_other}
-use Rattle.fsfs_dag.specs.Targets.{target_entry}
+use Rattle.fsfs_revision.specs.Shows.Reading.{DirEntry, named}
+use Rattle.fsfs_dag.specs.declared.listing.target.Target.{Target}
+use Rattle.fsfs_dag.specs.Listing.Lists.{kept_names, all_names, is_other}
+use Rattle.fsfs_dag.specs.Listing.Targets.{target_entry}
 
 -- what was found, or else the other
 abbrev pub or_other : Option DirEntry → Option DirEntry → Option DirEntry

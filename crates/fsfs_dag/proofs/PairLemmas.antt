@@ -11,14 +11,14 @@ use Rattle.fsfs_revision.specs.declared.wrong.ReadError.{ReadError}
 use Rattle.fsfs_revision.specs.declared.wrong.ReadError.TheVariants as errors
 use Rattle.fsfs_revision.specs.declared.damage.DamageKind.TheVariants as what
 use Rattle.fsfs_revision.specs.declared.damage.RepWhat.TheVariants as repwhat
-use Rattle.fsfs_revision.specs.DamageDamages.{damaged}
-use Rattle.fsfs_revision.specs.Readings.{AndThen, Answers}
+use Rattle.fsfs_revision.specs.Damage.Damages.{damaged}
+use Rattle.fsfs_revision.specs.Damage.Readings.{AndThen, Answers}
 use Rattle.fsfs_noderev.specs.Fields.{IsIdText}
 use Rattle.fsfs_noderev.specs.declared.node_id.NodeId.{NodeId}
-use Rattle.fsfs_revision.specs.Frames.{bad_rep}
+use Rattle.fsfs_revision.specs.Rep.Frames.{bad_rep}
 use Rattle.fsfs_revision.proofs.HeaderLemmas.{head_same}
 use Rattle.fsfs_revision.proofs.OneEntry.{value_one}
-use Rattle.fsfs_revision.specs.ShowsReading.{DirEntry as EntryValue, IsEntryName, IsEntryValue, IsEntry, AreEntries, FirstPairFails, kind_word, EntriesIn, EntriesOf, ChildOf, OfNamed, OfEntry, named, offset_of}
+use Rattle.fsfs_revision.specs.Shows.Reading.{DirEntry as EntryValue, IsEntryName, IsEntryValue, IsEntry, AreEntries, FirstPairFails, kind_word, EntriesIn, EntriesOf, ChildOf, OfNamed, OfEntry, named, offset_of}
 use Rattle.fsfs_base.specs.Paths.{PathName, same_name}
 use Rattle.fsfs_base.specs.declared.kind.Kind.{Kind}
 use Rattle.fsfs_base.specs.declared.kind.Kind.TheVariants.{File, Dir}

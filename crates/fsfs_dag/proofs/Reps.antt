@@ -7,16 +7,16 @@ use Rattle.fsfs_revision.specs.declared.wrong.Refusal.{Refusal}
 use Rattle.fsfs_revision.specs.declared.wrong.Wrong.{Wrong}
 use Rattle.fsfs_revision.specs.declared.wrong.ReadError.{ReadError}
 use Rattle.fsfs_revision.specs.declared.wrong.ReadError.TheVariants as errors
-use Rattle.fsfs_revision.specs.Readings.{Answers}
+use Rattle.fsfs_revision.specs.Damage.Readings.{Answers}
 use Rattle.fsfs_revision.proofs.Answering.{err_as}
 use Rattle.fsfs_revision.specs.Told.{RevisionBytes}
 use Rattle.fsfs_noderev.specs.declared.rep.Rep.{Rep}
 use Rattle.fsfs_noderev.specs.declared.rep.Contents.{Contents}
 use Rattle.fsfs_noderev.specs.declared.rep.Contents.TheVariants as contents
-use Rattle.fsfs_revision.specs.Faults.{IsRefusedFor}
-use Rattle.fsfs_revision.specs.Frames.{rev_of, text_of, IsWhole, IsTextOf, IsFaultOf}
+use Rattle.fsfs_revision.specs.Rep.Faults.{IsRefusedFor}
+use Rattle.fsfs_revision.specs.Rep.Frames.{rev_of, text_of, IsWhole, IsTextOf, IsFaultOf}
 use Rattle.fsfs_revision.specs.Nodes.{is_before, rep_place_before}
-use Rattle.fsfs_revision.specs.ShowsReading.{RepAt, OfContents}
+use Rattle.fsfs_revision.specs.Shows.Reading.{RepAt, OfContents}
 
 module _ (look : RevisionBytes) (rep : Rep) where
   found_in : (read : Result (List ℕ) Refusal) (text : List ℕ) → look (rev_of rep) ≡ read → ((bytes : List ℕ) → read ≡ Ok bytes → (text ≡ text_of rep bytes) × IsWhole rep bytes) → ((why : Refusal) → read ≡ Err why → ⊥) → RepAt look rep (Ok text)

@@ -7,10 +7,10 @@ use Rattle.fsfs_noderev.specs.declared.node_rev.NodeRev.{NodeRev}
 use Rattle.fsfs_revision.specs.declared.damage.RevOffset.{RevOffset}
 use Rattle.fsfs_revision.specs.declared.wrong.ReadError.{ReadError}
 use Rattle.fsfs_revision.specs.declared.wrong.ReadError.TheVariants as errors
-use Rattle.fsfs_revision.specs.Readings.{Answers}
+use Rattle.fsfs_revision.specs.Damage.Readings.{Answers}
 use Rattle.fsfs_revision.specs.Nodes.{IsNodeAt}
 use Rattle.fsfs_revision.specs.Damages.{NodeIn}
-use Rattle.fsfs_revision.specs.ShowsReading.{NodeAt}
+use Rattle.fsfs_revision.specs.Shows.Reading.{NodeAt}
 use Rattle.fsfs_dag.specs.Seen.{IsKept}
 use Rattle.fsfs_dag.specs.Told.{WindowAt, is_decided}
 use Rattle.fsfs_dag.specs.declared.seen_bytes.Stretch.{Stretch}

@@ -11,10 +11,10 @@ use Rattle.fsfs_noderev.specs.declared.node_rev.NodeRev.{NodeRev}
 use Rattle.fsfs_revision.specs.declared.damage.RevOffset.{RevOffset}
 use Rattle.fsfs_revision.specs.declared.wrong.ReadError.{ReadError}
 use Rattle.fsfs_revision.specs.declared.wrong.ReadError.TheVariants as errors
-use Rattle.fsfs_revision.specs.DamageDamages.{place_of}
-use Rattle.fsfs_revision.specs.Readings.{Answers}
+use Rattle.fsfs_revision.specs.Damage.Damages.{place_of}
+use Rattle.fsfs_revision.specs.Damage.Readings.{Answers}
 use Rattle.fsfs_revision.specs.Nodes.{is_before, place_before}
-use Rattle.fsfs_revision.specs.ShowsReading.{EntriesOf, offset_of}
+use Rattle.fsfs_revision.specs.Shows.Reading.{EntriesOf, offset_of}
 use Rattle.fsfs_dag.specs.declared.directory.DirEntry.{DirEntry}
 use Rattle.fsfs_dag.specs.declared.tree_walk.Pending.{Pending}
 use Rattle.fsfs_dag.specs.TreeWalks.{pending_value, Left, in_order, at_level, AreWithin, Enters, rank, weight, total}

@@ -4,10 +4,10 @@ use Rattle.std.specs.List.{filter}
 use Rattle.std.specs.String.{string_bytes}
 use Rattle.std.proofs.lemmas.List.{take_more, map-append}
 use Rattle.fsfs_base.specs.Paths.{PathName}
-use Rattle.fsfs_revision.specs.ShowsReading.{DirEntry}
+use Rattle.fsfs_revision.specs.Shows.Reading.{DirEntry}
 use Rattle.fsfs_dag.specs.declared.directory.DirEntry.{DirEntry as ListedEntry}
 use Rattle.fsfs_dag.specs.Views.{entry_value, entry_values}
-use Rattle.fsfs_dag.specs.Lists.{kept_names}
+use Rattle.fsfs_dag.specs.Listing.Lists.{kept_names}
 
 value_one : (b : Bool) (e : ListedEntry) (F : List ListedEntry) (G : List DirEntry) → entry_values F ≡ G → entry_values (cond b (e ∷ F) F) ≡ cond b (entry_value e ∷ G) G
 value_one true e F G h = ap (λ (t : List DirEntry). entry_value e ∷ t) h

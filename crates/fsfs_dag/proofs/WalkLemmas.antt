@@ -9,8 +9,8 @@ use Rattle.fsfs_noderev.specs.declared.node_rev.NodeRev.{NodeRev}
 use Rattle.fsfs_revision.specs.declared.wrong.Wrong.{Wrong}
 use Rattle.fsfs_revision.specs.declared.wrong.ReadError.{ReadError}
 use Rattle.fsfs_revision.specs.declared.wrong.ReadError.TheVariants as errors
-use Rattle.fsfs_revision.specs.Readings.{Answers}
-use Rattle.fsfs_revision.specs.ShowsReading.{RootOf, ChildOf, Met, Stands, Lacking, Blocked, InDirectory, MetFrom, MetAt}
+use Rattle.fsfs_revision.specs.Damage.Readings.{Answers}
+use Rattle.fsfs_revision.specs.Shows.Reading.{RootOf, ChildOf, Met, Stands, Lacking, Blocked, InDirectory, MetFrom, MetAt}
 
 pub names_step : {S : Type 0} (text : S → PathName) (items : List S) (i : ℕ) (item : S) → i < length items → item ≡ get_or items i item → map text (drop i items) ≡ text item ∷ map text (drop (i + 1) items)
 names_step text items i item lt e =

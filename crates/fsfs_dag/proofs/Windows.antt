@@ -11,8 +11,8 @@ use Rattle.fsfs_revision.specs.declared.wrong.Wrong.{Wrong}
 use Rattle.fsfs_revision.specs.declared.wrong.Wrong.TheVariants as wrongs
 use Rattle.fsfs_revision.specs.declared.wrong.ReadError.{ReadError}
 use Rattle.fsfs_revision.specs.declared.wrong.ReadError.TheVariants as errors
-use Rattle.fsfs_revision.specs.DamageDamages.{place_of, damaged}
-use Rattle.fsfs_revision.specs.Readings.{AndThen, IfWrong, Answers}
+use Rattle.fsfs_revision.specs.Damage.Damages.{place_of, damaged}
+use Rattle.fsfs_revision.specs.Damage.Readings.{AndThen, IfWrong, Answers}
 use Rattle.fsfs_revision.specs.declared.book.BookFault.TheVariants as books
 use Rattle.fsfs_revision.specs.Told.{RevisionBytes, BytesOf, size_read}
 use Rattle.fsfs_noderev.specs.NodeRevs.{IsRead}
@@ -20,13 +20,13 @@ use Rattle.fsfs_noderev.specs.declared.node_rev.NodeRev.{NodeRev}
 use Rattle.fsfs_noderev.specs.declared.node_id.NodeId.{NodeId}
 use Rattle.fsfs_noderev.specs.declared.node_id.Place.{Place}
 use Rattle.fsfs_noderev.specs.declared.node_id.Place.TheVariants as places
-use Rattle.fsfs_revision.specs.Faults.{IsRefusedFor}
+use Rattle.fsfs_revision.specs.Rep.Faults.{IsRefusedFor}
 use Rattle.fsfs_revision.specs.declared.trailer.Trailer.{Trailer}
 use Rattle.fsfs_revision.specs.Trailers.{EndsWith}
 use Rattle.fsfs_revision.specs.Nodes.{Holds, IsNodeAt, is_root, is_ordered, is_own_place, is_directory}
 use Rattle.fsfs_revision.specs.Damages.{NodeIn, AsRoot, RootAt}
 use Rattle.fsfs_revision.proofs.TrailerLemmas.{from_tail, in_tail}
-use Rattle.fsfs_revision.specs.ShowsReading.{NodeAt, RootOf, offset_of}
+use Rattle.fsfs_revision.specs.Shows.Reading.{NodeAt, RootOf, offset_of}
 use Rattle.fsfs_dag.specs.Told.{LengthOf, WindowAt, EndOf, is_decided}
 
 -- ---- the length of a revision

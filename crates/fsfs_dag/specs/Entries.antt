@@ -11,7 +11,7 @@ use Rattle.fsfs_noderev.specs.Fields.{IsIdText}
 use Rattle.fsfs_noderev.specs.declared.node_id.NodeId.{NodeId}
 use Rattle.fsfs_revision.specs.declared.damage.RevOffset.{RevOffset}
 use Rattle.fsfs_revision.specs.Nodes.{is_revision_id, place_before}
-use Rattle.fsfs_revision.specs.ShowsReading.{Pairs, DirEntry, IsEntryName, IsEntryValue, AreEntries, kind_word, named}
+use Rattle.fsfs_revision.specs.Shows.Reading.{Pairs, DirEntry, IsEntryName, IsEntryValue, AreEntries, kind_word, named}
 use Rattle.fsfs_revision.specs.EntryRooms.{pairs_room, entries_room}
 
 -- ---- one entry put or taken

@@ -5,13 +5,13 @@ use Rattle.fsfs_noderev.specs.declared.node_rev.NodeRev.{NodeRev}
 use Rattle.fsfs_revision.specs.declared.damage.RevOffset.{RevOffset}
 use Rattle.fsfs_revision.specs.declared.trailer.Trailer.{Trailer}
 use Rattle.fsfs_revision.specs.Trailers.{EndsWith}
-use Rattle.fsfs_revision.specs.DamageDamages.{place_of}
+use Rattle.fsfs_revision.specs.Damage.Damages.{place_of}
 use Rattle.fsfs_revision.specs.Damages.{trailer_checks}
 use Rattle.fsfs_revision.specs.declared.wrong.Wrong.{Wrong}
 use Rattle.fsfs_revision.specs.declared.wrong.ReadError.{ReadError}
 use Rattle.fsfs_revision.specs.declared.wrong.ReadError.TheVariants as errors
-use Rattle.fsfs_revision.specs.Checks.{Judged}
-use Rattle.fsfs_revision.specs.Readings.{AndThen}
+use Rattle.fsfs_revision.specs.Damage.Checks.{Judged}
+use Rattle.fsfs_revision.specs.Damage.Readings.{AndThen}
 
 -- the length of a revision
 abbrev pub LengthOf : RevisionBytes → ℕ → Result ℕ Wrong → Type 0

@@ -8,7 +8,7 @@ use Rattle.fsfs_revision.specs.declared.wrong.ReadError.{ReadError}
 use Rattle.fsfs_revision.specs.declared.wrong.ReadError.TheVariants as errors
 use Rattle.fsfs_noderev.specs.declared.rep.Rep.{Rep}
 use Rattle.fsfs_revision.specs.Nodes.{place_before}
-use Rattle.fsfs_revision.specs.ShowsReading.{DirEntry as EntryValue, IsEntry, EntryIn, offset_of, Met as MetValue, Stands, Lacking, Blocked}
+use Rattle.fsfs_revision.specs.Shows.Reading.{DirEntry as EntryValue, IsEntry, EntryIn, offset_of, Met as MetValue, Stands, Lacking, Blocked}
 use Rattle.fsfs_dag.specs.declared.directory.DirEntry.{DirEntry}
 use Rattle.fsfs_dag.specs.declared.walk.Met.{Met}
 use Rattle.fsfs_dag.specs.declared.walk.Met.TheVariants as mets

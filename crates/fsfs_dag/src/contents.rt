@@ -2,11 +2,11 @@
 ghost use Rattle.std.specs.Prelude.{◌≡◌, IsSome};
 ghost use Rattle.fsfs_base.specs.declared.kind.Kind.TheVariants.{File};
 ghost use Rattle.fsfs_revision.specs.Told.{RevisionBytes, Knows, Keeps, IsTold};
-ghost use Rattle.fsfs_layout.specs.HashReading.{views};
-ghost use Rattle.fsfs_revision.specs.Frames.{rev_of};
-ghost use Rattle.fsfs_revision.specs.Readings.{Answers};
-ghost use Rattle.fsfs_revision.specs.ShowsReading.{RepAt, PairsIn, PairsAt, PropsOf, TextOf};
-ghost use Rattle.fsfs_revision.specs.Causes.{HasCause, IsQuiet};
+ghost use Rattle.fsfs_layout.specs.Hash.Reading.{views};
+ghost use Rattle.fsfs_revision.specs.Rep.Frames.{rev_of};
+ghost use Rattle.fsfs_revision.specs.Damage.Readings.{Answers};
+ghost use Rattle.fsfs_revision.specs.Shows.Reading.{RepAt, PairsIn, PairsAt, PropsOf, TextOf};
+ghost use Rattle.fsfs_revision.specs.Damage.Causes.{HasCause, IsQuiet};
 ghost use Rattle.fsfs_dag.specs.Views.{home_of};
 
 use crate::node::PlacedNode;

@@ -4,11 +4,11 @@ ghost use Rattle.std.specs.String.{string_bytes};
 ghost use Rattle.fsfs_base.specs.declared.kind.Kind.{Kind};
 ghost use Rattle.fsfs_base.specs.declared.kind.Kind.TheVariants.{Dir};
 ghost use Rattle.fsfs_revision.specs.Told.{RevisionBytes, Knows, Keeps};
-ghost use Rattle.fsfs_layout.specs.HashReading.{views};
+ghost use Rattle.fsfs_layout.specs.Hash.Reading.{views};
 ghost use Rattle.fsfs_revision.specs.Nodes.{place_before};
-ghost use Rattle.fsfs_revision.specs.Readings.{AndThen, Answers};
-ghost use Rattle.fsfs_revision.specs.ShowsReading.{PairsIn, EntriesIn, EntriesOf, IsEntryName, kind_word, named};
-ghost use Rattle.fsfs_revision.specs.Causes.{HasCause, IsQuiet};
+ghost use Rattle.fsfs_revision.specs.Damage.Readings.{AndThen, Answers};
+ghost use Rattle.fsfs_revision.specs.Shows.Reading.{PairsIn, EntriesIn, EntriesOf, IsEntryName, kind_word, named};
+ghost use Rattle.fsfs_revision.specs.Damage.Causes.{HasCause, IsQuiet};
 ghost use Rattle.fsfs_dag.specs.Views.{entry_value, entry_values, home_of, AreBefore, PutsEntry};
 
 use crate::contents::{hash_in_place, rep_read};

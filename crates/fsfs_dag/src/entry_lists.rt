@@ -1,7 +1,7 @@
 //! The entries of a directory, as names with values.
 ghost use Rattle.std.specs.Prelude.{◌≡◌, ◌≤◌, ◌++◌, ◌∷◌, [], true, List, length, IfOk, OnOk};
 ghost use Rattle.fsfs_revision.specs.Nodes.{is_revision_id};
-ghost use Rattle.fsfs_revision.specs.ShowsReading.{DirEntry as Entry, kind_word as word_of, IsEntryValue};
+ghost use Rattle.fsfs_revision.specs.Shows.Reading.{DirEntry as Entry, kind_word as word_of, IsEntryValue};
 ghost use Rattle.fsfs_dag.specs.Entries.{IsEntryText, LeadTo, HasFirsts, ListsEntries};
 ghost use Rattle.fsfs_dag.specs.Views.{entry_value, entry_values};
 

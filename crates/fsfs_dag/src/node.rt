@@ -2,7 +2,7 @@
 ghost use Rattle.std.specs.Prelude.{◌≡◌, true, None, Some, MatchOption, IfSome, IsSome};
 ghost use Rattle.fsfs_noderev.specs.declared.rep.Contents.TheVariants.{At};
 ghost use Rattle.fsfs_revision.specs.Nodes.{is_ordered, rep_before, rep_place_before};
-ghost use Rattle.fsfs_revision.specs.ShowsReading.{offset_of};
+ghost use Rattle.fsfs_revision.specs.Shows.Reading.{offset_of};
 
 use crate::places::offset_of;
 use fsfs_noderev::{Contents, NodeRev, Rep};

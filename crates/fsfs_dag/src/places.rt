@@ -1,6 +1,6 @@
 //! Where node-revisions stand.
 ghost use Rattle.std.specs.Prelude.{◌≡◌};
-ghost use Rattle.fsfs_revision.specs.ShowsReading.{offset_of};
+ghost use Rattle.fsfs_revision.specs.Shows.Reading.{offset_of};
 
 use fsfs_base::RevNum;
 use fsfs_noderev::Place;

@@ -2,10 +2,10 @@
 ghost use Rattle.std.specs.Prelude.{◌≡◌, ◌≤◌, ◌<◌, ◌^◌, ◌+◌, ℕ, true, length, take, IfOk};
 ghost use Rattle.fsfs_revision.specs.Told.{RevisionBytes, Knows, Keeps, IsTold};
 ghost use Rattle.fsfs_revision.specs.Nodes.{is_ordered};
-ghost use Rattle.fsfs_revision.specs.Readings.{Answers};
+ghost use Rattle.fsfs_revision.specs.Damage.Readings.{Answers};
 ghost use Rattle.fsfs_noderev.specs.Writing.{HasText};
-ghost use Rattle.fsfs_revision.specs.ShowsReading.{NodeAt, RootOf, OfEntry, OfId, HasId, HasKind, offset_of};
-ghost use Rattle.fsfs_revision.specs.Causes.{HasCause, IsQuiet};
+ghost use Rattle.fsfs_revision.specs.Shows.Reading.{NodeAt, RootOf, OfEntry, OfId, HasId, HasKind, offset_of};
+ghost use Rattle.fsfs_revision.specs.Damage.Causes.{HasCause, IsQuiet};
 ghost use Rattle.fsfs_dag.specs.Told.{LengthOf, WindowAt, EndOf, is_decided};
 ghost use Rattle.fsfs_dag.specs.Views.{entry_value};
 

@@ -4,9 +4,9 @@
 ghost use Rattle.std.specs.Prelude.{◌≡◌, ◌==◌, ◌&&◌, ◌||◌, ◌-◌, nat_le, nat_lt, ℕ, true, length, take, Ok, IfOk, IfSome};
 ghost use Rattle.fsfs_revision.specs.Told.{RevisionBytes, Knows, Keeps, IsTold};
 ghost use Rattle.fsfs_revision.specs.Nodes.{is_ordered};
-ghost use Rattle.fsfs_revision.specs.Readings.{Answers};
-ghost use Rattle.fsfs_revision.specs.Causes.{HasCause, IsQuiet};
-ghost use Rattle.fsfs_revision.specs.ShowsReading.{NodeAt, OfEntry, offset_of};
+ghost use Rattle.fsfs_revision.specs.Damage.Readings.{Answers};
+ghost use Rattle.fsfs_revision.specs.Damage.Causes.{HasCause, IsQuiet};
+ghost use Rattle.fsfs_revision.specs.Shows.Reading.{NodeAt, OfEntry, offset_of};
 ghost use Rattle.fsfs_dag.specs.Told.{WindowAt, is_decided};
 ghost use Rattle.fsfs_dag.specs.Seen.{IsKept, IsSeen};
 ghost use Rattle.fsfs_dag.specs.Views.{entry_value};

@@ -5,10 +5,10 @@
 ghost use Rattle.std.specs.Prelude.{◌≡◌, ◌≤◌, ◌+◌, ◌++◌, ◌<◌, ◌∷◌, ℕ, [], OnOk, IfOk, IfErr, MatchOption};
 ghost use Rattle.fsfs_base.specs.declared.kind.Kind.TheVariants.{Dir};
 ghost use Rattle.fsfs_revision.specs.Told.{RevisionBytes, Knows, Keeps};
-ghost use Rattle.fsfs_revision.specs.Causes.{HasCause};
-ghost use Rattle.fsfs_revision.specs.Readings.{Answers};
+ghost use Rattle.fsfs_revision.specs.Damage.Causes.{HasCause};
+ghost use Rattle.fsfs_revision.specs.Damage.Readings.{Answers};
 ghost use Rattle.fsfs_revision.specs.declared.wrong.ReadError.TheVariants.{OutOfMemory};
-ghost use Rattle.fsfs_revision.specs.ShowsReading.{OfEntry, offset_of};
+ghost use Rattle.fsfs_revision.specs.Shows.Reading.{OfEntry, offset_of};
 ghost use Rattle.fsfs_dag.specs.Seen.{IsSeen};
 ghost use Rattle.fsfs_dag.specs.TreeWalks.{pending_value, in_order, left, at_level, AreWithin, Enters, weight, total};
 ghost use Rattle.fsfs_dag.specs.Views.{entry_value, entry_values, home_of};

@@ -2,9 +2,9 @@
 ghost use Rattle.std.specs.Prelude.{◌≡◌, ◌≤◌, IfOk, IfSome, option_map};
 ghost use Rattle.fsfs_base.specs.declared.kind.Kind.TheVariants.{Dir};
 ghost use Rattle.fsfs_revision.specs.Told.{RevisionBytes, Knows, Keeps};
-ghost use Rattle.fsfs_revision.specs.Readings.{Answers};
-ghost use Rattle.fsfs_revision.specs.ShowsReading.{ChildOf, MetAt};
-ghost use Rattle.fsfs_revision.specs.Causes.{HasCause};
+ghost use Rattle.fsfs_revision.specs.Damage.Readings.{Answers};
+ghost use Rattle.fsfs_revision.specs.Shows.Reading.{ChildOf, MetAt};
+ghost use Rattle.fsfs_revision.specs.Damage.Causes.{HasCause};
 ghost use Rattle.fsfs_dag.specs.Views.{home_of, met_value};
 
 use crate::directory::{entries, entry_named};

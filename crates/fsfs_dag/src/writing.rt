@@ -2,7 +2,7 @@
 ghost use Rattle.std.specs.Prelude.{◌≡◌};
 ghost use Rattle.fsfs_base.specs.declared.kind.Kind.TheVariants.{File};
 ghost use Rattle.fsfs_revision.specs.Told.{RevisionBytes, Knows, Keeps};
-ghost use Rattle.fsfs_revision.specs.ShowsReading.{TextOf};
+ghost use Rattle.fsfs_revision.specs.Shows.Reading.{TextOf};
 ghost use Rattle.fsfs_dag.specs.Views.{home_of};
 ghost use Rattle.fsfs_dag.specs.Writing.{Writes, HasCauses};
 

@@ -2,7 +2,7 @@
 use Rattle.std.proofs.Common.{ℕ, List, refl, subst}
 use Rattle.std.specs.Prelude.{Option, Some, None, IfSome}
 use Rattle.fsfs_disk.specs.Trace.{Trace, file_at}
-use Rattle.fsfs_disk.specs.DiskParts.{TellsFile}
+use Rattle.fsfs_disk.specs.WholeFiles.DiskParts.{TellsFile}
 
 -- a fact about the file that a disk has is one about the file that it tells
 pub told_file : (told : Option Trace) (name : List ℕ) (file : Option (List ℕ)) (P : Option (List ℕ) → Type 0) → IfSome told (λ t. P (file_at t name)) → TellsFile told name file → P file

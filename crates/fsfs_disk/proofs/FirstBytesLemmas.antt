@@ -2,9 +2,9 @@
 use Rattle.std.proofs.Common.{◌≡◌, ◌≤◌, ◌<◌, ℕ, ◌+◌, List, ◌++◌, length, take, min, sym, ap, subst, ◌∙◌, arith}
 use Rattle.std.specs.Prelude.{Option, Some, None}
 use Rattle.std.proofs.lemmas.List.{length-take, length-append, take_all, take-take}
-use Rattle.fsfs_base.specs.Grammar.{GoesOn, IsFaultAt}
+use Rattle.fsfs_base.specs.Grammar.Relations.{GoesOn, IsFaultAt}
 use Rattle.fsfs_disk.specs.Fronts.{IsFrontOf}
-use Rattle.fsfs_disk.specs.FirstBytes.{first_of, IsShorter}
+use Rattle.fsfs_disk.specs.WholeFiles.FirstBytes.{first_of, IsShorter}
 
 -- as many as were asked for
 pub first_full : (file : Option (List ℕ)) (items : List ℕ) (most : ℕ) → 0 < most → IsFrontOf items file → length items ≡ most → Some items ≡ first_of most file

@@ -9,9 +9,9 @@ use Rattle.fsfs_disk.specs.Crash.{AllImages, AllLabels, AreAll, Leaves, LeavesBo
 use Rattle.fsfs_disk.proofs.CrashLemmas.{keeps_no_label, leaves_then, own_images, same_leaves}
 use Rattle.fsfs_disk.proofs.LabelLemmas.{without_absent}
 use Rattle.fsfs_disk.proofs.LeftLemmas.{amid_same, both_then, keeps_labels_at, same_both}
-use Rattle.fsfs_base.specs.declared.txn_name.TxnName.{TxnName}
-use Rattle.fsfs_disk.specs.Txns.{pair_of, txn_label}
-use Rattle.fsfs_disk.specs.Removals.{first_lacking, labels_left, HasLabels, IsImageOf, WasKept}
+use Rattle.fsfs_base.specs.declared.fields.txn_name.TxnName.{TxnName}
+use Rattle.fsfs_disk.specs.Transactions.Txns.{pair_of, txn_label}
+use Rattle.fsfs_disk.specs.Transactions.Removals.{first_lacking, labels_left, HasLabels, IsImageOf, WasKept}
 
 -- ---- one removal
 

@@ -13,12 +13,12 @@ use Rattle.std.specs.List.Sorted.{IsSorted, IsPermutation}
 use Rattle.std.specs.Str.{bytes_eq}
 use Rattle.fsfs_base.proofs.Unique.{numeral_decimal}
 use Rattle.fsfs_base.proofs.Base36Texts.{numeral_base36}
-use Rattle.fsfs_base.specs.TxnNames.{IsTxnName, txn_text, txn_name_at}
+use Rattle.fsfs_base.specs.Fields.TxnNames.{IsTxnName, txn_text, txn_name_at}
 use Rattle.fsfs_base.proofs.TxnNameTexts.{txn_name_spells}
 use Rattle.fsfs_disk.specs.Labels.{Label, Txn, Pack, HotCopy, txn_entries, IsListing}
 use Rattle.fsfs_disk.specs.Trace.{Trace, labels_now}
-use Rattle.fsfs_disk.specs.Txns.{is_name, names_in, AreTxns}
-use Rattle.fsfs_disk.specs.Entries.{front_of, name_at}
+use Rattle.fsfs_disk.specs.Transactions.Txns.{is_name, names_in, AreTxns}
+use Rattle.fsfs_disk.specs.Transactions.Entries.{front_of, name_at}
 use Rattle.fsfs_disk.proofs.TxnsParts.{parts_permuted}
 use Rattle.fsfs_disk.proofs.NameOrder.{is_before, order_kept}
 

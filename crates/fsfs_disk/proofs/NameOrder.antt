@@ -7,14 +7,14 @@ use Rattle.std.specs.declared.cmp.Ordering.{Ordering}
 use Rattle.std.specs.declared.cmp.Ordering.TheVariants.{Less, Equal, Greater}
 use Rattle.std.specs.Ordering.{nat_cmp, is_lt, ordering_then}
 use Rattle.std.specs.Cmp.Lexicographic.{slice_cmp}
-use Rattle.fsfs_base.specs.Numeral.{digit}
-use Rattle.fsfs_base.specs.Cuts.{Lacks, cut}
+use Rattle.fsfs_base.specs.Grammar.Numeral.{digit}
+use Rattle.fsfs_base.specs.Grammar.Cuts.{Lacks, cut}
 use Rattle.fsfs_base.proofs.CutLemmas.{cut_again, lacks_parts}
 use Rattle.fsfs_base.proofs.Spelling.{plain_lacks}
 use Rattle.fsfs_base.proofs.RevNumTexts.{rev_text_lacks}
 use Rattle.fsfs_base.proofs.TxnNameTexts.{txn_name_spells}
-use Rattle.fsfs_base.specs.TxnNames.{IsTxnName, txn_name_at}
-use Rattle.fsfs_disk.specs.Txns.{is_name}
+use Rattle.fsfs_base.specs.Fields.TxnNames.{IsTxnName, txn_name_at}
+use Rattle.fsfs_disk.specs.Transactions.Txns.{is_name}
 
 abbrev pub is_before : List ℕ → List ℕ → Bool
 is_before x y = is_lt (slice_cmp nat_cmp x y)

@@ -13,7 +13,7 @@ use Rattle.std.specs.List.{sum_by, AllByRecursion}
 use Rattle.std.specs.List.Sorted.{IsPermutation}
 use Rattle.std.specs.Str.{bytes_eq}
 use Rattle.fsfs_disk.specs.Labels.{Label}
-use Rattle.fsfs_disk.specs.Txns.{names_in, AreTxns}
+use Rattle.fsfs_disk.specs.Transactions.Txns.{names_in, AreTxns}
 use Rattle.fsfs_disk.proofs.Listed.{Rising, rising_from}
 use Rattle.fsfs_disk.proofs.NameOrder.{is_before}
 

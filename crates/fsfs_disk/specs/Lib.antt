@@ -8,10 +8,6 @@ pub mod Last
 pub mod Published
 pub mod Seen
 pub mod Codes
-pub mod FileFaults
-pub mod DiskParts
+pub mod WholeFiles
 pub mod Fronts
-pub mod FirstBytes
-pub mod Txns
-pub mod Entries
-pub mod Removals
+pub mod Transactions

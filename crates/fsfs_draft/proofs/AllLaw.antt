@@ -4,11 +4,11 @@ use Rattle.std.specs.Prelude.{Ok, Option, Some, None, is_some}
 use Rattle.fsfs_base.specs.Paths.{PathName, Path}
 use Rattle.fsfs_tree.specs.Nodes.{TreeFunction}
 use Rattle.fsfs_base.specs.declared.kind.Kind.TheVariants.{Dir}
-use Rattle.fsfs_base.specs.declared.txn_name.TxnName.{TxnName}
+use Rattle.fsfs_base.specs.declared.fields.txn_name.TxnName.{TxnName}
 use Rattle.fsfs_revision.specs.Told.{RevisionBytes}
 use Rattle.fsfs_noderev.specs.declared.node_rev.NodeRev.{NodeRev}
-use Rattle.fsfs_revision.specs.ShowsReading.{DirEntry, named, ChildOf}
-use Rattle.fsfs_revision.specs.Chains.{IsPred}
+use Rattle.fsfs_revision.specs.Shows.Reading.{DirEntry, named, ChildOf}
+use Rattle.fsfs_revision.specs.Shows.Chains.{IsPred}
 use Rattle.fsfs_draft.specs.Own.{OwnNode, Own, has_entry}
 use Rattle.fsfs_draft.specs.Drafts.{Folder, IsDraft, ShowTrees}
 use Rattle.fsfs_draft.specs.OwnSides.{NodesAt, in_txn}

@@ -4,7 +4,7 @@ use Rattle.std.specs.Prelude.{Ok, Err, Option, Some, None, is_some, IsSomeAnd, â
 use Rattle.std.proofs.lemmas.Bool.{and_from, cases_Bool}
 use Rattle.fsfs_base.specs.Paths.{PathName, Path, covers}
 use Rattle.fsfs_tree.specs.Nodes.{Node, TreeFunction}
-use Rattle.fsfs_model.specs.Edits.{copied_node}
+use Rattle.fsfs_model.specs.Flat.Edits.{copied_node}
 use Rattle.fsfs_base.specs.declared.kind.Kind.{Kind}
 use Rattle.fsfs_base.specs.declared.kind.Kind.TheVariants.{File, Dir}
 use Rattle.fsfs_base.proofs.PathLemmas.{same_name-refl, covers-antisym}
@@ -14,10 +14,10 @@ use Rattle.fsfs_noderev.specs.declared.node_rev.CopySource.{CopySource}
 use Rattle.fsfs_noderev.specs.declared.node_rev.NodeRev.{NodeRev}
 use Rattle.fsfs_revision.specs.Nodes.{is_of_revision}
 use Rattle.fsfs_revision.specs.declared.wrong.Wrong.{Wrong}
-use Rattle.fsfs_revision.specs.ShowsReading.{DirEntry, named, EntriesOf, OfId, OfNamed, OfEntry, ChildOf, Met, Stands, Lacking, Blocked, OrLacking, InDirectory, MetFrom, MetAt, StandsAt}
-use Rattle.fsfs_revision.specs.Chains.{own_rev}
-use Rattle.fsfs_revision.specs.Shown.{IsShown, IsShownAs, Shows}
-use Rattle.fsfs_revision.specs.ByTree.{IsEntryByTree}
+use Rattle.fsfs_revision.specs.Shows.Reading.{DirEntry, named, EntriesOf, OfId, OfNamed, OfEntry, ChildOf, Met, Stands, Lacking, Blocked, OrLacking, InDirectory, MetFrom, MetAt, StandsAt}
+use Rattle.fsfs_revision.specs.Shows.Chains.{own_rev}
+use Rattle.fsfs_revision.specs.Shows.Shown.{IsShown, IsShownAs, Shows}
+use Rattle.fsfs_revision.specs.Shows.ByTree.{IsEntryByTree}
 use Rattle.fsfs_revision.proofs.OneAnswer.{ok_same}
 use Rattle.fsfs_revision.proofs.OneEntry.{entries_one}
 use Rattle.fsfs_revision.proofs.OneWalk.{stands_same}

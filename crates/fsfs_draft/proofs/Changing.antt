@@ -7,7 +7,7 @@ use Rattle.fsfs_tree.specs.Nodes.{Node, TreeFunction, Content, Bytes, Closed}
 use Rattle.fsfs_base.specs.declared.kind.Kind.{Kind}
 use Rattle.fsfs_base.specs.declared.kind.Kind.TheVariants.{File, Dir}
 use Rattle.fsfs_base.proofs.PathLemmas.{same_name-refl}
-use Rattle.fsfs_base.specs.declared.txn_name.TxnName.{TxnName}
+use Rattle.fsfs_base.specs.declared.fields.txn_name.TxnName.{TxnName}
 use Rattle.fsfs_revision.specs.Told.{RevisionBytes}
 use Rattle.fsfs_noderev.specs.Ids as ids
 use Rattle.fsfs_noderev.specs.Ids.{PartValue, part_value}
@@ -19,10 +19,10 @@ use Rattle.fsfs_noderev.specs.declared.rep.Contents.TheVariants as contents
 use Rattle.fsfs_noderev.specs.declared.node_rev.CopySource.{CopySource}
 use Rattle.fsfs_noderev.specs.declared.node_rev.NodeRev.{NodeRev}
 use Rattle.fsfs_revision.specs.Nodes.{is_revision_id, is_revision_place, is_lasting_part, is_of_revision, has_revision_pred, has_revision_rep, has_revision_root}
-use Rattle.fsfs_revision.specs.ShowsReading.{DirEntry, named, OfId, RepAt, PairsAt, OfContents, StandsAt}
-use Rattle.fsfs_revision.specs.DamageDamages.{place_of}
+use Rattle.fsfs_revision.specs.Shows.Reading.{DirEntry, named, OfId, RepAt, PairsAt, OfContents, StandsAt}
+use Rattle.fsfs_revision.specs.Damage.Damages.{place_of}
 use Rattle.fsfs_revision.specs.declared.wrong.Wrong.TheVariants as wrongs
-use Rattle.fsfs_revision.specs.Shown.{IsTextOf}
+use Rattle.fsfs_revision.specs.Shows.Shown.{IsTextOf}
 use Rattle.fsfs_revision.proofs.OneAnswer.{ok_same}
 use Rattle.fsfs_revision.proofs.OneWalk.{of_id_one}
 use Rattle.fsfs_draft.specs.Own.{OwnNode, Own, shared_under, has_entry, draft_tree, under, shared_at, opened}

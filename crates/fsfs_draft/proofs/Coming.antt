@@ -12,14 +12,14 @@ use Rattle.fsfs_noderev.specs.declared.node_id.NodeId.{NodeId}
 use Rattle.fsfs_noderev.specs.declared.node_rev.CopySource.{CopySource}
 use Rattle.fsfs_noderev.specs.declared.node_rev.NodeRev.{NodeRev}
 use Rattle.fsfs_revision.specs.declared.wrong.Wrong.{Wrong}
-use Rattle.fsfs_revision.specs.ShowsReading.{offset_of, OfId, ChildOf, Stands, MetAt, StandsAt}
-use Rattle.fsfs_revision.specs.Chains.{own_rev, IsPred, Chain, First, Breaks, Goes}
-use Rattle.fsfs_revision.specs.Shown.{IsShown, Shows}
-use Rattle.fsfs_revision.specs.IdRules.{IdRule, IsOf, IsChild}
+use Rattle.fsfs_revision.specs.Shows.Reading.{offset_of, OfId, ChildOf, Stands, MetAt, StandsAt}
+use Rattle.fsfs_revision.specs.Shows.Chains.{own_rev, IsPred, Chain, First, Breaks, Goes}
+use Rattle.fsfs_revision.specs.Shows.Shown.{IsShown, Shows}
+use Rattle.fsfs_revision.specs.Shows.IdRules.{IdRule, IsOf, IsChild}
 use Rattle.fsfs_revision.proofs.OneWalk.{stands_same}
 use Rattle.fsfs_revision.proofs.Walks.{child_stands}
 use Rattle.fsfs_revision.proofs.TreeLaw.{stands_home, child_home}
-use Rattle.fsfs_revision.specs.Trees.{ShowTrees}
+use Rattle.fsfs_revision.specs.Ancestry.Trees.{ShowTrees}
 use Rattle.fsfs_revision.proofs.Standing.{for_each}
 use Rattle.fsfs_revision.proofs.Earlier.{stands_of_id, named_same, pred_same, no_pred}
 use Rattle.fsfs_revision.proofs.Sources.{Before, Nothing, One, before}

@@ -4,18 +4,18 @@ use Rattle.std.specs.Prelude.{◌≢◌, Option, Some, None, is_some, unwrap_or,
 use mathlib.Core.Bool.{false≢true}
 use Rattle.fsfs_base.specs.Paths.{PathName, Path, covers}
 use Rattle.fsfs_tree.specs.Nodes.{Node, TreeFunction}
-use Rattle.fsfs_model.specs.Edits.{copied_node}
-use Rattle.fsfs_model.specs.declared.mark.Mark.{Mark}
-use Rattle.fsfs_model.specs.Marks.{effects}
+use Rattle.fsfs_model.specs.Flat.Edits.{copied_node}
+use Rattle.fsfs_model.specs.declared.flat.mark.Mark.{Mark}
+use Rattle.fsfs_model.specs.Flat.Marks.{effects}
 use Rattle.fsfs_base.proofs.PathLemmas.{covers-refl, covers-trans, covers-antisym, same_name-refl, covers_front}
-use Rattle.fsfs_base.specs.declared.txn_name.TxnName.{TxnName}
+use Rattle.fsfs_base.specs.declared.fields.txn_name.TxnName.{TxnName}
 use Rattle.fsfs_revision.specs.Told.{RevisionBytes}
 use Rattle.fsfs_noderev.specs.declared.node_id.NodeId.{NodeId}
 use Rattle.fsfs_noderev.specs.declared.node_rev.CopyRoot.{CopyRoot}
 use Rattle.fsfs_noderev.specs.declared.node_rev.CopySource.{CopySource}
 use Rattle.fsfs_noderev.specs.declared.node_rev.NodeRev.{NodeRev}
-use Rattle.fsfs_revision.specs.ShowsReading.{StandsAt}
-use Rattle.fsfs_revision.specs.Chains.{own_rev, root_or_own, copy_root_of}
+use Rattle.fsfs_revision.specs.Shows.Reading.{StandsAt}
+use Rattle.fsfs_revision.specs.Shows.Chains.{own_rev, root_or_own, copy_root_of}
 use Rattle.fsfs_revision.proofs.TreeLaw.{stands_home, root_le}
 use Rattle.fsfs_draft.specs.Own.{OwnNode, Own, below, has_entry, draft_tree, shared_from, shared_under, shared_at, under}
 use Rattle.fsfs_draft.specs.Rules.{Root, draft_root, root_after, ComesBy, Change, Copied, Made, stands_from, above_of, at_top}

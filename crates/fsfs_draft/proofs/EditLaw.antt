@@ -8,16 +8,16 @@ use mathlib.Core.Bool.{false≢true}
 use Rattle.fsfs_base.specs.Paths.{PathName, Path, same_path, covers}
 use Rattle.fsfs_base.proofs.PathLemmas.{covers-trans, covers-longer}
 use Rattle.fsfs_tree.specs.Nodes.{Node, TreeFunction}
-use Rattle.fsfs_model.specs.Edits.{with_node, with_copy, without, with_text, with_prop, copied_node, rest_after}
-use Rattle.fsfs_model.specs.declared.mark.Mark.{Mark}
-use Rattle.fsfs_model.specs.declared.mark.What.{What}
-use Rattle.fsfs_model.specs.Marks.{is_make}
-use Rattle.fsfs_base.specs.declared.txn_name.TxnName.{TxnName}
+use Rattle.fsfs_model.specs.Flat.Edits.{with_node, with_copy, without, with_text, with_prop, copied_node, rest_after}
+use Rattle.fsfs_model.specs.declared.flat.mark.Mark.{Mark}
+use Rattle.fsfs_model.specs.declared.flat.mark.What.{What}
+use Rattle.fsfs_model.specs.Flat.Marks.{is_make}
+use Rattle.fsfs_base.specs.declared.fields.txn_name.TxnName.{TxnName}
 use Rattle.fsfs_revision.specs.Told.{RevisionBytes}
 use Rattle.fsfs_noderev.specs.declared.node_id.NodeId.{NodeId}
 use Rattle.fsfs_noderev.specs.declared.node_rev.CopySource.{CopySource}
-use Rattle.fsfs_noderev.specs.declared.item.ChangeItem.{ChangeItem}
-use Rattle.fsfs_revision.specs.ShowsReading.{named, StandsAt}
+use Rattle.fsfs_noderev.specs.declared.changes.item.ChangeItem.{ChangeItem}
+use Rattle.fsfs_revision.specs.Shows.Reading.{named, StandsAt}
 use Rattle.fsfs_draft.specs.Own.{OwnNode, Own, draft_tree}
 use Rattle.fsfs_draft.specs.Rules.{at_top}
 use Rattle.fsfs_draft.specs.Drafts.{Folder, IsItemOf, AreItemsOf, bare}

@@ -3,12 +3,12 @@ use Rattle.std.proofs.Common.{◌≡◌, ℕ, Bool, true, false, ◌&&◌, cond,
 use Rattle.std.specs.Prelude.{Option, Some, None, is_some}
 use Rattle.fsfs_base.specs.Paths.{PathName, Path, same_name, same_path, covers}
 use Rattle.fsfs_tree.specs.Nodes.{Node, TreeFunction}
-use Rattle.fsfs_model.specs.Edits as edits
-use Rattle.fsfs_model.specs.Edits.{copied_node, rest_after}
+use Rattle.fsfs_model.specs.Flat.Edits as edits
+use Rattle.fsfs_model.specs.Flat.Edits.{copied_node, rest_after}
 use Rattle.fsfs_base.proofs.PathLemmas.{same_name-is, same_name-refl, same_name-symm}
 use Rattle.fsfs_noderev.specs.declared.node_id.NodeId.{NodeId}
 use Rattle.fsfs_noderev.specs.declared.node_rev.CopySource.{CopySource}
-use Rattle.fsfs_revision.specs.ShowsReading.{DirEntry, named}
+use Rattle.fsfs_revision.specs.Shows.Reading.{DirEntry, named}
 use Rattle.fsfs_draft.specs.Own.{OwnNode, Own, below, shared_from, shared_under, has_entry, node_here, in_own, draft_tree, graft, under, alone, nothing, with_child, lives, shared_at, behind, opened}
 use Rattle.fsfs_draft.proofs.Grafts.{nothing_tree, alone_tree, graft_tree, graft_back}
 

@@ -3,13 +3,13 @@ use Rattle.std.proofs.Common.{◌≡◌, ◌≤◌, ℕ, true, [], ◌∷◌, �
 use Rattle.std.specs.Prelude.{◌↔◌, Ok, Option, Some, None, is_some}
 use Rattle.fsfs_base.specs.Paths.{PathName, Path}
 use Rattle.fsfs_tree.specs.Nodes.{Node, TreeFunction}
-use Rattle.fsfs_model.specs.Edits.{copied_node}
+use Rattle.fsfs_model.specs.Flat.Edits.{copied_node}
 use Rattle.fsfs_base.specs.declared.kind.Kind.TheVariants.{Dir}
 use Rattle.fsfs_revision.specs.Told.{RevisionBytes}
 use Rattle.fsfs_noderev.specs.declared.node_id.NodeId.{NodeId}
 use Rattle.fsfs_noderev.specs.declared.node_rev.CopySource.{CopySource}
 use Rattle.fsfs_noderev.specs.declared.node_rev.NodeRev.{NodeRev}
-use Rattle.fsfs_revision.specs.ShowsReading.{ChildOf, StandsAt}
+use Rattle.fsfs_revision.specs.Shows.Reading.{ChildOf, StandsAt}
 use Rattle.fsfs_revision.proofs.OneWalk.{stands_same}
 use Rattle.fsfs_revision.proofs.Walks.{child_stands}
 use Rattle.fsfs_draft.specs.Own.{OwnNode, Own, below, shared_from, shared_under, shared_at, lives_in, lives}

@@ -7,7 +7,7 @@ use Rattle.std.proofs.lemmas.Bool.Decides.{nat_tests}
 use Rattle.std.proofs.lemmas.List.{take-append-drop}
 use Rattle.fsfs_base.specs.Paths.{PathName, Path, same_name, covers, is_above}
 use Rattle.fsfs_tree.specs.Nodes.{Node, TreeFunction}
-use Rattle.fsfs_model.specs.Landing.{touched_by_head, held_by_head, props_changed_by_head}
+use Rattle.fsfs_model.specs.Flat.Landing.{touched_by_head, held_by_head, props_changed_by_head}
 use Rattle.fsfs_tree.specs.Histories.{IsRevision, AreRevisions}
 use Rattle.fsfs_revision.specs.Told.{RevisionBytes}
 use Rattle.fsfs_noderev.specs.declared.node_id.NodeId.{NodeId}
@@ -15,17 +15,17 @@ use Rattle.fsfs_noderev.specs.declared.rep.Contents.{Contents}
 use Rattle.fsfs_noderev.specs.declared.node_rev.CopySource.{CopySource}
 use Rattle.fsfs_noderev.specs.declared.node_rev.NodeRev.{NodeRev}
 use Rattle.fsfs_revision.specs.declared.wrong.Wrong.{Wrong}
-use Rattle.fsfs_revision.specs.ShowsReading.{offset_of, StandsAt}
-use Rattle.fsfs_revision.specs.Chains.{own_rev, IsPred, Chain, First, Breaks, Goes, copy_root_of, IsCopiedIn, contents_rev}
-use Rattle.fsfs_revision.specs.Shown.{IsShown, Shows}
-use Rattle.fsfs_revision.specs.IdRules.{IdRule, IsOf}
-use Rattle.fsfs_revision.specs.TreeLaw.{IsSound}
+use Rattle.fsfs_revision.specs.Shows.Reading.{offset_of, StandsAt}
+use Rattle.fsfs_revision.specs.Shows.Chains.{own_rev, IsPred, Chain, First, Breaks, Goes, copy_root_of, IsCopiedIn, contents_rev}
+use Rattle.fsfs_revision.specs.Shows.Shown.{IsShown, Shows}
+use Rattle.fsfs_revision.specs.Shows.IdRules.{IdRule, IsOf}
+use Rattle.fsfs_revision.specs.Shows.TreeLaw.{IsSound}
 use Rattle.fsfs_revision.proofs.OneAnswer.{ok_same}
 use Rattle.fsfs_revision.proofs.OneWalk.{stands_same}
 use Rattle.fsfs_revision.proofs.OneTree.{chain_one}
 use Rattle.fsfs_revision.proofs.TreeLaw.{IsHome, stands_home, chain_le, root_le, props_le, sound}
 use Rattle.fsfs_base.proofs.PathLemmas.{same_name-refl, covers-antisym, covers-longer}
-use Rattle.fsfs_revision.specs.Trees.{ShowTrees}
+use Rattle.fsfs_revision.specs.Ancestry.Trees.{ShowTrees}
 use Rattle.fsfs_revision.proofs.Revisions.{shown_revisions}
 use Rattle.fsfs_draft.specs.HeadLaws.{Continues, IsHeldAbove, AgreeAt, HeadLaws, UntouchedIsShared}
 use Rattle.fsfs_revision.proofs.Earlier.{stands_of_id, named_same}

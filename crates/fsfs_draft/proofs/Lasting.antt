@@ -13,7 +13,7 @@ use Rattle.fsfs_noderev.specs.declared.rep.Contents.TheVariants as contents
 use Rattle.fsfs_noderev.specs.declared.node_rev.CopyRoot.{CopyRoot}
 use Rattle.fsfs_noderev.specs.declared.node_rev.NodeRev.{NodeRev}
 use Rattle.fsfs_revision.specs.Nodes.{is_lasting_part, is_revision_place, is_revision_id, has_revision_pred, has_revision_rep, has_revision_root, is_some_rev, is_of_revision}
-use Rattle.fsfs_revision.specs.ShowsReading.{OfId, StandsAt}
+use Rattle.fsfs_revision.specs.Shows.Reading.{OfId, StandsAt}
 use Rattle.fsfs_revision.proofs.Earlier.{stands_of_id}
 use Rattle.fsfs_draft.specs.OwnSides.{in_txn, has_own_root, is_own_copy}
 

@@ -6,13 +6,13 @@ use Rattle.fsfs_tree.specs.Nodes.{TreeFunction}
 use Rattle.fsfs_base.specs.declared.kind.Kind.{Kind}
 use Rattle.fsfs_base.specs.declared.kind.Kind.TheVariants.{Dir}
 use Rattle.fsfs_base.proofs.PathLemmas.{covers-refl}
-use Rattle.fsfs_base.specs.declared.txn_name.TxnName.{TxnName}
+use Rattle.fsfs_base.specs.declared.fields.txn_name.TxnName.{TxnName}
 use Rattle.fsfs_revision.specs.Told.{RevisionBytes}
 use Rattle.fsfs_noderev.specs.Ids.{part_value}
 use Rattle.fsfs_noderev.specs.declared.node_id.Place.TheVariants as places
 use Rattle.fsfs_noderev.specs.declared.node_id.NodeId.{NodeId}
 use Rattle.fsfs_noderev.specs.declared.node_rev.NodeRev.{NodeRev}
-use Rattle.fsfs_revision.specs.ShowsReading.{DirEntry, named, StandsAt}
+use Rattle.fsfs_revision.specs.Shows.Reading.{DirEntry, named, StandsAt}
 use Rattle.fsfs_draft.specs.Own.{OwnNode, Own, below, shared_under, has_entry, draft_tree, under, with_child, lives, shared_at, behind, opened}
 use Rattle.fsfs_draft.specs.Rules.{Above, at_top, head_at, IsEntryOf, RuleAt, Rules, above_of, stands_under, above_at, stands_at}
 use Rattle.fsfs_draft.specs.Drafts.{Folder, kept_of, IsDraftText, HasContent, IsDraft, ShowTrees}
@@ -22,8 +22,8 @@ use Rattle.fsfs_draft.proofs.Edited.{same_tree, put_tree, lay_tree, OthersStay, 
 use Rattle.fsfs_draft.proofs.RuleLemmas.{graft_rules, child_rules, alone_rules, nothing_rules}
 use Rattle.fsfs_draft.proofs.Files.{same_files}
 use Rattle.fsfs_draft.proofs.Here.{under_is, live_here, old_here, rules_here, none_at, AreHere, are_here}
-use Rattle.fsfs_model.specs.Edits as edits
-use Rattle.fsfs_model.specs.Edits.{copied_node}
+use Rattle.fsfs_model.specs.Flat.Edits as edits
+use Rattle.fsfs_model.specs.Flat.Edits.{copied_node}
 use Rattle.fsfs_noderev.specs.declared.node_rev.CopySource.{CopySource}
 use Rattle.fsfs_draft.proofs.Grafted.{graft_some, IsOfChild, child_some, longer_not, root_left, AreRootIds}
 

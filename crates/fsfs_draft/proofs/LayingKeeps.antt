@@ -6,11 +6,11 @@ use Rattle.fsfs_base.specs.Paths.{PathName, Path, same_name, covers}
 use Rattle.fsfs_tree.specs.Nodes.{TreeFunction}
 use Rattle.fsfs_base.specs.declared.kind.Kind.TheVariants.{Dir}
 use Rattle.fsfs_base.proofs.PathLemmas.{same_name-is, same_name-refl, split_at}
-use Rattle.fsfs_base.specs.declared.txn_name.TxnName.{TxnName}
+use Rattle.fsfs_base.specs.declared.fields.txn_name.TxnName.{TxnName}
 use Rattle.fsfs_revision.specs.Told.{RevisionBytes}
 use Rattle.fsfs_noderev.specs.declared.node_id.NodeId.{NodeId}
 use Rattle.fsfs_noderev.specs.declared.node_rev.CopySource.{CopySource}
-use Rattle.fsfs_revision.specs.ShowsReading.{DirEntry}
+use Rattle.fsfs_revision.specs.Shows.Reading.{DirEntry}
 use Rattle.fsfs_draft.specs.Own.{OwnNode, Own, below, shared_from, shared_under, graft, under, with_child, shared_at, opened}
 use Rattle.fsfs_draft.specs.Drafts.{Folder, kept_of, IsDraft, ShowTrees}
 use Rattle.fsfs_draft.specs.Steps.{EntriesHere}

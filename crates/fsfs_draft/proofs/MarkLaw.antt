@@ -4,16 +4,16 @@ use Rattle.std.specs.Prelude.{Option, Some, None, is_some, if◌then◌else◌}
 use mathlib.Core.Bool.{false≢true}
 use Rattle.fsfs_base.specs.Paths.{PathName, Path, covers, is_above}
 use Rattle.fsfs_tree.specs.Nodes.{Node, TreeFunction}
-use Rattle.fsfs_model.specs.declared.mark.Mark.{Mark}
-use Rattle.fsfs_model.specs.Marks.{effects}
+use Rattle.fsfs_model.specs.declared.flat.mark.Mark.{Mark}
+use Rattle.fsfs_model.specs.Flat.Marks.{effects}
 use Rattle.fsfs_base.proofs.PathLemmas.{covers-refl, covers_front}
-use Rattle.fsfs_base.specs.declared.txn_name.TxnName.{TxnName}
+use Rattle.fsfs_base.specs.declared.fields.txn_name.TxnName.{TxnName}
 use Rattle.fsfs_revision.specs.Told.{RevisionBytes}
 use Rattle.fsfs_noderev.specs.declared.node_id.NodeId.{NodeId}
 use Rattle.fsfs_noderev.specs.declared.rep.Contents.TheVariants as contents
 use Rattle.fsfs_noderev.specs.declared.node_rev.CopySource.{CopySource}
 use Rattle.fsfs_noderev.specs.declared.node_rev.NodeRev.{NodeRev}
-use Rattle.fsfs_revision.specs.ShowsReading.{StandsAt}
+use Rattle.fsfs_revision.specs.Shows.Reading.{StandsAt}
 use Rattle.fsfs_revision.proofs.OneWalk.{stands_same}
 use Rattle.fsfs_revision.proofs.TreeLaw.{sound}
 use Rattle.fsfs_model.proofs.MergeWalk.{gone_down}

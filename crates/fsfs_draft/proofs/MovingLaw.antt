@@ -8,13 +8,13 @@ use Rattle.fsfs_base.specs.Paths.{PathName, Path, same_name, covers}
 use Rattle.fsfs_base.specs.declared.kind.Kind.{Kind}
 use Rattle.fsfs_base.proofs.PathLemmas.{same_name-is, same_name-refl, covers-refl, covers-trans, covers-antisym, covers-longer, split_at, covers_front}
 use Rattle.fsfs_tree.specs.Nodes.{Node, TreeFunction}
-use Rattle.fsfs_model.specs.declared.mark.What.{What}
-use Rattle.fsfs_model.specs.declared.mark.What.TheVariants as whats
-use Rattle.fsfs_model.specs.Marks.{is_make}
-use Rattle.fsfs_base.specs.declared.txn_name.TxnName.{TxnName}
+use Rattle.fsfs_model.specs.declared.flat.mark.What.{What}
+use Rattle.fsfs_model.specs.declared.flat.mark.What.TheVariants as whats
+use Rattle.fsfs_model.specs.Flat.Marks.{is_make}
+use Rattle.fsfs_base.specs.declared.fields.txn_name.TxnName.{TxnName}
 use Rattle.fsfs_revision.specs.Told.{RevisionBytes}
 use Rattle.fsfs_noderev.specs.declared.node_id.NodeId.{NodeId}
-use Rattle.fsfs_revision.specs.ShowsReading.{DirEntry, named}
+use Rattle.fsfs_revision.specs.Shows.Reading.{DirEntry, named}
 use Rattle.fsfs_revision.proofs.TreeLaw.{sound}
 use Rattle.fsfs_draft.specs.Own.{OwnNode, Own, below, shared_under, has_entry, node_here, under, alone, nothing, with_child, with_node, lives, shared_at, opened}
 use Rattle.fsfs_draft.specs.Sides.{goes_on_here, has_here, held}

@@ -10,17 +10,17 @@ use mathlib.Core.Bool.{false≢true}
 use Rattle.fsfs_base.specs.Paths.{PathName, Path, same_path, covers}
 use Rattle.fsfs_base.proofs.PathLemmas.{same_name-refl, covers-refl, covers-trans, covers-either, split_at, same_path-is, same_path-refl}
 use Rattle.fsfs_tree.specs.Nodes.{TreeFunction}
-use Rattle.fsfs_model.specs.declared.mark.Mark.{Mark}
-use Rattle.fsfs_model.specs.declared.mark.What.{What}
-use Rattle.fsfs_model.specs.declared.mark.What.TheVariants as whats
-use Rattle.fsfs_model.specs.Marks.{any_covers, made, made_after, is_make, touches, is_gone, changes_props}
+use Rattle.fsfs_model.specs.declared.flat.mark.Mark.{Mark}
+use Rattle.fsfs_model.specs.declared.flat.mark.What.{What}
+use Rattle.fsfs_model.specs.declared.flat.mark.What.TheVariants as whats
+use Rattle.fsfs_model.specs.Flat.Marks.{any_covers, made, made_after, is_make, touches, is_gone, changes_props}
 use Rattle.fsfs_model.proofs.Tests.{found, found_in}
 use Rattle.fsfs_model.proofs.Owns.{made_push}
-use Rattle.fsfs_base.specs.declared.txn_name.TxnName.{TxnName}
+use Rattle.fsfs_base.specs.declared.fields.txn_name.TxnName.{TxnName}
 use Rattle.fsfs_revision.specs.Told.{RevisionBytes}
 use Rattle.fsfs_noderev.specs.declared.node_id.NodeId.{NodeId}
 use Rattle.fsfs_noderev.specs.declared.node_rev.NodeRev.{NodeRev}
-use Rattle.fsfs_revision.specs.ShowsReading.{DirEntry, named, StandsAt}
+use Rattle.fsfs_revision.specs.Shows.Reading.{DirEntry, named, StandsAt}
 use Rattle.fsfs_draft.specs.Own.{OwnNode, Own, below, shared_under, has_entry, in_own, draft_tree, alone, opened, under}
 use Rattle.fsfs_draft.specs.Rules.{Above, at_top, Head, head_at, IsEntryOf, Rules, above_under, stands_under}
 use Rattle.fsfs_draft.specs.Sides.{goes_on_here, has_here, held}

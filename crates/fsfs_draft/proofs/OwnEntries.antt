@@ -3,18 +3,18 @@ use Rattle.std.proofs.Common.{◌≡◌, ◌≤◌, ℕ, true, false, ◌&&◌, 
 use Rattle.std.specs.Prelude.{Option, Some, None, Ok, Err, is_some}
 use Rattle.std.proofs.lemmas.Bool.{and_parts}
 use Rattle.fsfs_base.specs.Paths.{PathName, Path}
-use Rattle.fsfs_model.specs.Edits.{is_dir, is_dir_node}
+use Rattle.fsfs_model.specs.Flat.Edits.{is_dir, is_dir_node}
 use Rattle.fsfs_base.proofs.PathLemmas.{covers-longer}
 use Rattle.fsfs_tree.specs.Nodes.{Node, TreeFunction}
 use Rattle.fsfs_base.specs.declared.kind.Kind.{Kind}
 use Rattle.fsfs_base.specs.declared.kind.Kind.TheVariants.{File, Dir}
-use Rattle.fsfs_base.specs.declared.txn_name.TxnName.{TxnName}
+use Rattle.fsfs_base.specs.declared.fields.txn_name.TxnName.{TxnName}
 use Rattle.fsfs_revision.specs.Told.{RevisionBytes}
 use Rattle.fsfs_noderev.specs.declared.node_id.NodeId.{NodeId}
 use Rattle.fsfs_noderev.specs.declared.node_rev.NodeRev.{NodeRev}
 use Rattle.fsfs_revision.specs.Nodes.{is_revision_id, is_revision_place, is_lasting_part, is_of_revision, has_revision_pred, has_revision_rep, has_revision_root}
 use Rattle.fsfs_revision.specs.declared.wrong.Wrong.{Wrong}
-use Rattle.fsfs_revision.specs.ShowsReading.{DirEntry, named, EntriesOf, OfId, OfEntry, kind_checks, StandsAt, offset_of}
+use Rattle.fsfs_revision.specs.Shows.Reading.{DirEntry, named, EntriesOf, OfId, OfEntry, kind_checks, StandsAt, offset_of}
 use Rattle.fsfs_revision.proofs.OneAnswer.{ok_same, pass_or_fail}
 use Rattle.fsfs_revision.proofs.OneWalk.{of_id_one}
 use Rattle.fsfs_revision.proofs.DamageLemmas.{no_both}
@@ -32,7 +32,7 @@ use Rattle.fsfs_draft.specs.Errors.{IsFailure, of_read}
 use Rattle.fsfs_dag.proofs.PairLemmas.{entries_seen}
 use Rattle.fsfs_revision.specs.declared.wrong.ReadError.{ReadError}
 use Rattle.fsfs_revision.specs.declared.wrong.ReadError.TheVariants as reads
-use Rattle.fsfs_revision.specs.Readings.{Answers}
+use Rattle.fsfs_revision.specs.Damage.Readings.{Answers}
 use Rattle.fsfs_draft.specs.Walks.{IsLastingAt, HasKind, IsChild}
 use Rattle.fsfs_draft.specs.declared.walk.Step.TheVariants as steps
 

@@ -4,7 +4,7 @@ use Rattle.std.specs.Prelude.{Option, Some}
 use Rattle.fsfs_base.specs.Paths.{Path}
 use Rattle.fsfs_base.proofs.PathLemmas.{covers-longer}
 use Rattle.fsfs_tree.specs.Nodes.{TreeFunction}
-use Rattle.fsfs_base.specs.declared.txn_name.TxnName.{TxnName}
+use Rattle.fsfs_base.specs.declared.fields.txn_name.TxnName.{TxnName}
 use Rattle.fsfs_revision.specs.Told.{RevisionBytes}
 use Rattle.fsfs_draft.specs.Own.{OwnNode, Own, node_here, draft_tree, under, shared_at}
 use Rattle.fsfs_draft.specs.Drafts.{Folder, IsDraft, ShowTrees}

@@ -7,9 +7,9 @@ use Rattle.fsfs_base.specs.declared.kind.Kind.TheVariants.{File, Dir}
 use Rattle.fsfs_revision.specs.Told.{RevisionBytes}
 use Rattle.fsfs_noderev.specs.declared.node_rev.NodeRev.{NodeRev}
 use Rattle.fsfs_revision.specs.declared.wrong.Wrong.{Wrong}
-use Rattle.fsfs_revision.specs.ShowsReading.{ChildOf, Met, Stands, OrLacking, InDirectory, MetFrom, StandsAt}
-use Rattle.fsfs_revision.specs.IdRules.{IsBehind}
-use Rattle.fsfs_revision.specs.IdRules as rules
+use Rattle.fsfs_revision.specs.Shows.Reading.{ChildOf, Met, Stands, OrLacking, InDirectory, MetFrom, StandsAt}
+use Rattle.fsfs_revision.specs.Shows.IdRules.{IsBehind}
+use Rattle.fsfs_revision.specs.Shows.IdRules as rules
 use Rattle.fsfs_revision.proofs.OneAnswer.{ok_same}
 use Rattle.fsfs_revision.proofs.OneWalk.{stands_same}
 

@@ -3,10 +3,10 @@ use Rattle.std.proofs.Common.{◌≡◌, ◌≤◌, ℕ, Bool, true, false, cond
 use Rattle.std.specs.Prelude.{Option, Some, None}
 use Rattle.fsfs_base.specs.Paths.{PathName, Path}
 use Rattle.fsfs_tree.specs.Nodes.{Node, TreeFunction}
-use Rattle.fsfs_base.specs.declared.txn_name.TxnName.{TxnName}
+use Rattle.fsfs_base.specs.declared.fields.txn_name.TxnName.{TxnName}
 use Rattle.fsfs_revision.specs.Told.{RevisionBytes}
 use Rattle.fsfs_noderev.specs.declared.node_rev.NodeRev.{NodeRev}
-use Rattle.fsfs_revision.specs.ShowsReading.{StandsAt}
+use Rattle.fsfs_revision.specs.Shows.Reading.{StandsAt}
 use Rattle.fsfs_draft.specs.Own.{OwnNode, Own, below, has_entry, node_here, in_own, draft_tree, shared_under, shared_at, under, lives_in, lives}
 use Rattle.fsfs_draft.specs.Rules.{at_top, ComesBy, AreEntriesOf, Head, head_at, NodeRule, above_of, above_under, stands_under, above_at, stands_at}
 use Rattle.fsfs_draft.specs.Drafts.{Folder, IsDraft, ShowTrees}

@@ -5,7 +5,7 @@ use Rattle.fsfs_base.specs.Paths.{PathName, Path, same_name}
 use Rattle.fsfs_base.proofs.PathLemmas.{same_name-is}
 use Rattle.fsfs_revision.specs.Told.{RevisionBytes}
 use Rattle.fsfs_noderev.specs.declared.node_rev.NodeRev.{NodeRev}
-use Rattle.fsfs_revision.specs.ShowsReading.{DirEntry, named}
+use Rattle.fsfs_revision.specs.Shows.Reading.{DirEntry, named}
 use Rattle.fsfs_draft.specs.Own.{OwnNode, Own, below, graft, under, alone, nothing, with_child, lives, opened}
 use Rattle.fsfs_draft.specs.Rules.{Above, ComesBy, Change, Copied, Made, Head, head_at, IsEntryOf, AreEntriesOf, NodeRule, RuleAt, Rules, above_of, above_under, stands_under, above_at, stands_at}
 use Rattle.fsfs_draft.proofs.Grafts.{inner_lives}

@@ -3,16 +3,16 @@ use Rattle.std.proofs.Common.{◌≡◌, ◌≤◌, ℕ, true, false, cond, List
 use Rattle.std.specs.Prelude.{Option, Some, None, ◌⊎◌}
 use Rattle.fsfs_base.specs.Paths.{Path, same_path, covers}
 use Rattle.fsfs_tree.specs.Nodes.{Node, TreeFunction, Bytes}
-use Rattle.fsfs_model.specs.Edits as edits
+use Rattle.fsfs_model.specs.Flat.Edits as edits
 use Rattle.fsfs_base.proofs.PathLemmas.{covers-refl}
-use Rattle.fsfs_base.specs.declared.txn_name.TxnName.{TxnName}
+use Rattle.fsfs_base.specs.declared.fields.txn_name.TxnName.{TxnName}
 use Rattle.fsfs_revision.specs.Told.{RevisionBytes}
 use Rattle.fsfs_noderev.specs.Ids.{part_value}
 use Rattle.fsfs_noderev.specs.declared.node_id.Place.TheVariants as places
 use Rattle.fsfs_noderev.specs.declared.node_id.NodeId.{NodeId}
 use Rattle.fsfs_noderev.specs.declared.node_rev.CopySource.{CopySource}
 use Rattle.fsfs_noderev.specs.declared.node_rev.NodeRev.{NodeRev}
-use Rattle.fsfs_revision.specs.ShowsReading.{DirEntry, StandsAt}
+use Rattle.fsfs_revision.specs.Shows.Reading.{DirEntry, StandsAt}
 use Rattle.fsfs_draft.specs.Own.{OwnNode, Own, below, shared_from, shared_under, has_entry, in_own, draft_tree, under, with_node, shared_at}
 use Rattle.fsfs_draft.specs.Rules.{GoesOn, Above, at_top, CopyPartOf, Keeps, ComesBy, Change, Copied, Made as IsMade, Root, head_at, AreEntriesOf, RuleAt, Rules, above_of, above_under, stands_from, stands_under, above_at, stands_at, draft_root}
 use Rattle.fsfs_draft.specs.Drafts.{Folder, kept_of, HasContent, IsDraft, ShowTrees}

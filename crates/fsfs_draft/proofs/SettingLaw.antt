@@ -4,7 +4,7 @@ use Rattle.std.specs.Prelude.{Option, Some}
 use Rattle.fsfs_base.specs.Paths.{PathName, Path, same_name}
 use Rattle.fsfs_base.proofs.PathLemmas.{same_name-is}
 use Rattle.fsfs_tree.specs.Nodes.{TreeFunction}
-use Rattle.fsfs_base.specs.declared.txn_name.TxnName.{TxnName}
+use Rattle.fsfs_base.specs.declared.fields.txn_name.TxnName.{TxnName}
 use Rattle.fsfs_revision.specs.Told.{RevisionBytes}
 use Rattle.fsfs_noderev.specs.declared.node_id.NodeId.{NodeId}
 use Rattle.fsfs_draft.specs.Own.{OwnNode, Own, below, graft, under, with_node, shared_at}

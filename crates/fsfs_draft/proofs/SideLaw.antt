@@ -4,10 +4,10 @@ use Rattle.std.specs.Prelude.{Option, Some, None, is_some, if◌then◌else◌}
 use mathlib.Core.Bool.{false≢true}
 use Rattle.fsfs_base.specs.Paths.{PathName, Path, covers, is_above}
 use Rattle.fsfs_tree.specs.Nodes.{Node, TreeFunction}
-use Rattle.fsfs_model.specs.declared.mark.Mark.{Mark}
-use Rattle.fsfs_model.specs.Marks.{effects}
+use Rattle.fsfs_model.specs.declared.flat.mark.Mark.{Mark}
+use Rattle.fsfs_model.specs.Flat.Marks.{effects}
 use Rattle.fsfs_base.proofs.PathLemmas.{same_name-refl}
-use Rattle.fsfs_base.specs.declared.txn_name.TxnName.{TxnName}
+use Rattle.fsfs_base.specs.declared.fields.txn_name.TxnName.{TxnName}
 use Rattle.fsfs_revision.specs.Told.{RevisionBytes}
 use Rattle.fsfs_noderev.specs.Ids.{part_value}
 use Rattle.fsfs_noderev.specs.declared.node_id.Part.{Part}
@@ -18,7 +18,7 @@ use Rattle.fsfs_noderev.specs.declared.node_rev.CopyRoot.{CopyRoot}
 use Rattle.fsfs_noderev.specs.declared.node_rev.CopySource.{CopySource}
 use Rattle.fsfs_noderev.specs.declared.node_rev.NodeRev.{NodeRev}
 use Rattle.fsfs_revision.specs.Nodes.{is_lasting_part}
-use Rattle.fsfs_revision.specs.ShowsReading.{StandsAt}
+use Rattle.fsfs_revision.specs.Shows.Reading.{StandsAt}
 use Rattle.fsfs_revision.proofs.OneWalk.{stands_same}
 use Rattle.fsfs_revision.proofs.TreeLaw.{sound}
 use Rattle.fsfs_draft.specs.Own.{OwnNode, Own, below, has_entry, under, lives_in, lives}

@@ -6,8 +6,8 @@ use Rattle.fsfs_base.specs.Paths.{PathName, Path}
 use Rattle.fsfs_base.specs.declared.kind.Kind.{Kind}
 use Rattle.fsfs_base.specs.declared.kind.Kind.TheVariants.{File, Dir}
 use Rattle.fsfs_tree.specs.Nodes.{TreeFunction, Content, Bytes, Closed}
-use Rattle.fsfs_base.specs.declared.txn_name.TxnName.{TxnName}
-use Rattle.fsfs_revision.specs.DamageDamages.{place_of}
+use Rattle.fsfs_base.specs.declared.fields.txn_name.TxnName.{TxnName}
+use Rattle.fsfs_revision.specs.Damage.Damages.{place_of}
 use Rattle.fsfs_revision.specs.declared.wrong.Wrong.TheVariants as wrongs
 use Rattle.fsfs_revision.specs.Told.{RevisionBytes}
 use Rattle.fsfs_noderev.specs.Ids.{PartValue}
@@ -17,9 +17,9 @@ use Rattle.fsfs_noderev.specs.declared.rep.Contents.{Contents}
 use Rattle.fsfs_noderev.specs.declared.rep.Contents.TheVariants as contents
 use Rattle.fsfs_noderev.specs.declared.node_rev.CopySource.{CopySource}
 use Rattle.fsfs_noderev.specs.declared.node_rev.NodeRev.{NodeRev}
-use Rattle.fsfs_revision.specs.Frames.{rev_of}
-use Rattle.fsfs_revision.specs.ShowsReading.{DirEntry, named, RepAt, PairsAt, OfContents, StandsAt}
-use Rattle.fsfs_revision.specs.Bounded.{AreSameUpTo}
+use Rattle.fsfs_revision.specs.Rep.Frames.{rev_of}
+use Rattle.fsfs_revision.specs.Shows.Reading.{DirEntry, named, RepAt, PairsAt, OfContents, StandsAt}
+use Rattle.fsfs_revision.specs.Ancestry.Bounded.{AreSameUpTo}
 use Rattle.fsfs_revision.proofs.BoundedIds.{InTime, in_time, behind_to, stands_to}
 use Rattle.fsfs_draft.specs.Own.{OwnNode, Own, below, shared_from, shared_under, node_here, in_own, draft_tree, shared_at}
 use Rattle.fsfs_draft.specs.Rules.{Above, at_top, CopyPartOf, Directory, Same, Before, Drawn, ComesBy, Change, Copied, Made, stands_from, stands_under, above_under, Head, head_at, IsEntryOf, AreEntriesOf, NodeRule, RuleAt, Rules}

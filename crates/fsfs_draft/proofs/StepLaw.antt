@@ -3,7 +3,7 @@ use Rattle.std.proofs.Common.{◌≡◌, ℕ, true, false, cond, [], ◌∷◌, 
 use Rattle.std.specs.Prelude.{Bool, Option, Some, None}
 use Rattle.fsfs_base.proofs.PathLemmas.{covers-longer}
 use Rattle.fsfs_tree.specs.Nodes.{Node, TreeFunction}
-use Rattle.fsfs_base.specs.declared.txn_name.TxnName.{TxnName}
+use Rattle.fsfs_base.specs.declared.fields.txn_name.TxnName.{TxnName}
 use Rattle.fsfs_revision.specs.Told.{RevisionBytes}
 use Rattle.fsfs_draft.specs.Own.{has_entry, draft_tree, shared_under, shared_at, under}
 use Rattle.fsfs_draft.specs.Rules.{head_at}

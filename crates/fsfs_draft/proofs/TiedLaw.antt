@@ -4,7 +4,7 @@ use Rattle.std.specs.Prelude.{Ok, Option, Some, None, is_some, nat_lt, if◌then
 use Rattle.std.proofs.lemmas.Bool.Decides.{nat_tests}
 use Rattle.fsfs_base.specs.Paths.{PathName, Path}
 use Rattle.fsfs_base.specs.declared.kind.Kind.TheVariants.{Dir}
-use Rattle.fsfs_base.specs.declared.txn_name.TxnName.{TxnName}
+use Rattle.fsfs_base.specs.declared.fields.txn_name.TxnName.{TxnName}
 use Rattle.fsfs_revision.specs.Told.{RevisionBytes}
 use Rattle.fsfs_noderev.specs.Ids.{part_value}
 use Rattle.fsfs_noderev.specs.declared.node_id.Part.{Part}
@@ -12,8 +12,8 @@ use Rattle.fsfs_noderev.specs.declared.node_id.Part.TheVariants as parts
 use Rattle.fsfs_noderev.specs.declared.node_id.NodeId.{NodeId}
 use Rattle.fsfs_noderev.specs.declared.node_rev.CopySource.{CopySource}
 use Rattle.fsfs_noderev.specs.declared.node_rev.NodeRev.{NodeRev}
-use Rattle.fsfs_revision.specs.ShowsReading.{DirEntry, named, ChildOf, StandsAt}
-use Rattle.fsfs_revision.specs.Chains.{own_rev, IsPred, copy_root_of}
+use Rattle.fsfs_revision.specs.Shows.Reading.{DirEntry, named, ChildOf, StandsAt}
+use Rattle.fsfs_revision.specs.Shows.Chains.{own_rev, IsPred, copy_root_of}
 use Rattle.fsfs_revision.proofs.TreeLaw.{stands_home}
 use Rattle.fsfs_revision.proofs.Walks.{child_stands}
 use Rattle.fsfs_revision.proofs.Earlier.{stands_of_id, pred_same}

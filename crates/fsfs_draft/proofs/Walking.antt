@@ -1,7 +1,7 @@
 -- What stands below a node-revision of a revision, in the transaction's tree.
 use Rattle.std.proofs.Common.{◌≡◌, ◌≤◌, ◌<◌, ◌+◌, ℕ, true, List, [], ◌∷◌, ◌++◌, length, take, refl, sym, ap, subst, ◌∙◌, inl, inr, append_assoc, append-nil, arith}
-use Rattle.fsfs_model.specs.Edits.{is_dir, is_dir_node}
-use Rattle.fsfs_revision.specs.ByTree.{LacksAt, IsBlockedAt}
+use Rattle.fsfs_model.specs.Flat.Edits.{is_dir, is_dir_node}
+use Rattle.fsfs_revision.specs.Shows.ByTree.{LacksAt, IsBlockedAt}
 use Rattle.fsfs_revision.proofs.Walks.{take_front}
 use Rattle.fsfs_draft.proofs.OwnShown.{own_shown}
 use Rattle.fsfs_draft.proofs.OwnEntries.{own_dir}
@@ -10,15 +10,15 @@ use Rattle.fsfs_base.specs.Paths.{PathName, Path}
 use Rattle.fsfs_tree.specs.Nodes.{Node, TreeFunction}
 use Rattle.fsfs_base.specs.declared.kind.Kind.{Kind}
 use Rattle.fsfs_base.specs.declared.kind.Kind.TheVariants.{File, Dir}
-use Rattle.fsfs_base.specs.declared.txn_name.TxnName.{TxnName}
+use Rattle.fsfs_base.specs.declared.fields.txn_name.TxnName.{TxnName}
 use Rattle.fsfs_revision.specs.Told.{RevisionBytes}
 use Rattle.fsfs_noderev.specs.declared.node_rev.NodeRev.{NodeRev}
 use Rattle.fsfs_revision.specs.declared.wrong.Wrong.{Wrong}
 use Rattle.fsfs_revision.specs.declared.wrong.ReadError.{ReadError}
 use Rattle.fsfs_revision.specs.declared.wrong.ReadError.TheVariants as reads
-use Rattle.fsfs_revision.specs.Readings.{Answers}
-use Rattle.fsfs_revision.specs.ShowsReading.{DirEntry, named, EntriesOf, OfId, OfEntry, kind_checks, OfNamed, ChildOf, StandsAt}
-use Rattle.fsfs_revision.specs.Chains.{own_rev}
+use Rattle.fsfs_revision.specs.Damage.Readings.{Answers}
+use Rattle.fsfs_revision.specs.Shows.Reading.{DirEntry, named, EntriesOf, OfId, OfEntry, kind_checks, OfNamed, ChildOf, StandsAt}
+use Rattle.fsfs_revision.specs.Shows.Chains.{own_rev}
 use Rattle.fsfs_revision.proofs.OneAnswer.{ok_same, pass_or_fail}
 use Rattle.fsfs_revision.proofs.OneWalk.{of_id_one}
 use Rattle.fsfs_draft.specs.Own.{OwnNode, Own, draft_tree, shared_under, shared_at}

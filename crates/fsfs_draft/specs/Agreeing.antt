@@ -6,10 +6,10 @@ use Rattle.fsfs_base.specs.declared.kind.Kind.TheVariants.{Dir}
 use Rattle.fsfs_revision.specs.Told.{RevisionBytes}
 use Rattle.fsfs_noderev.specs.declared.node_rev.NodeRev.{NodeRev}
 use Rattle.fsfs_revision.specs.Nodes.{is_of_revision}
-use Rattle.fsfs_revision.specs.ShowsReading.{DirEntry, named, EntriesOf, OfId, PropsOf}
+use Rattle.fsfs_revision.specs.Shows.Reading.{DirEntry, named, EntriesOf, OfId, PropsOf}
 use Rattle.fsfs_revision.specs.declared.wrong.Wrong.{Wrong}
-use Rattle.fsfs_revision.specs.Chains.{own_rev}
-use Rattle.fsfs_revision.specs.Shown.{IsTextOf}
+use Rattle.fsfs_revision.specs.Shows.Chains.{own_rev}
+use Rattle.fsfs_revision.specs.Shows.Shown.{IsTextOf}
 
 -- the node-revision is shown as this node
 pub record IsContentOf (look : RevisionBytes) (u : NodeRev) (n : Node) : Type 0 where

@@ -1,12 +1,12 @@
 -- A transaction that has just begun: a root of its own, on the root of its base.
 use Rattle.std.specs.Prelude.{◌≡◌, ◌≤◌, ℕ, [], Some, None}
 use Rattle.fsfs_tree.specs.Nodes.{TreeFunction}
-use Rattle.fsfs_base.specs.declared.txn_name.TxnName.{TxnName}
+use Rattle.fsfs_base.specs.declared.fields.txn_name.TxnName.{TxnName}
 use Rattle.fsfs_revision.specs.Told.{RevisionBytes}
 use Rattle.fsfs_noderev.specs.Ids.{PartValue, Old, part_value}
 use Rattle.fsfs_noderev.specs.declared.node_id.Place.TheVariants as places
 use Rattle.fsfs_noderev.specs.declared.node_rev.NodeRev.{NodeRev}
-use Rattle.fsfs_revision.specs.ShowsReading.{StandsAt}
+use Rattle.fsfs_revision.specs.Shows.Reading.{StandsAt}
 use Rattle.fsfs_draft.specs.Own.{OwnNode, alone}
 use Rattle.fsfs_draft.specs.Rules.{GoesOn, draft_root, lasting_root}
 use Rattle.fsfs_draft.specs.Drafts.{Kept, Folder, kept_of, IsBelow, IsDraft, ShowTrees}

@@ -2,8 +2,8 @@
 use Rattle.std.specs.Prelude.{◌≡◌, ◌≤◌, ℕ, Result, OnOk, IfErr}
 use Rattle.fsfs_base.specs.Counts as counts
 use Rattle.fsfs_base.specs.Counts.{Rose}
-use Rattle.fsfs_draft.specs.declared.own.OwnError.{OwnError}
-use Rattle.fsfs_draft.specs.declared.own.OwnError.TheVariants as owns
+use Rattle.fsfs_draft.specs.declared.txn_noderevs.OwnError.{OwnError}
+use Rattle.fsfs_draft.specs.declared.txn_noderevs.OwnError.TheVariants as owns
 use Rattle.fsfs_draft.specs.declared.error.EditError.{EditError}
 use Rattle.fsfs_draft.specs.declared.error.EditError.TheVariants as errors
 

@@ -4,13 +4,13 @@ use Rattle.fsfs_base.specs.Paths.{Path}
 use Rattle.fsfs_tree.specs.Nodes.{Node, TreeFunction, Content, Bytes}
 use Rattle.fsfs_base.specs.declared.kind.Kind.{Kind}
 use Rattle.fsfs_base.specs.declared.kind.Kind.TheVariants.{File, Dir}
-use Rattle.fsfs_model.specs.declared.mark.Mark.{Mark}
-use Rattle.fsfs_model.specs.declared.mark.What.{What}
-use Rattle.fsfs_model.specs.declared.mark.What.TheVariants as whats
-use Rattle.fsfs_model.specs.Folding.{change_of}
+use Rattle.fsfs_model.specs.declared.flat.mark.Mark.{Mark}
+use Rattle.fsfs_model.specs.declared.flat.mark.What.{What}
+use Rattle.fsfs_model.specs.declared.flat.mark.What.TheVariants as whats
+use Rattle.fsfs_model.specs.Flat.Folding.{change_of}
 use Rattle.fsfs_base.specs.declared.action.Action.{Action}
 use Rattle.fsfs_base.specs.declared.action.Action.TheVariants as actions
-use Rattle.fsfs_base.specs.declared.txn_name.TxnName.{TxnName}
+use Rattle.fsfs_base.specs.declared.fields.txn_name.TxnName.{TxnName}
 use Rattle.fsfs_revision.specs.Told.{RevisionBytes}
 use Rattle.fsfs_noderev.specs.Ids.{PartValue, New, Old, Made, part_value}
 use Rattle.fsfs_noderev.specs.declared.node_id.Place.TheVariants as places
@@ -19,10 +19,10 @@ use Rattle.fsfs_noderev.specs.declared.rep.Contents.{Contents}
 use Rattle.fsfs_noderev.specs.declared.rep.Contents.TheVariants as contents
 use Rattle.fsfs_noderev.specs.declared.node_rev.CopySource.{CopySource}
 use Rattle.fsfs_noderev.specs.declared.node_rev.NodeRev.{NodeRev}
-use Rattle.fsfs_noderev.specs.declared.item.ChangeItem.{ChangeItem}
-use Rattle.fsfs_revision.specs.Frames.{RepIn}
-use Rattle.fsfs_revision.specs.ShowsReading.{DirEntry, PropsOf, StandsAt}
-use Rattle.fsfs_revision.specs.Shown.{IsTextOf, Shows}
+use Rattle.fsfs_noderev.specs.declared.changes.item.ChangeItem.{ChangeItem}
+use Rattle.fsfs_revision.specs.Rep.Frames.{RepIn}
+use Rattle.fsfs_revision.specs.Shows.Reading.{DirEntry, PropsOf, StandsAt}
+use Rattle.fsfs_revision.specs.Shows.Shown.{IsTextOf, Shows}
 use Rattle.fsfs_draft.specs.Own.{OwnNode, Own, draft_tree}
 use Rattle.fsfs_draft.specs.Rules.{at_top, Rules}
 

@@ -10,8 +10,8 @@ use Rattle.fsfs_noderev.specs.declared.node_id.NodeId.{NodeId}
 use Rattle.fsfs_noderev.specs.declared.node_rev.NodeRev.{NodeRev}
 use Rattle.fsfs_revision.specs.declared.wrong.Wrong.{Wrong}
 use Rattle.fsfs_revision.specs.declared.wrong.ReadError.{ReadError}
-use Rattle.fsfs_revision.specs.Readings.{AndThen, Answers}
-use Rattle.fsfs_revision.specs.ShowsReading.{DirEntry, EntriesOf, OfId, offset_of, named}
+use Rattle.fsfs_revision.specs.Damage.Readings.{AndThen, Answers}
+use Rattle.fsfs_revision.specs.Shows.Reading.{DirEntry, EntriesOf, OfId, offset_of, named}
 use Rattle.fsfs_dag.specs.declared.directory.DirEntry.{DirEntry as ListedEntry}
 use Rattle.fsfs_dag.specs.Views.{entry_values}
 use Rattle.fsfs_draft.specs.Drafts.{Kept, Folder}

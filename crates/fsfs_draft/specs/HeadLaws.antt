@@ -6,12 +6,12 @@
 use Rattle.std.specs.Prelude.{◌≡◌, ◌≤◌, ◌↔◌, ℕ, true, false}
 use Rattle.fsfs_base.specs.Paths.{Path, is_above}
 use Rattle.fsfs_tree.specs.Nodes.{TreeFunction}
-use Rattle.fsfs_model.specs.Landing.{touched_by_head, held_by_head, props_changed_by_head}
+use Rattle.fsfs_model.specs.Flat.Landing.{touched_by_head, held_by_head, props_changed_by_head}
 use Rattle.fsfs_revision.specs.Told.{RevisionBytes}
 use Rattle.fsfs_noderev.specs.declared.node_rev.NodeRev.{NodeRev}
-use Rattle.fsfs_revision.specs.ShowsReading.{StandsAt}
-use Rattle.fsfs_revision.specs.Chains.{copy_root_of}
-use Rattle.fsfs_revision.specs.Trees.{ShowTrees}
+use Rattle.fsfs_revision.specs.Shows.Reading.{StandsAt}
+use Rattle.fsfs_revision.specs.Shows.Chains.{copy_root_of}
+use Rattle.fsfs_revision.specs.Ancestry.Trees.{ShowTrees}
 
 -- the later node-revision goes on from the same node, and was not copied since revision b, by itself or with what its copy root is
 abbrev pub Continues : ℕ → NodeRev → NodeRev → Type 0

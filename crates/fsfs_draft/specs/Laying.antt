@@ -6,15 +6,15 @@ use Rattle.std.specs.Prelude.{◌≡◌, ◌≤◌, ◌++◌, ℕ, true, false, 
 use Rattle.fsfs_base.specs.Paths.{PathName, Path, same_name, covers}
 use Rattle.fsfs_base.specs.declared.kind.Kind.TheVariants.{Dir}
 use Rattle.fsfs_tree.specs.Nodes.{Node, TreeFunction}
-use Rattle.fsfs_model.specs.Edits.{with_node, with_copy, without, copied_node}
-use Rattle.fsfs_base.specs.declared.txn_name.TxnName.{TxnName}
+use Rattle.fsfs_model.specs.Flat.Edits.{with_node, with_copy, without, copied_node}
+use Rattle.fsfs_base.specs.declared.fields.txn_name.TxnName.{TxnName}
 use Rattle.fsfs_revision.specs.Told.{RevisionBytes}
 use Rattle.fsfs_noderev.specs.Ids.{PartValue}
 use Rattle.fsfs_noderev.specs.declared.node_id.Place.TheVariants as places
 use Rattle.fsfs_noderev.specs.declared.node_id.NodeId.{NodeId}
 use Rattle.fsfs_noderev.specs.declared.node_rev.CopySource.{CopySource}
 use Rattle.fsfs_noderev.specs.declared.node_rev.NodeRev.{NodeRev}
-use Rattle.fsfs_revision.specs.ShowsReading.{DirEntry, named, StandsAt}
+use Rattle.fsfs_revision.specs.Shows.Reading.{DirEntry, named, StandsAt}
 use Rattle.fsfs_draft.specs.Own.{OwnNode, Own, draft_tree, shared_under, shared_at, graft, under, alone, nothing, with_child, opened}
 use Rattle.fsfs_draft.specs.Rules.{ComesBy, head_at, IsEntryOf, above_of, stands_under, stands_at}
 use Rattle.fsfs_draft.specs.Drafts.{Kept, Folder, kept_of, HasContent, IsBelow, IsDraft, ShowTrees}

@@ -6,7 +6,7 @@ use Rattle.fsfs_base.specs.Paths.{PathName, Path, same_name}
 use Rattle.fsfs_tree.specs.Nodes.{TreeFunction}
 use Rattle.fsfs_revision.specs.Told.{Told, RevisionBytes, Knows}
 use Rattle.fsfs_noderev.specs.declared.node_id.NodeId.{NodeId}
-use Rattle.fsfs_revision.specs.ShowsReading.{DirEntry, named}
+use Rattle.fsfs_revision.specs.Shows.Reading.{DirEntry, named}
 use Rattle.fsfs_draft.specs.Drafts.{Kept, Folder}
 use Rattle.fsfs_draft.specs.Steps.{kept_at}
 use Rattle.fsfs_draft.specs.Entries.{OfKept, IsWithin}

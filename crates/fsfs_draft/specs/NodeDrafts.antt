@@ -14,9 +14,9 @@ use Rattle.fsfs_noderev.specs.declared.rep.Contents.TheVariants as contents
 use Rattle.fsfs_noderev.specs.declared.node_rev.CopyRoot.{CopyRoot}
 use Rattle.fsfs_noderev.specs.declared.node_rev.CopySource.{CopySource}
 use Rattle.fsfs_noderev.specs.declared.node_rev.NodeRev.{NodeRev}
-use Rattle.fsfs_revision.specs.ShowsReading.{ChildOf, StandsAt}
-use Rattle.fsfs_revision.specs.Chains.{own_rev, IsPred, copy_root_of}
-use Rattle.fsfs_revision.specs.IdRules.{IsBehind}
+use Rattle.fsfs_revision.specs.Shows.Reading.{ChildOf, StandsAt}
+use Rattle.fsfs_revision.specs.Shows.Chains.{own_rev, IsPred, copy_root_of}
+use Rattle.fsfs_revision.specs.Shows.IdRules.{IsBehind}
 use Rattle.fsfs_draft.specs.OwnSides.{NodesAt, in_txn}
 
 -- the copy root's revision and path, where n stands for the transaction's own revision

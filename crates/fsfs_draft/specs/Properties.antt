@@ -3,8 +3,8 @@ use Rattle.std.specs.Prelude.{◌≡◌, [], Option, Some, None, Result, Ok}
 use Rattle.fsfs_revision.specs.Told.{RevisionBytes}
 use Rattle.fsfs_noderev.specs.declared.node_id.NodeId.{NodeId}
 use Rattle.fsfs_revision.specs.declared.wrong.Wrong.{Wrong}
-use Rattle.fsfs_revision.specs.Readings.{AndThen}
-use Rattle.fsfs_revision.specs.ShowsReading.{Pairs, OfId, PropsOf}
+use Rattle.fsfs_revision.specs.Damage.Readings.{AndThen}
+use Rattle.fsfs_revision.specs.Shows.Reading.{Pairs, OfId, PropsOf}
 use Rattle.fsfs_draft.specs.Drafts.{Kept}
 
 -- of the node-revision of an id

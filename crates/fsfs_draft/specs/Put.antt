@@ -4,7 +4,7 @@ use Rattle.fsfs_base.specs.Paths.{PathName}
 use Rattle.fsfs_base.specs.declared.kind.Kind.{Kind}
 use Rattle.fsfs_noderev.specs.declared.node_id.NodeId.{NodeId}
 use Rattle.fsfs_noderev.specs.declared.node_rev.NodeRev.{NodeRev}
-use Rattle.fsfs_revision.specs.ShowsReading.{DirEntry}
+use Rattle.fsfs_revision.specs.Shows.Reading.{DirEntry}
 use Rattle.fsfs_draft.specs.Drafts.{Kept, Folder}
 use Rattle.fsfs_draft.specs.Steps.{with_kept}
 use Rattle.fsfs_draft.specs.Views.{new_kept, opened_kept}

@@ -12,9 +12,9 @@ use Rattle.fsfs_noderev.specs.declared.node_id.NodeId.{NodeId}
 use Rattle.fsfs_noderev.specs.declared.node_rev.CopyRoot.{CopyRoot}
 use Rattle.fsfs_noderev.specs.declared.node_rev.CopySource.{CopySource}
 use Rattle.fsfs_noderev.specs.declared.node_rev.NodeRev.{NodeRev}
-use Rattle.fsfs_revision.specs.ShowsReading.{DirEntry, named, StandsAt}
-use Rattle.fsfs_revision.specs.Chains.{own_rev, copy_root_of}
-use Rattle.fsfs_revision.specs.IdRules.{IsBehind}
+use Rattle.fsfs_revision.specs.Shows.Reading.{DirEntry, named, StandsAt}
+use Rattle.fsfs_revision.specs.Shows.Chains.{own_rev, copy_root_of}
+use Rattle.fsfs_revision.specs.Shows.IdRules.{IsBehind}
 use Rattle.fsfs_draft.specs.Own.{OwnNode, Own, below}
 
 -- v goes on from u, a node-revision of a revision

@@ -1,13 +1,13 @@
 -- One step of the way down a path on which each directory becomes the transaction's own.
 use Rattle.std.specs.Prelude.{◌≡◌, ◌==◌, ◌+◌, ◌-◌, ◌^◌, ◌++◌, min, Bool, false, ◌&&◌, List, [], ◌∷◌, Option, Some, None, Ok, if◌then◌else◌}
 use Rattle.fsfs_base.specs.Paths.{PathName}
-use Rattle.fsfs_base.specs.declared.txn_name.TxnName.{TxnName}
+use Rattle.fsfs_base.specs.declared.fields.txn_name.TxnName.{TxnName}
 use Rattle.fsfs_revision.specs.Told.{RevisionBytes}
 use Rattle.fsfs_noderev.specs.Ids.{PartValue, New, Old, Made, part_value}
 use Rattle.fsfs_noderev.specs.declared.node_id.Place.TheVariants as places
 use Rattle.fsfs_noderev.specs.declared.node_id.NodeId.{NodeId}
 use Rattle.fsfs_noderev.specs.declared.node_rev.NodeRev.{NodeRev}
-use Rattle.fsfs_revision.specs.ShowsReading.{DirEntry, EntriesOf, OfId}
+use Rattle.fsfs_revision.specs.Shows.Reading.{DirEntry, EntriesOf, OfId}
 use Rattle.fsfs_draft.specs.Rules.{draft_root, root_after}
 use Rattle.fsfs_draft.specs.Drafts.{Kept}
 

@@ -1,15 +1,15 @@
 -- Own node-revisions, and what is met on the way down: what ties the one to the other.
 use Rattle.std.specs.Prelude.{◌≡◌, ◌≤◌, ◌++◌, ℕ, List, [], ◌∷◌, Option, Some, None, Ok, false}
 use Rattle.fsfs_base.specs.Paths.{PathName, Path}
-use Rattle.fsfs_base.specs.declared.txn_name.TxnName.{TxnName}
+use Rattle.fsfs_base.specs.declared.fields.txn_name.TxnName.{TxnName}
 use Rattle.fsfs_revision.specs.Told.{RevisionBytes}
 use Rattle.fsfs_noderev.specs.declared.node_id.Place.TheVariants as places
 use Rattle.fsfs_noderev.specs.Ids.{PartValue, part_value}
 use Rattle.fsfs_noderev.specs.declared.node_rev.NodeRev.{NodeRev}
 use Rattle.fsfs_tree.specs.Nodes.{TreeFunction}
 use Rattle.fsfs_base.specs.declared.kind.Kind.TheVariants.{Dir}
-use Rattle.fsfs_revision.specs.ShowsReading.{DirEntry, named, ChildOf}
-use Rattle.fsfs_revision.specs.Chains.{IsPred}
+use Rattle.fsfs_revision.specs.Shows.Reading.{DirEntry, named, ChildOf}
+use Rattle.fsfs_revision.specs.Shows.Chains.{IsPred}
 use Rattle.fsfs_draft.specs.Own.{OwnNode, Own}
 use Rattle.fsfs_draft.specs.Rules.{Keeps}
 use Rattle.fsfs_draft.specs.Drafts.{Kept, Folder, kept_of, HasContent, IsBelow, IsDraft, ShowTrees}

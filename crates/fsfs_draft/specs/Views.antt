@@ -6,11 +6,11 @@ use Rattle.fsfs_noderev.specs.declared.node_id.NodeId.{NodeId}
 use Rattle.fsfs_noderev.specs.declared.node_rev.CopyRoot.{CopyRoot}
 use Rattle.fsfs_noderev.specs.declared.node_rev.NodeRev.{NodeRev}
 use Rattle.fsfs_draft.specs.Rules.{Root}
-use Rattle.fsfs_revision.specs.ShowsReading.{DirEntry}
-use Rattle.fsfs_dag.specs.ListingViews.{listed}
+use Rattle.fsfs_revision.specs.Shows.Reading.{DirEntry}
+use Rattle.fsfs_dag.specs.Listing.Views.{listed}
 use Rattle.fsfs_draft.specs.Drafts.{Kept, Folder}
 use Rattle.fsfs_draft.specs.Steps.{with_kept}
-use Rattle.fsfs_draft.specs.declared.own.KeptNode.{KeptNode}
+use Rattle.fsfs_draft.specs.declared.txn_noderevs.KeptNode.{KeptNode}
 
 abbrev pub kept_value : KeptNode → Kept
 kept_value k = record { node = k.node; entries = option_map listed k.entries; props = k.props }

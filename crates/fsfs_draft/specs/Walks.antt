@@ -3,13 +3,13 @@ use Rattle.std.specs.Prelude.{◌≡◌, ◌++◌, ℕ, Option, Some, None, Resu
 use Rattle.fsfs_base.specs.Paths.{Path}
 use Rattle.fsfs_tree.specs.Nodes.{Node, TreeFunction}
 use Rattle.fsfs_base.specs.declared.kind.Kind.{Kind}
-use Rattle.fsfs_base.specs.declared.txn_name.TxnName.{TxnName}
+use Rattle.fsfs_base.specs.declared.fields.txn_name.TxnName.{TxnName}
 use Rattle.fsfs_revision.specs.Told.{RevisionBytes}
 use Rattle.fsfs_noderev.specs.Ids.{Old, part_value}
 use Rattle.fsfs_noderev.specs.declared.node_id.Place.TheVariants as places
 use Rattle.fsfs_noderev.specs.declared.node_id.NodeId.{NodeId}
 use Rattle.fsfs_noderev.specs.declared.node_rev.NodeRev.{NodeRev}
-use Rattle.fsfs_revision.specs.ShowsReading.{StandsAt}
+use Rattle.fsfs_revision.specs.Shows.Reading.{StandsAt}
 use Rattle.fsfs_draft.specs.Own.{OwnNode, Own, draft_tree, shared_under, shared_at}
 use Rattle.fsfs_draft.specs.Rules.{stands_under, stands_at}
 use Rattle.fsfs_draft.specs.Errors.{IsFailure}
@@ -19,7 +19,7 @@ use Rattle.fsfs_draft.specs.declared.walk.Step.TheVariants as steps
 use Rattle.fsfs_draft.specs.declared.walk.Child.{Child}
 use Rattle.fsfs_draft.specs.declared.walk.Found.{Found}
 use Rattle.fsfs_draft.specs.declared.walk.Found.TheVariants as founds
-use Rattle.fsfs_revision.specs.ByTree.{LacksAt, IsBlockedAt}
+use Rattle.fsfs_revision.specs.Shows.ByTree.{LacksAt, IsBlockedAt}
 
 -- the id of a transaction's root
 pub record IsRootId (txn : TxnName) (id : NodeId) : Type 0 where

@@ -2,15 +2,15 @@
 ghost use Rattle.std.specs.Prelude.{◌≡◌, ◌≤◌, ℕ, List, Some, Ok, IfOk, IfErr, IfSome, map, take};
 ghost use Rattle.fsfs_base.specs.declared.kind.Kind.TheVariants.{Dir};
 ghost use Rattle.fsfs_revision.specs.Told.{RevisionBytes, Knows, Keeps};
-ghost use Rattle.fsfs_revision.specs.Readings.{Answers};
-ghost use Rattle.fsfs_revision.specs.ShowsReading.{offset_of};
-ghost use Rattle.fsfs_revision.specs.Causes.{HasCause};
+ghost use Rattle.fsfs_revision.specs.Damage.Readings.{Answers};
+ghost use Rattle.fsfs_revision.specs.Shows.Reading.{offset_of};
+ghost use Rattle.fsfs_revision.specs.Damage.Causes.{HasCause};
 ghost use Rattle.fsfs_dag.specs.Views.{entry_values};
-ghost use Rattle.fsfs_dag.specs.ListingViews.{listed};
+ghost use Rattle.fsfs_dag.specs.Listing.Views.{listed};
 ghost use Rattle.fsfs_draft.specs.Entries.{OfKept, OfIdEntries, IsWithin, IsListedAs, FailsLike};
 ghost use Rattle.fsfs_draft.specs.Views.{kept_value};
 
-use crate::own::KeptNode;
+use crate::txn_noderevs::KeptNode;
 use fsfs_base::Kind;
 use fsfs_dag::{DirEntry, Listing, entries, named_node};
 use fsfs_noderev::NodeId;

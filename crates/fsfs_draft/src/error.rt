@@ -1,7 +1,7 @@
 //! Why an edit was not done.
 ghost use Rattle.std.specs.Prelude.{◌≡◌};
 
-use crate::own::OwnError;
+use crate::txn_noderevs::OwnError;
 use fsfs_revision::{ReadError, Wrong};
 use std::alloc::AllocError;
 use thiserror::Error;

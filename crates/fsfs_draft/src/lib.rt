@@ -13,9 +13,9 @@ mod entries;
 mod error;
 mod laws;
 mod names;
-mod own;
 mod properties;
 mod roots;
+mod txn_noderevs;
 mod walk;
 
 pub use drafts_laws::{
@@ -28,7 +28,7 @@ pub use entries::{entries_in, lasting_entries, listed_in};
 pub use error::EditError;
 pub use laws::{ids_tell_what_a_head_changed, untouched_is_shared};
 pub use names::room_in;
-pub use own::{KeptNode, Own, OwnError};
 pub use properties::properties_in;
 pub use roots::lasting_root;
+pub use txn_noderevs::{KeptNode, Own, OwnError};
 pub use walk::{Child, Found, Step, met, next, root_id};

@@ -8,7 +8,7 @@ ghost use Rattle.fsfs_draft.specs.Names.{HasFew, HasNames, IsRoom, TellsRoom};
 
 use crate::entries::entries_in;
 use crate::error::EditError;
-use crate::own::{KeptNode, Own};
+use crate::txn_noderevs::{KeptNode, Own};
 use fsfs_base::FsPath;
 use fsfs_dag::DirEntry;
 use fsfs_noderev::NodeId;

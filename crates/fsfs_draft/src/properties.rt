@@ -1,14 +1,14 @@
 //! The properties of an own node-revision.
 ghost use Rattle.std.specs.Prelude.{◌≡◌, ℕ};
 ghost use Rattle.fsfs_revision.specs.Told.{RevisionBytes, Knows, Keeps};
-ghost use Rattle.fsfs_revision.specs.Readings.{Answers};
-ghost use Rattle.fsfs_revision.specs.ShowsReading.{offset_of};
-ghost use Rattle.fsfs_revision.specs.Causes.{HasCause};
+ghost use Rattle.fsfs_revision.specs.Damage.Readings.{Answers};
+ghost use Rattle.fsfs_revision.specs.Shows.Reading.{offset_of};
+ghost use Rattle.fsfs_revision.specs.Damage.Causes.{HasCause};
 ghost use Rattle.fsfs_draft.specs.Entries.{IsWithin};
 ghost use Rattle.fsfs_draft.specs.Properties.{OfIdProps, OfKeptProps};
 ghost use Rattle.fsfs_draft.specs.Views.{kept_value};
 
-use crate::own::KeptNode;
+use crate::txn_noderevs::KeptNode;
 use fsfs_base::Pairs;
 use fsfs_dag::{named_node, props};
 use fsfs_noderev::NodeId;

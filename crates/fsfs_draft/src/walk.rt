@@ -6,13 +6,13 @@ ghost use Rattle.fsfs_base.specs.declared.kind.Kind.TheVariants.{Dir};
 ghost use Rattle.fsfs_revision.specs.Told.{RevisionBytes, Knows, Keeps};
 ghost use Rattle.fsfs_draft.specs.Own.{Own as Owns, OwnNode, draft_tree};
 ghost use Rattle.fsfs_draft.specs.Drafts.{Folder, IsDraft, ShowTrees};
-ghost use Rattle.fsfs_base.specs.declared.txn_name.TxnName.{TxnName};
+ghost use Rattle.fsfs_base.specs.declared.fields.txn_name.TxnName.{TxnName};
 ghost use Rattle.fsfs_draft.specs.Walks.{IsRootId, IsAt, IsLastingAt, HasKind, IsChild, IsFound};
 ghost use Rattle.fsfs_draft.specs.Causes.{HasDiskCause, HasBenchCause};
 
 use crate::entries::listed_in;
 use crate::error::EditError;
-use crate::own::Own;
+use crate::txn_noderevs::Own;
 use fsfs_base::{B36, FsPath, Kind, TxnName};
 use fsfs_dag::{PlacedNode, child_named, child_of};
 use fsfs_noderev::{NodeId, Part, Place};

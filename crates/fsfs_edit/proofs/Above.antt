@@ -4,9 +4,9 @@ use Rattle.std.proofs.lemmas.Bool.{true≢false}
 use Rattle.std.proofs.lemmas.List.{drop_more, take_more}
 use Rattle.std.specs.Cmp.Lexicographic.{nat_list_eq_equiv}
 use Rattle.fsfs_base.specs.Paths.{Path, same_name, same_path, covers, is_above}
-use Rattle.fsfs_noderev.specs.declared.item.ChangeItem.{ChangeItem}
-use Rattle.fsfs_edit.specs.Lasting.{any_above, is_deleted_at, is_deleted_above}
-use Rattle.fsfs_model.specs.Folding.{deletes}
+use Rattle.fsfs_noderev.specs.declared.changes.item.ChangeItem.{ChangeItem}
+use Rattle.fsfs_edit.specs.Folds.Lasting.{any_above, is_deleted_at, is_deleted_above}
+use Rattle.fsfs_model.specs.Flat.Folding.{deletes}
 
 -- ---- any test
 

@@ -3,17 +3,17 @@ use Rattle.std.proofs.Common.{◌≡◌, cond, List, Result, Ok, ap, ◌∙◌}
 use Rattle.std.specs.Prelude.{Option, Some, None, Err, IfOk}
 use Rattle.fsfs_base.specs.Paths.{PathName, same_name}
 use Rattle.fsfs_base.specs.declared.kind.Kind.{Kind}
-use Rattle.fsfs_base.specs.declared.txn_name.TxnName.{TxnName}
+use Rattle.fsfs_base.specs.declared.fields.txn_name.TxnName.{TxnName}
 use Rattle.fsfs_noderev.specs.declared.node_id.NodeId.{NodeId}
 use Rattle.fsfs_noderev.specs.declared.node_rev.CopySource.{CopySource}
 use Rattle.fsfs_noderev.specs.declared.node_rev.NodeRev.{NodeRev}
-use Rattle.fsfs_revision.specs.ShowsReading.{DirEntry, named}
+use Rattle.fsfs_revision.specs.Shows.Reading.{DirEntry, named}
 use Rattle.fsfs_draft.specs.Drafts.{Folder}
 use Rattle.fsfs_draft.specs.Taken.{IsEntryTaken}
 use Rattle.fsfs_draft.specs.declared.error.EditError.{EditError}
-use Rattle.fsfs_edit.specs.Mutable.{IsChildChanged}
-use Rattle.fsfs_edit.specs.Made.{IsChildMade}
-use Rattle.fsfs_edit.specs.Copied.{IsCopyPut}
+use Rattle.fsfs_edit.specs.DagEdits.Mutable.{IsChildChanged}
+use Rattle.fsfs_edit.specs.DagEdits.Made.{IsChildMade}
+use Rattle.fsfs_edit.specs.DagEdits.Copied.{IsCopyPut}
 use Rattle.fsfs_dag.specs.Entries.{HasPut}
 
 module _ (entries others : List DirEntry) (alike : (y : PathName) → named y entries ≡ named y others) where

@@ -6,12 +6,12 @@ use Rattle.fsfs_base.specs.Paths.{PathName, Path}
 use Rattle.fsfs_base.specs.declared.kind.Kind.{Kind}
 use Rattle.fsfs_base.specs.declared.kind.Kind.TheVariants.{File, Dir}
 use Rattle.fsfs_tree.specs.Nodes.{Node, TreeFunction}
-use Rattle.fsfs_model.specs.Edits.{is_dir_node}
+use Rattle.fsfs_model.specs.Flat.Edits.{is_dir_node}
 use Rattle.fsfs_revision.specs.Told.{RevisionBytes}
-use Rattle.fsfs_revision.specs.ByTree.{LacksAt, IsBlockedAt}
+use Rattle.fsfs_revision.specs.Shows.ByTree.{LacksAt, IsBlockedAt}
 use Rattle.fsfs_draft.specs.Own.{Own, draft_tree}
 use Rattle.fsfs_draft.specs.Drafts.{bare}
-use Rattle.fsfs_edit.specs.Mutable.{LeadsTo}
+use Rattle.fsfs_edit.specs.DagEdits.Mutable.{LeadsTo}
 use Rattle.fsfs_draft.specs.Walks.{HasKind, IsFound}
 use Rattle.fsfs_edit.specs.Ways.{IsNoDirectory, IsTarget, IsFoundIn}
 use Rattle.fsfs_draft.specs.declared.error.EditError.{EditError}

@@ -5,10 +5,10 @@ use Rattle.fsfs_base.specs.Paths.{Path}
 use Rattle.fsfs_tree.specs.Nodes.{Node, TreeFunction}
 use Rattle.fsfs_revision.specs.Told.{RevisionBytes}
 use Rattle.fsfs_noderev.specs.declared.node_rev.NodeRev.{NodeRev}
-use Rattle.fsfs_revision.specs.ShowsReading.{MetAt}
-use Rattle.fsfs_revision.specs.Shown.{IsShown, Shows}
+use Rattle.fsfs_revision.specs.Shows.Reading.{MetAt}
+use Rattle.fsfs_revision.specs.Shows.Shown.{IsShown, Shows}
 use Rattle.fsfs_revision.proofs.ByTree.{by_tree}
-use Rattle.fsfs_revision.specs.Readings.{Answers}
+use Rattle.fsfs_revision.specs.Damage.Readings.{Answers}
 use Rattle.fsfs_revision.specs.declared.wrong.ReadError.{ReadError}
 use Rattle.fsfs_revision.specs.declared.wrong.ReadError.TheVariants as reads
 use Rattle.fsfs_dag.specs.Views.{met_value}

@@ -7,15 +7,15 @@ use Rattle.fsfs_tree.specs.Nodes.{Node, TreeFunction}
 use Rattle.fsfs_base.specs.declared.kind.Kind.{Kind}
 use Rattle.fsfs_base.specs.declared.kind.Kind.TheVariants.{File, Dir}
 use Rattle.fsfs_base.proofs.PathLemmas.{same_name-refl}
-use Rattle.fsfs_base.specs.declared.txn_name.TxnName.{TxnName}
+use Rattle.fsfs_base.specs.declared.fields.txn_name.TxnName.{TxnName}
 use Rattle.fsfs_revision.specs.Told.{RevisionBytes}
 use Rattle.fsfs_noderev.specs.Ids.{PartValue, part_value}
 use Rattle.fsfs_noderev.specs.declared.node_id.Part.{Part}
 use Rattle.fsfs_noderev.specs.declared.node_id.NodeId.{NodeId}
 use Rattle.fsfs_noderev.specs.declared.rep.Contents.{Contents}
 use Rattle.fsfs_noderev.specs.declared.node_rev.NodeRev.{NodeRev}
-use Rattle.fsfs_revision.specs.ShowsReading.{DirEntry, named, OfId, PairsAt, OfContents, StandsAt}
-use Rattle.fsfs_revision.specs.Shown.{IsTextOf}
+use Rattle.fsfs_revision.specs.Shows.Reading.{DirEntry, named, OfId, PairsAt, OfContents, StandsAt}
+use Rattle.fsfs_revision.specs.Shows.Shown.{IsTextOf}
 use Rattle.fsfs_draft.specs.Own.{OwnNode, Own, opened}
 use Rattle.fsfs_draft.specs.Rules.{Copied, IsEntryOf, stands_under, stands_at}
 use Rattle.fsfs_draft.specs.Drafts.{Kept, Folder, IsItemOf, kept_of, IsLasting, Lasting, IsDraftText, HasContent, IsBelow, IsDraft, ShowTrees}
@@ -25,20 +25,20 @@ use Rattle.fsfs_draft.specs.Laying.{stands_in, IsLaid, IsLaying, IsDrawnFor, Ste
 use Rattle.fsfs_draft.proofs.Bases.{copy_agrees}
 use Rattle.fsfs_draft.proofs.Changing.{below_more, of_id_lasting, lasting_text, is_lasting, same_text}
 use Rattle.fsfs_draft.specs.Agreeing.{IsContentOf}
-use Rattle.fsfs_model.specs.Edits.{copied_node}
+use Rattle.fsfs_model.specs.Flat.Edits.{copied_node}
 use Rattle.fsfs_noderev.specs.declared.node_rev.CopySource.{CopySource}
 use Rattle.fsfs_revision.specs.Nodes.{is_lasting_part, is_of_revision}
-use Rattle.fsfs_model.specs.declared.mark.Mark.{Mark}
-use Rattle.fsfs_model.specs.declared.mark.What.TheVariants as whats
-use Rattle.fsfs_noderev.specs.declared.item.ChangeItem.{ChangeItem}
+use Rattle.fsfs_model.specs.declared.flat.mark.Mark.{Mark}
+use Rattle.fsfs_model.specs.declared.flat.mark.What.TheVariants as whats
+use Rattle.fsfs_noderev.specs.declared.changes.item.ChangeItem.{ChangeItem}
 use Rattle.fsfs_draft.specs.Sides.{HasFiles}
 use Rattle.fsfs_draft.specs.Edits.{IsCopy}
 use Rattle.fsfs_draft.proofs.EditLaw.{edits_keep_drafts}
 use Rattle.fsfs_draft.specs.Errors.{IsWant}
 use Rattle.fsfs_draft.specs.Items.{with_item, IsFileAt}
 use Rattle.fsfs_draft.specs.Views.{new_kept, opened_kept}
-use Rattle.fsfs_edit.specs.Mutable.{drawn, IsAmiss}
-use Rattle.fsfs_edit.specs.Copied.{IsCopyNode, IsCopyPut, LeavesCopy}
+use Rattle.fsfs_edit.specs.DagEdits.Mutable.{drawn, IsAmiss}
+use Rattle.fsfs_edit.specs.DagEdits.Copied.{IsCopyNode, IsCopyPut, LeavesCopy}
 use Rattle.fsfs_draft.specs.declared.error.EditError.{EditError}
 use Rattle.fsfs_draft.specs.declared.error.EditError.TheVariants as errors
 use Rattle.fsfs_draft.proofs.OwnEntries.{lasting_id, AreLasting, lasting_parts}

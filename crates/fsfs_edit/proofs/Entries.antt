@@ -17,12 +17,12 @@ use Rattle.fsfs_base.specs.Paths.{Path, same_path, names_text}
 use Rattle.fsfs_base.specs.PathTexts.{IsPath}
 use Rattle.fsfs_base.proofs.PathLemmas.{same_path-is}
 use Rattle.fsfs_base.proofs.PathTextLemmas.{names_whole, absolute}
-use Rattle.fsfs_noderev.specs.Changes.{HavePathsOnce}
-use Rattle.fsfs_noderev.specs.declared.item.ChangeItem.{ChangeItem}
+use Rattle.fsfs_noderev.specs.Changes.Texts.{HavePathsOnce}
+use Rattle.fsfs_noderev.specs.declared.changes.item.ChangeItem.{ChangeItem}
 use Rattle.fsfs_noderev.proofs.Rising.{AreUpTo, rising_new, rising_more}
-use Rattle.fsfs_edit.specs.FoldedItems.{FoldedItem, HasPath, text_of, item_in, item_at}
-use Rattle.fsfs_edit.specs.Views.{told, said_value, items_of_one, items_told}
-use Rattle.fsfs_edit.specs.declared.said.Said.{Said}
+use Rattle.fsfs_edit.specs.Folds.FoldedItems.{FoldedItem, HasPath, text_of, item_in, item_at}
+use Rattle.fsfs_edit.specs.Folds.Views.{told, said_value, items_of_one, items_told}
+use Rattle.fsfs_edit.specs.declared.folds.said.Said.{Said}
 use Rattle.fsfs_edit.proofs.KeyTexts.{IsWhole, same_key, text_less}
 use Rattle.fsfs_edit.proofs.SaidLemmas.{IsKeyed}
 

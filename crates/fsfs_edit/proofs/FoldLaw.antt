@@ -4,11 +4,11 @@ use Rattle.std.proofs.lemmas.Bool.{both_ways, cases_Bool, false_from_ne_true}
 use Rattle.std.specs.List.{AllByRecursion}
 use Rattle.fsfs_base.specs.Paths.{Path, same_path, covers, is_above, names_text}
 use Rattle.fsfs_base.proofs.PathLemmas.{same_path-is, same_path-refl, covers-refl, covers-antisym}
-use Rattle.fsfs_noderev.specs.declared.item.ChangeItem.{ChangeItem}
-use Rattle.fsfs_edit.specs.FoldedItems.{FoldedItem, joined, fold_item, fold_items_from}
-use Rattle.fsfs_edit.specs.Lasting.{is_deleted_above, lasting, say_all_by_key}
+use Rattle.fsfs_noderev.specs.declared.changes.item.ChangeItem.{ChangeItem}
+use Rattle.fsfs_edit.specs.Folds.FoldedItems.{FoldedItem, joined, fold_item, fold_items_from}
+use Rattle.fsfs_edit.specs.Folds.Lasting.{is_deleted_above, lasting, say_all_by_key}
 use Rattle.fsfs_edit.proofs.KeyTexts.{IsWhole, same_key}
-use Rattle.fsfs_model.specs.Folding.{deletes}
+use Rattle.fsfs_model.specs.Flat.Folding.{deletes}
 
 -- what is said of a path by items of it, whatever is deleted above
 abbrev pub say_at : Path → Option FoldedItem → ChangeItem → Option FoldedItem

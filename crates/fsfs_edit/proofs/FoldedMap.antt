@@ -11,15 +11,15 @@ use Rattle.std.specs.Cmp.Lexicographic.{slice_cmp, nat_list_eq_equiv}
 use Rattle.indexmap.proofs.MapLemmas.{lookup_permutation}
 use Rattle.fsfs_base.specs.Paths.{Path, names_text}
 use Rattle.fsfs_base.proofs.PathTextLemmas.{names_whole}
-use Rattle.fsfs_model.specs.declared.mark.Mark.{Mark}
-use Rattle.fsfs_model.specs.Folding.{fold}
-use Rattle.fsfs_noderev.specs.Items.{HasText}
-use Rattle.fsfs_noderev.specs.Changes.{HavePathsOnce}
-use Rattle.fsfs_noderev.specs.declared.item.ChangeItem.{ChangeItem}
-use Rattle.fsfs_edit.specs.FoldedItems.{HasPath, text_of, item_in, item_at, fold_items}
-use Rattle.fsfs_edit.specs.Marks.{SaysMark, AgreesWith}
-use Rattle.fsfs_edit.specs.Lasting.{lasting, say_all_by_key}
-use Rattle.fsfs_edit.specs.Views.{told, items_told}
+use Rattle.fsfs_model.specs.declared.flat.mark.Mark.{Mark}
+use Rattle.fsfs_model.specs.Flat.Folding.{fold}
+use Rattle.fsfs_noderev.specs.Changes.Items.{HasText}
+use Rattle.fsfs_noderev.specs.Changes.Texts.{HavePathsOnce}
+use Rattle.fsfs_noderev.specs.declared.changes.item.ChangeItem.{ChangeItem}
+use Rattle.fsfs_edit.specs.Folds.FoldedItems.{HasPath, text_of, item_in, item_at, fold_items}
+use Rattle.fsfs_edit.specs.Folds.Marks.{SaysMark, AgreesWith}
+use Rattle.fsfs_edit.specs.Folds.Lasting.{lasting, say_all_by_key}
+use Rattle.fsfs_edit.specs.Folds.Views.{told, items_told}
 use Rattle.fsfs_edit.proofs.KeyTexts.{IsWhole, whole_or_not}
 use Rattle.fsfs_edit.proofs.FoldLaw.{AreWhole, lasting_all, folded_by_key, folded_none}
 use Rattle.fsfs_edit.proofs.SaidLemmas.{IsKeyed, TextFits, all_weaker, said_keyed, said_fits}

@@ -4,13 +4,13 @@ use Rattle.std.specs.Prelude.{All}
 use Rattle.std.proofs.lemmas.List.{take_all, take_more, get_or_at, length-append}
 use Rattle.std.specs.Borrow.{Bor}
 use Rattle.fsfs_base.specs.Paths.{Path, names_text}
-use Rattle.fsfs_noderev.specs.declared.item.ChangeItem.{ChangeItem}
+use Rattle.fsfs_noderev.specs.declared.changes.item.ChangeItem.{ChangeItem}
 use Rattle.fsfs_base.proofs.PathTextLemmas.{names_whole}
-use Rattle.fsfs_edit.specs.FoldedItems.{HasPath}
-use Rattle.fsfs_edit.specs.Lasting.{any_above, is_deleted_at, is_deleted_above, is_deleted_after, lasting}
+use Rattle.fsfs_edit.specs.Folds.FoldedItems.{HasPath}
+use Rattle.fsfs_edit.specs.Folds.Lasting.{any_above, is_deleted_at, is_deleted_above, is_deleted_after, lasting}
 use Rattle.fsfs_edit.proofs.Above.{any_above_agree, deleted_above}
 use Rattle.fsfs_edit.proofs.KeyTexts.{IsWhole, same_key, whole_prefix}
-use Rattle.fsfs_model.specs.Folding.{deletes}
+use Rattle.fsfs_model.specs.Flat.Folding.{deletes}
 
 abbrev pub items_found : List (Bor ChangeItem) → List ChangeItem
 items_found found = reverse (map (λ item. item.now) found)

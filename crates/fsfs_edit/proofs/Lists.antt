@@ -5,8 +5,8 @@ use Rattle.fsfs_revision.specs.Told.{RevisionBytes}
 use Rattle.fsfs_revision.specs.declared.wrong.Wrong.{Wrong}
 use Rattle.fsfs_revision.specs.declared.wrong.ReadError.{ReadError}
 use Rattle.fsfs_revision.specs.declared.wrong.ReadError.TheVariants as reads
-use Rattle.fsfs_revision.specs.Readings.{Answers}
-use Rattle.fsfs_revision.specs.ShowsReading.{Pairs}
+use Rattle.fsfs_revision.specs.Damage.Readings.{Answers}
+use Rattle.fsfs_revision.specs.Shows.Reading.{Pairs}
 use Rattle.fsfs_draft.specs.Drafts.{Kept}
 use Rattle.fsfs_draft.specs.Errors.{of_read, IsFailure}
 use Rattle.fsfs_draft.specs.Properties.{OfKeptProps}

@@ -5,7 +5,7 @@ use Rattle.fsfs_base.specs.Paths.{PathName, Path}
 use Rattle.fsfs_base.proofs.PathLemmas.{same_name-refl}
 use Rattle.fsfs_tree.specs.Nodes.{TreeFunction}
 use Rattle.fsfs_base.specs.declared.kind.Kind.TheVariants.{Dir}
-use Rattle.fsfs_base.specs.declared.txn_name.TxnName.{TxnName}
+use Rattle.fsfs_base.specs.declared.fields.txn_name.TxnName.{TxnName}
 use Rattle.fsfs_revision.specs.Told.{RevisionBytes}
 use Rattle.fsfs_noderev.specs.Ids as ids
 use Rattle.fsfs_noderev.specs.Ids.{PartValue, part_value}
@@ -15,7 +15,7 @@ use Rattle.fsfs_noderev.specs.declared.node_id.NodeId.{NodeId}
 use Rattle.fsfs_noderev.specs.declared.node_rev.CopySource.{CopySource}
 use Rattle.fsfs_noderev.specs.declared.node_rev.NodeRev.{NodeRev}
 use Rattle.fsfs_revision.specs.Nodes.{is_revision_id, is_lasting_part}
-use Rattle.fsfs_revision.specs.ShowsReading.{DirEntry, named, OfId}
+use Rattle.fsfs_revision.specs.Shows.Reading.{DirEntry, named, OfId}
 use Rattle.fsfs_draft.specs.Own.{OwnNode, Own, under, alone, with_child, opened}
 use Rattle.fsfs_draft.specs.Rules.{Above, above_of, IsNew, ComesBy, Change, Copied, Made, CopyPartOf, Directory as OfDirectory, Same as OfSame, Drawn as OfDrawn}
 use Rattle.fsfs_draft.specs.Drafts.{Kept, Folder, kept_of, IsBelow, IsDraft, ShowTrees}
@@ -25,7 +25,7 @@ use Rattle.fsfs_draft.proofs.LayingKeeps.{graft_here}
 use Rattle.fsfs_draft.proofs.Changing.{of_id_lasting, changed_own, changed_draft, changed_shows, successor, step, opening}
 use Rattle.fsfs_draft.proofs.EditLaw.{edits_keep_drafts}
 use Rattle.fsfs_draft.proofs.OwnEntries.{lasting_id, AreLasting, lasting_parts, there_kept}
-use Rattle.fsfs_edit.specs.Mutable.{IsAmiss, IsPartOf, Directory, Same, Drawn, IsChildChanged, LeavesMutable}
+use Rattle.fsfs_edit.specs.DagEdits.Mutable.{IsAmiss, IsPartOf, Directory, Same, Drawn, IsChildChanged, LeavesMutable}
 use Rattle.fsfs_draft.specs.declared.error.EditError.{EditError}
 use Rattle.fsfs_draft.specs.declared.error.EditError.TheVariants as errors
 use Rattle.fsfs_draft.specs.Errors.{IsWant}

@@ -3,13 +3,13 @@ use Rattle.std.proofs.Common.{◌≡◌, true, [], ◌∷◌, ◌++◌, refl, ap
 use Rattle.std.specs.Prelude.{Option, Some, None, is_some, not}
 use Rattle.fsfs_base.specs.Paths.{PathName, Path, is_above}
 use Rattle.fsfs_tree.specs.Nodes.{Node, TreeFunction}
-use Rattle.fsfs_model.specs.Edits.{is_dir, is_dir_node}
+use Rattle.fsfs_model.specs.Flat.Edits.{is_dir, is_dir_node}
 use Rattle.fsfs_tree.specs.Trees.{IsTree}
 use Rattle.fsfs_base.specs.declared.kind.Kind.{Kind}
 use Rattle.fsfs_base.specs.declared.kind.Kind.TheVariants.{Dir}
 use Rattle.fsfs_base.proofs.PathLemmas.{covers-longer}
 use Rattle.fsfs_draft.proofs.Moving.{longer_covers_not}
-use Rattle.fsfs_edit.specs.Mutable.{LeadsTo}
+use Rattle.fsfs_edit.specs.DagEdits.Mutable.{LeadsTo}
 use Rattle.fsfs_draft.specs.Walks.{HasKind}
 use Rattle.std.proofs.lemmas.Bool.{and_from}
 

@@ -7,14 +7,14 @@ use Rattle.fsfs_tree.specs.Nodes.{TreeFunction, Bytes, empty_node}
 use Rattle.fsfs_base.specs.declared.kind.Kind.{Kind}
 use Rattle.fsfs_base.specs.declared.kind.Kind.TheVariants.{File, Dir}
 use Rattle.fsfs_base.proofs.PathLemmas.{same_name-refl}
-use Rattle.fsfs_base.specs.declared.txn_name.TxnName.{TxnName}
+use Rattle.fsfs_base.specs.declared.fields.txn_name.TxnName.{TxnName}
 use Rattle.fsfs_revision.specs.Told.{RevisionBytes}
 use Rattle.fsfs_noderev.specs.Ids as ids
 use Rattle.fsfs_noderev.specs.Ids.{PartValue, part_value}
 use Rattle.fsfs_noderev.specs.declared.node_id.NodeId.{NodeId}
 use Rattle.fsfs_noderev.specs.declared.rep.Contents.{Contents}
 use Rattle.fsfs_noderev.specs.declared.node_rev.NodeRev.{NodeRev}
-use Rattle.fsfs_revision.specs.ShowsReading.{DirEntry, named, RepAt, PairsAt, OfContents, StandsAt}
+use Rattle.fsfs_revision.specs.Shows.Reading.{DirEntry, named, RepAt, PairsAt, OfContents, StandsAt}
 use Rattle.fsfs_draft.specs.Own.{OwnNode, Own, opened}
 use Rattle.fsfs_draft.specs.Rules.{Made, IsEntryOf, stands_under, stands_at}
 use Rattle.fsfs_draft.specs.Drafts.{Kept, Folder, IsItemOf, kept_of, IsLasting, Lasting, IsDraftText, HasContent, IsBelow, IsDraft, ShowTrees}
@@ -22,16 +22,16 @@ use Rattle.fsfs_draft.specs.Steps.{same_value, Files, with_kept, kept_at, Entrie
 use Rattle.fsfs_draft.proofs.Files.{same_value-is, same_files, put_files, other_files}
 use Rattle.fsfs_draft.specs.Laying.{stands_in, IsLaid, IsLaying, IsDrawnFor, Step}
 use Rattle.fsfs_draft.proofs.Changing.{below_more}
-use Rattle.fsfs_model.specs.declared.mark.Mark.{Mark}
-use Rattle.fsfs_model.specs.declared.mark.What.TheVariants as whats
-use Rattle.fsfs_noderev.specs.declared.item.ChangeItem.{ChangeItem}
+use Rattle.fsfs_model.specs.declared.flat.mark.Mark.{Mark}
+use Rattle.fsfs_model.specs.declared.flat.mark.What.TheVariants as whats
+use Rattle.fsfs_noderev.specs.declared.changes.item.ChangeItem.{ChangeItem}
 use Rattle.fsfs_draft.specs.Sides.{HasFiles}
 use Rattle.fsfs_draft.specs.Edits.{IsMake}
 use Rattle.fsfs_draft.proofs.EditLaw.{edits_keep_drafts}
 use Rattle.fsfs_draft.specs.Errors.{IsWant}
 use Rattle.fsfs_draft.specs.Items.{with_item, IsFileAt}
 use Rattle.fsfs_draft.specs.Views.{new_kept, opened_kept}
-use Rattle.fsfs_edit.specs.Made.{drawn_node, IsNewNode, IsAmissNode, IsChildMade, LeavesNew}
+use Rattle.fsfs_edit.specs.DagEdits.Made.{drawn_node, IsNewNode, IsAmissNode, IsChildMade, LeavesNew}
 use Rattle.fsfs_draft.specs.declared.error.EditError.{EditError}
 use Rattle.fsfs_draft.specs.declared.error.EditError.TheVariants as errors
 use Rattle.fsfs_draft.proofs.OwnEntries.{there_kept}

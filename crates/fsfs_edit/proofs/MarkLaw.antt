@@ -5,15 +5,15 @@ use Rattle.fsfs_base.specs.declared.kind.Kind.{Kind}
 use Rattle.fsfs_base.specs.declared.action.Action.{Action}
 use Rattle.fsfs_base.specs.declared.action.Action.TheVariants.{Add, Delete, Replace, Modify}
 use Rattle.fsfs_base.specs.Paths.{Path, covers, same_path}
-use Rattle.fsfs_model.specs.declared.mark.Mark.{Mark}
-use Rattle.fsfs_model.specs.declared.mark.What.{What}
-use Rattle.fsfs_model.specs.declared.mark.What.TheVariants.{Make, Gone, Text, Prop}
-use Rattle.fsfs_model.specs.declared.folded.Folded.{Folded}
-use Rattle.fsfs_model.specs.Folding.{deletes}
-use Rattle.fsfs_model.specs.Folding as flat
-use Rattle.fsfs_noderev.specs.declared.item.ChangeItem.{ChangeItem}
-use Rattle.fsfs_edit.specs.FoldedItems.{FoldedItem, begun, after_delete, after_add, flagged, after_modify, joined_by, joined, fold_item, fold_items_from, item_in, fold_items}
-use Rattle.fsfs_edit.specs.Marks.{Tells, SaysMark, AgreesWith}
+use Rattle.fsfs_model.specs.declared.flat.mark.Mark.{Mark}
+use Rattle.fsfs_model.specs.declared.flat.mark.What.{What}
+use Rattle.fsfs_model.specs.declared.flat.mark.What.TheVariants.{Make, Gone, Text, Prop}
+use Rattle.fsfs_model.specs.declared.flat.folded.Folded.{Folded}
+use Rattle.fsfs_model.specs.Flat.Folding.{deletes}
+use Rattle.fsfs_model.specs.Flat.Folding as flat
+use Rattle.fsfs_noderev.specs.declared.changes.item.ChangeItem.{ChangeItem}
+use Rattle.fsfs_edit.specs.Folds.FoldedItems.{FoldedItem, begun, after_delete, after_add, flagged, after_modify, joined_by, joined, fold_item, fold_items_from, item_in, fold_items}
+use Rattle.fsfs_edit.specs.Folds.Marks.{Tells, SaysMark, AgreesWith}
 
 -- what the items say of a path, and what the marks do
 abbrev Agrees : Option FoldedItem → Option Folded → Type 0

@@ -3,7 +3,7 @@ use Rattle.std.proofs.Common.{◌≡◌, ◌≤◌, ℕ, [], refl, sym, subst, �
 use Rattle.std.specs.Prelude.{Option, Some, None, Ok, Err}
 use Rattle.fsfs_base.specs.Paths.{Path}
 use Rattle.fsfs_tree.specs.Nodes.{TreeFunction}
-use Rattle.fsfs_base.specs.declared.txn_name.TxnName.{TxnName}
+use Rattle.fsfs_base.specs.declared.fields.txn_name.TxnName.{TxnName}
 use Rattle.fsfs_revision.specs.Told.{RevisionBytes}
 use Rattle.fsfs_noderev.specs.declared.node_id.NodeId.{NodeId}
 use Rattle.fsfs_noderev.specs.declared.rep.Contents.{Contents}
@@ -11,7 +11,7 @@ use Rattle.fsfs_noderev.specs.declared.node_rev.CopySource.{CopySource}
 use Rattle.fsfs_noderev.specs.declared.node_rev.NodeRev.{NodeRev}
 use Rattle.fsfs_revision.specs.declared.wrong.Wrong.{Wrong}
 use Rattle.fsfs_revision.proofs.OneAnswer.{ok_same}
-use Rattle.fsfs_revision.specs.ShowsReading.{Pairs, OfId, PairsAt, OfContents, PropsOf, StandsAt, offset_of}
+use Rattle.fsfs_revision.specs.Shows.Reading.{Pairs, OfId, PairsAt, OfContents, PropsOf, StandsAt, offset_of}
 use Rattle.fsfs_revision.proofs.OneWalk.{props_one, of_id_one}
 use Rattle.fsfs_draft.specs.Own.{OwnNode, Own, shared_under, shared_at}
 use Rattle.fsfs_draft.specs.Rules.{Above, Keeps, ComesBy, Change, Copied, Made, stands_from, stands_under, above_at, stands_at, at_top}

@@ -6,8 +6,8 @@ use Rattle.fsfs_base.specs.declared.kind.Kind.{Kind}
 use Rattle.fsfs_base.specs.declared.kind.Kind.TheVariants.{Dir}
 use Rattle.fsfs_tree.specs.Nodes.{Node, TreeFunction}
 use Rattle.fsfs_tree.specs.Trees.{IsTree}
-use Rattle.fsfs_model.specs.declared.mark.Mark.{Mark}
-use Rattle.fsfs_base.specs.declared.txn_name.TxnName.{TxnName}
+use Rattle.fsfs_model.specs.declared.flat.mark.Mark.{Mark}
+use Rattle.fsfs_base.specs.declared.fields.txn_name.TxnName.{TxnName}
 use Rattle.fsfs_revision.specs.Told.{RevisionBytes}
 use Rattle.fsfs_noderev.specs.Ids.{place_value}
 use Rattle.fsfs_noderev.specs.declared.node_id.NodeId.{NodeId}
@@ -17,7 +17,7 @@ use Rattle.fsfs_draft.specs.Drafts.{Folder, IsDraft, ShowTrees}
 use Rattle.fsfs_draft.proofs.OwnShown.{own_shown}
 use Rattle.fsfs_draft.specs.Edits.{IsDraftAfter}
 use Rattle.fsfs_draft.proofs.EditLaw.{edits_keep_drafts}
-use Rattle.fsfs_edit.specs.Mutable.{LeadsTo, LeavesAbove}
+use Rattle.fsfs_edit.specs.DagEdits.Mutable.{LeadsTo, LeavesAbove}
 use Rattle.fsfs_draft.specs.Walks.{IsRootId, HasKind, IsFound}
 use Rattle.fsfs_edit.specs.Ways.{IsTarget, IsFoundIn, LeavesOpened}
 use Rattle.fsfs_draft.specs.declared.error.EditError.{EditError}

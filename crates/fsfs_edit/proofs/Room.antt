@@ -4,12 +4,12 @@ use Rattle.std.specs.Prelude.{Option, Some, None, is_some, nat_lt, Ok, Err}
 use Rattle.fsfs_base.specs.Paths.{PathName, Path}
 use Rattle.fsfs_base.specs.declared.kind.Kind.TheVariants.{Dir}
 use Rattle.fsfs_tree.specs.Nodes.{Node, TreeFunction}
-use Rattle.fsfs_model.specs.declared.mark.Mark.{Mark}
-use Rattle.fsfs_base.specs.declared.txn_name.TxnName.{TxnName}
+use Rattle.fsfs_model.specs.declared.flat.mark.Mark.{Mark}
+use Rattle.fsfs_base.specs.declared.fields.txn_name.TxnName.{TxnName}
 use Rattle.fsfs_revision.specs.Told.{RevisionBytes}
 use Rattle.fsfs_noderev.specs.declared.node_id.NodeId.{NodeId}
 use Rattle.fsfs_revision.specs.declared.wrong.Wrong.{Wrong}
-use Rattle.fsfs_revision.specs.ShowsReading.{DirEntry, named}
+use Rattle.fsfs_revision.specs.Shows.Reading.{DirEntry, named}
 use Rattle.fsfs_draft.specs.Own.{Own, draft_tree}
 use Rattle.fsfs_draft.specs.Drafts.{Kept, Folder, kept_of, bare, ShowTrees}
 use Rattle.fsfs_draft.specs.Steps.{kept_at, EntriesHere}

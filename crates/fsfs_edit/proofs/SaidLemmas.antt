@@ -10,13 +10,13 @@ use Rattle.fsfs_base.specs.declared.action.Action.{Action}
 use Rattle.fsfs_base.specs.declared.action.Action.TheVariants.{Add, Delete, Replace, Modify}
 use Rattle.fsfs_base.specs.Paths.{names_text}
 use Rattle.fsfs_base.specs.PathTexts.{IsPath}
-use Rattle.fsfs_noderev.specs.Words.{flags_fit}
-use Rattle.fsfs_noderev.specs.Items.{HasText}
-use Rattle.fsfs_noderev.specs.declared.item.ChangeItem.{ChangeItem}
-use Rattle.fsfs_edit.specs.FoldedItems.{FoldedItem, HasPath, begun, after_delete, after_add, flagged, after_modify, joined_by, joined}
-use Rattle.fsfs_edit.specs.Lasting.{say_by_key, say_all_by_key}
-use Rattle.fsfs_edit.specs.Views.{told, said_value}
-use Rattle.fsfs_edit.specs.declared.said.Said.{Said}
+use Rattle.fsfs_noderev.specs.Changes.Words.{flags_fit}
+use Rattle.fsfs_noderev.specs.Changes.Items.{HasText}
+use Rattle.fsfs_noderev.specs.declared.changes.item.ChangeItem.{ChangeItem}
+use Rattle.fsfs_edit.specs.Folds.FoldedItems.{FoldedItem, HasPath, begun, after_delete, after_add, flagged, after_modify, joined_by, joined}
+use Rattle.fsfs_edit.specs.Folds.Lasting.{say_by_key, say_all_by_key}
+use Rattle.fsfs_edit.specs.Folds.Views.{told, said_value}
+use Rattle.fsfs_edit.specs.declared.folds.said.Said.{Said}
 
 -- ---- by keys
 

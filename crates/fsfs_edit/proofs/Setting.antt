@@ -7,11 +7,11 @@ use Rattle.fsfs_base.specs.Paths.{Path}
 use Rattle.fsfs_base.specs.declared.kind.Kind.{Kind}
 use Rattle.fsfs_base.specs.declared.kind.Kind.TheVariants.{File, Dir}
 use Rattle.fsfs_tree.specs.Nodes.{Node, TreeFunction, Content, Bytes}
-use Rattle.fsfs_model.specs.Edits.{is_dir, is_file_node, kind_of_node, changed_props, bytes_of, mark_of}
-use Rattle.fsfs_model.specs.declared.edit.Edit.TheVariants.{PutText, SetProp}
-use Rattle.fsfs_model.specs.declared.mark.Mark.{Mark}
-use Rattle.fsfs_model.specs.declared.mark.What.TheVariants as whats
-use Rattle.fsfs_base.specs.declared.txn_name.TxnName.{TxnName}
+use Rattle.fsfs_model.specs.Flat.Edits.{is_dir, is_file_node, kind_of_node, changed_props, bytes_of, mark_of}
+use Rattle.fsfs_model.specs.declared.flat.edit.Edit.TheVariants.{PutText, SetProp}
+use Rattle.fsfs_model.specs.declared.flat.mark.Mark.{Mark}
+use Rattle.fsfs_model.specs.declared.flat.mark.What.TheVariants as whats
+use Rattle.fsfs_base.specs.declared.fields.txn_name.TxnName.{TxnName}
 use Rattle.fsfs_revision.specs.Told.{RevisionBytes}
 use Rattle.fsfs_noderev.specs.Ids.{PartValue, part_value}
 use Rattle.fsfs_noderev.specs.declared.node_id.NodeId.{NodeId}
@@ -19,8 +19,8 @@ use Rattle.fsfs_noderev.specs.declared.rep.Rep.{Rep}
 use Rattle.fsfs_noderev.specs.declared.rep.Contents.{Contents}
 use Rattle.fsfs_noderev.specs.declared.rep.Contents.TheVariants as contents
 use Rattle.fsfs_noderev.specs.declared.node_rev.NodeRev.{NodeRev}
-use Rattle.fsfs_noderev.specs.declared.item.ChangeItem.{ChangeItem}
-use Rattle.fsfs_revision.specs.ShowsReading.{Pairs, PairsAt, OfContents}
+use Rattle.fsfs_noderev.specs.declared.changes.item.ChangeItem.{ChangeItem}
+use Rattle.fsfs_revision.specs.Shows.Reading.{Pairs, PairsAt, OfContents}
 use Rattle.fsfs_draft.specs.Own.{OwnNode}
 use Rattle.fsfs_draft.specs.Drafts.{Kept, Folder, IsItemOf, pair_of, kept_of, IsLasting, IsFileText, Lasting, Put, IsDraftText, AreDraftProps, HasContent, IsBelow, ShowTrees}
 use Rattle.fsfs_draft.specs.Steps.{same_value, with_kept, kept_at}

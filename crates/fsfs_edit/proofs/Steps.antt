@@ -3,13 +3,13 @@ use Rattle.std.proofs.Common.{◌≡◌, true, false, List, Result, Ok, sym, ap,
 use Rattle.std.specs.Prelude.{Option, Some, None, is_some, option_map, Err, IfOk, IfErr, OnOk}
 use Rattle.fsfs_base.specs.Paths.{PathName}
 use Rattle.fsfs_base.specs.declared.kind.Kind.{Kind}
-use Rattle.fsfs_base.specs.declared.txn_name.TxnName.{TxnName}
+use Rattle.fsfs_base.specs.declared.fields.txn_name.TxnName.{TxnName}
 use Rattle.fsfs_noderev.specs.declared.node_id.Part.{Part}
 use Rattle.fsfs_noderev.specs.declared.node_id.NodeId.{NodeId}
 use Rattle.fsfs_noderev.specs.declared.node_rev.NodeRev.{NodeRev}
-use Rattle.fsfs_revision.specs.ShowsReading.{DirEntry}
+use Rattle.fsfs_revision.specs.Shows.Reading.{DirEntry}
 use Rattle.fsfs_draft.specs.Drafts.{Folder}
-use Rattle.fsfs_edit.specs.Mutable.{IsPartOf, Directory, Same, Drawn, IsChildChanged}
+use Rattle.fsfs_edit.specs.DagEdits.Mutable.{IsPartOf, Directory, Same, Drawn, IsChildChanged}
 use Rattle.fsfs_draft.specs.Causes.{IfDisk}
 use Rattle.fsfs_draft.specs.Errors.{IsWant}
 use Rattle.fsfs_draft.specs.declared.error.EditError.{EditError}

@@ -6,12 +6,12 @@ use Rattle.fsfs_base.specs.Paths.{PathName, Path}
 use Rattle.fsfs_tree.specs.Nodes.{TreeFunction}
 use Rattle.fsfs_base.specs.declared.kind.Kind.TheVariants.{Dir}
 use Rattle.fsfs_base.proofs.PathLemmas.{same_name-refl}
-use Rattle.fsfs_base.specs.declared.txn_name.TxnName.{TxnName}
+use Rattle.fsfs_base.specs.declared.fields.txn_name.TxnName.{TxnName}
 use Rattle.fsfs_revision.specs.Told.{RevisionBytes}
 use Rattle.fsfs_noderev.specs.Ids.{PartValue, part_value}
 use Rattle.fsfs_noderev.specs.declared.node_id.NodeId.{NodeId}
 use Rattle.fsfs_noderev.specs.declared.node_rev.NodeRev.{NodeRev}
-use Rattle.fsfs_revision.specs.ShowsReading.{DirEntry, named, StandsAt}
+use Rattle.fsfs_revision.specs.Shows.Reading.{DirEntry, named, StandsAt}
 use Rattle.fsfs_draft.specs.Own.{OwnNode, Own, opened}
 use Rattle.fsfs_draft.specs.Rules.{IsEntryOf, stands_under, stands_at}
 use Rattle.fsfs_draft.specs.Drafts.{Kept, Folder, IsItemOf, kept_of, HasContent, IsBelow, IsDraft, ShowTrees}
@@ -19,10 +19,10 @@ use Rattle.fsfs_draft.specs.Steps.{same_value, Files, with_kept, kept_at, Entrie
 use Rattle.fsfs_draft.proofs.Files.{same_value-is, put_files, other_files}
 use Rattle.fsfs_draft.specs.Views.{opened_kept}
 use Rattle.fsfs_draft.specs.Taken.{IsEntryTaken}
-use Rattle.fsfs_edit.specs.Taken.{Takes}
-use Rattle.fsfs_model.specs.declared.mark.Mark.{Mark}
-use Rattle.fsfs_model.specs.declared.mark.What.TheVariants as whats
-use Rattle.fsfs_noderev.specs.declared.item.ChangeItem.{ChangeItem}
+use Rattle.fsfs_edit.specs.DagEdits.Taken.{Takes}
+use Rattle.fsfs_model.specs.declared.flat.mark.Mark.{Mark}
+use Rattle.fsfs_model.specs.declared.flat.mark.What.TheVariants as whats
+use Rattle.fsfs_noderev.specs.declared.changes.item.ChangeItem.{ChangeItem}
 use Rattle.fsfs_draft.specs.Laying.{IsLaying, Step}
 use Rattle.fsfs_draft.specs.Edits.{IsDelete}
 use Rattle.fsfs_draft.proofs.EditLaw.{edits_keep_drafts}

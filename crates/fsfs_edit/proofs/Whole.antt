@@ -6,14 +6,14 @@ use Rattle.fsfs_base.specs.Paths.{PathName, Path, is_root}
 use Rattle.fsfs_base.specs.declared.kind.Kind.{Kind}
 use Rattle.fsfs_base.specs.declared.kind.Kind.TheVariants.{File, Dir}
 use Rattle.fsfs_tree.specs.Nodes.{Node, TreeFunction}
-use Rattle.fsfs_model.specs.Edits.{is_dir_node, kind_of_node, parent, can_make, mark_of}
-use Rattle.fsfs_model.specs.declared.edit.Edit.TheVariants.{MakeDir, MakeFile, Delete, Copy}
-use Rattle.fsfs_model.specs.declared.mark.Mark.{Mark}
-use Rattle.fsfs_base.specs.declared.txn_name.TxnName.{TxnName}
+use Rattle.fsfs_model.specs.Flat.Edits.{is_dir_node, kind_of_node, parent, can_make, mark_of}
+use Rattle.fsfs_model.specs.declared.flat.edit.Edit.TheVariants.{MakeDir, MakeFile, Delete, Copy}
+use Rattle.fsfs_model.specs.declared.flat.mark.Mark.{Mark}
+use Rattle.fsfs_base.specs.declared.fields.txn_name.TxnName.{TxnName}
 use Rattle.fsfs_revision.specs.Told.{RevisionBytes}
 use Rattle.fsfs_noderev.specs.declared.node_id.NodeId.{NodeId}
 use Rattle.fsfs_noderev.specs.declared.node_rev.CopySource.{CopySource}
-use Rattle.fsfs_noderev.specs.declared.item.ChangeItem.{ChangeItem}
+use Rattle.fsfs_noderev.specs.declared.changes.item.ChangeItem.{ChangeItem}
 use Rattle.fsfs_revision.proofs.Walks.{take_front}
 use Rattle.fsfs_draft.specs.Drafts.{Kept, Folder, pair_of}
 use Rattle.fsfs_draft.specs.Edits.{IsEdited, IsDraftAfter}
@@ -21,9 +21,9 @@ use Rattle.fsfs_draft.specs.Steps.{kept_at}
 use Rattle.fsfs_draft.specs.Errors.{IfMemory, IsWant, IsFailure, IfStays, of_own}
 use Rattle.fsfs_draft.specs.Items.{with_item, IsFileAt}
 use Rattle.fsfs_edit.specs.Items.{IsAddOf, IsDeleteOf, AddsItem}
-use Rattle.fsfs_edit.specs.Made.{Makes}
-use Rattle.fsfs_edit.specs.Copied.{Copies}
-use Rattle.fsfs_edit.specs.Taken.{Takes}
+use Rattle.fsfs_edit.specs.DagEdits.Made.{Makes}
+use Rattle.fsfs_edit.specs.DagEdits.Copied.{Copies}
+use Rattle.fsfs_edit.specs.DagEdits.Taken.{Takes}
 use Rattle.fsfs_draft.specs.Walks.{IsAt, HasKind}
 use Rattle.fsfs_edit.specs.Ways.{HasRoom, IsOpenedAt}
 use Rattle.fsfs_edit.specs.Making.{IsMadeIn}
@@ -31,8 +31,8 @@ use Rattle.fsfs_edit.specs.Copying.{IsCopiedTo}
 use Rattle.fsfs_edit.specs.Deleting.{before_kept, IsDeletedId, IsGoneId, OfOwn, OfLasting, IsGoneFrom}
 use Rattle.fsfs_draft.specs.declared.error.EditError.{EditError}
 use Rattle.fsfs_draft.specs.declared.error.EditError.TheVariants as errors
-use Rattle.fsfs_draft.specs.declared.own.OwnError.{OwnError}
-use Rattle.fsfs_draft.specs.declared.own.OwnError.TheVariants as owns
+use Rattle.fsfs_draft.specs.declared.txn_noderevs.OwnError.{OwnError}
+use Rattle.fsfs_draft.specs.declared.txn_noderevs.OwnError.TheVariants as owns
 use Rattle.fsfs_draft.specs.declared.walk.Step.{Step}
 use Rattle.fsfs_draft.specs.declared.walk.Step.TheVariants as steps
 use Rattle.fsfs_edit.proofs.MakingAt.{kind_some}

@@ -4,15 +4,15 @@ use Rattle.fsfs_base.specs.Paths.{PathName, Path}
 use Rattle.fsfs_base.specs.declared.kind.Kind.TheVariants.{Dir}
 use Rattle.fsfs_tree.specs.Nodes.{TreeFunction}
 use Rattle.fsfs_tree.specs.Trees.{IsTree}
-use Rattle.fsfs_model.specs.Edits.{kind_of_node}
-use Rattle.fsfs_model.specs.declared.edit.Edit.TheVariants.{Delete}
-use Rattle.fsfs_model.specs.declared.mark.Mark.{Mark}
-use Rattle.fsfs_base.specs.declared.txn_name.TxnName.{TxnName}
+use Rattle.fsfs_model.specs.Flat.Edits.{kind_of_node}
+use Rattle.fsfs_model.specs.declared.flat.edit.Edit.TheVariants.{Delete}
+use Rattle.fsfs_model.specs.declared.flat.mark.Mark.{Mark}
+use Rattle.fsfs_base.specs.declared.fields.txn_name.TxnName.{TxnName}
 use Rattle.fsfs_revision.specs.Told.{Told, RevisionBytes, Knows}
 use Rattle.fsfs_noderev.specs.declared.node_id.NodeId.{NodeId}
 use Rattle.fsfs_noderev.specs.declared.node_rev.NodeRev.{NodeRev}
-use Rattle.fsfs_noderev.specs.declared.item.ChangeItem.{ChangeItem}
-use Rattle.fsfs_revision.specs.ByTree.{LacksAt}
+use Rattle.fsfs_noderev.specs.declared.changes.item.ChangeItem.{ChangeItem}
+use Rattle.fsfs_revision.specs.Shows.ByTree.{LacksAt}
 use Rattle.fsfs_draft.specs.Own.{OwnNode, Own}
 use Rattle.fsfs_draft.specs.Drafts.{Kept, Folder, ShowTrees}
 use Rattle.fsfs_draft.specs.Steps.{Files, kept_at}

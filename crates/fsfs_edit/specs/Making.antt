@@ -5,12 +5,12 @@ use Rattle.fsfs_base.specs.declared.kind.Kind.{Kind}
 use Rattle.fsfs_base.specs.declared.kind.Kind.TheVariants.{File, Dir}
 use Rattle.fsfs_tree.specs.Nodes.{TreeFunction}
 use Rattle.fsfs_tree.specs.Trees.{IsTree}
-use Rattle.fsfs_model.specs.declared.edit.Edit.{Edit}
-use Rattle.fsfs_model.specs.declared.edit.Edit.TheVariants.{MakeDir, MakeFile}
-use Rattle.fsfs_model.specs.declared.mark.Mark.{Mark}
-use Rattle.fsfs_base.specs.declared.txn_name.TxnName.{TxnName}
+use Rattle.fsfs_model.specs.declared.flat.edit.Edit.{Edit}
+use Rattle.fsfs_model.specs.declared.flat.edit.Edit.TheVariants.{MakeDir, MakeFile}
+use Rattle.fsfs_model.specs.declared.flat.mark.Mark.{Mark}
+use Rattle.fsfs_base.specs.declared.fields.txn_name.TxnName.{TxnName}
 use Rattle.fsfs_revision.specs.Told.{Told, RevisionBytes, Knows}
-use Rattle.fsfs_revision.specs.ByTree.{LacksAt}
+use Rattle.fsfs_revision.specs.Shows.ByTree.{LacksAt}
 use Rattle.fsfs_draft.specs.Drafts.{Folder, ShowTrees}
 use Rattle.fsfs_draft.specs.Edits.{IsDraftAfter}
 use Rattle.fsfs_draft.specs.Errors.{IfStays}

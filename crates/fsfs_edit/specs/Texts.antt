@@ -5,13 +5,13 @@ use Rattle.fsfs_base.specs.Paths.{Path}
 use Rattle.fsfs_base.specs.declared.kind.Kind.TheVariants.{File, Dir}
 use Rattle.fsfs_tree.specs.Nodes.{TreeFunction}
 use Rattle.fsfs_tree.specs.Trees.{IsTree}
-use Rattle.fsfs_model.specs.declared.edit.Edit.TheVariants.{PutText}
-use Rattle.fsfs_model.specs.declared.mark.Mark.{Mark}
-use Rattle.fsfs_base.specs.declared.txn_name.TxnName.{TxnName}
+use Rattle.fsfs_model.specs.declared.flat.edit.Edit.TheVariants.{PutText}
+use Rattle.fsfs_model.specs.declared.flat.mark.Mark.{Mark}
+use Rattle.fsfs_base.specs.declared.fields.txn_name.TxnName.{TxnName}
 use Rattle.fsfs_revision.specs.Told.{Told, RevisionBytes, Knows}
 use Rattle.fsfs_noderev.specs.declared.rep.Rep.{Rep}
-use Rattle.fsfs_revision.specs.Frames.{RepIn}
-use Rattle.fsfs_revision.specs.ByTree.{LacksAt, IsBlockedAt}
+use Rattle.fsfs_revision.specs.Rep.Frames.{RepIn}
+use Rattle.fsfs_revision.specs.Shows.ByTree.{LacksAt, IsBlockedAt}
 use Rattle.fsfs_draft.specs.Drafts.{Folder, ShowTrees}
 use Rattle.fsfs_draft.specs.Edits.{IsDraftAfter}
 use Rattle.fsfs_draft.specs.Errors.{IfStays}

@@ -1,7 +1,7 @@
 //! A property set or removed at a path, with its refusals.
 ghost use Rattle.std.specs.Prelude.{◌≡◌, not, IfOk};
 ghost use Rattle.fsfs_revision.specs.Told.{Keeps};
-ghost use Rattle.fsfs_model.specs.Edits.{changed_props, bytes_of, fits_value};
+ghost use Rattle.fsfs_model.specs.Flat.Edits.{changed_props, bytes_of, fits_value};
 ghost use Rattle.fsfs_draft.specs.Causes.{HasDiskCause, HasBenchCause};
 ghost use Rattle.fsfs_edit.specs.Properties.{Changes, SetsProperty, MeetsProperty};
 

@@ -11,11 +11,11 @@ use Rattle.fsfs_base.specs.Files.{Files}
 use Rattle.fsfs_base.specs.declared.small_fault.SmallFile.TheVariants.{Manifest}
 use Rattle.fsfs_base.specs.declared.small_fault.SmallFault.{SmallFault}
 use Rattle.fsfs_revision.specs.declared.wrong.Refusal.TheVariants.{Small}
-use Rattle.fsfs_base.specs.Grammar.{IsFaultAt}
+use Rattle.fsfs_base.specs.Grammar.Relations.{IsFaultAt}
 use Rattle.fsfs_layout.specs.FileNames.{small_name}
 use Rattle.fsfs_layout.specs.Manifest.{offset_line, IsManifest}
 use Rattle.fsfs_layout.specs.Small.{IsFaultOf}
-use Rattle.fsfs_disk.specs.FirstBytes.{first_of, IsShorter}
+use Rattle.fsfs_disk.specs.WholeFiles.FirstBytes.{first_of, IsShorter}
 use Rattle.fsfs_disk.proofs.FirstBytesLemmas.{text_of_first, first_of_text, fault_of_first}
 use Rattle.fsfs_revision.proofs.ManifestLemmas.{manifest_ok, manifest_err}
 use Rattle.fsfs_revision.specs.declared.book.BookFault.{BookFault}

@@ -2,15 +2,15 @@
 use Rattle.std.proofs.Common.{◌≡◌, ◌∙◌, ℕ, suc, List, Option, Some, None, sym, ap, arith, true, false}
 use Rattle.std.specs.Prelude.{Ok, is_some}
 use mathlib.Core.Bool.{false≢true}
-use Rattle.fsfs_model.specs.declared.mark.Mark.{Mark}
+use Rattle.fsfs_model.specs.declared.flat.mark.Mark.{Mark}
 use Rattle.fsfs_base.specs.Paths.{Path}
 use Rattle.fsfs_tree.specs.Nodes.{Node, TreeFunction}
-use Rattle.fsfs_model.specs.Landing.{land}
-use Rattle.fsfs_model.specs.Transactions.{Landed}
+use Rattle.fsfs_model.specs.Flat.Landing.{land}
+use Rattle.fsfs_model.specs.Flat.Transactions.{Landed}
 use Rattle.fsfs_revision.specs.Told.{RevisionBytes}
 use Rattle.fsfs_noderev.specs.declared.node_rev.NodeRev.{NodeRev}
-use Rattle.fsfs_revision.specs.ShowsReading.{Met, Stands, Lacking, Blocked, MetAt, StandsAt}
-use Rattle.fsfs_revision.specs.Shown.{Shows, IsShownAs}
+use Rattle.fsfs_revision.specs.Shows.Reading.{Met, Stands, Lacking, Blocked, MetAt, StandsAt}
+use Rattle.fsfs_revision.specs.Shows.Shown.{Shows, IsShownAs}
 use Rattle.fsfs_revision.proofs.Behind.{shown_there}
 use Rattle.fsfs_model.specs.FoldedFit.{FoldFits}
 use Rattle.fsfs_model.proofs.FoldedLaw.{folds_fit}
@@ -42,5 +42,5 @@ fits look r tree marks shows fold_fits = record {
 
 pub changes_fit : LandedChangesFit
 changes_fit look top tree b t marks is was le clear shows =
-    let now : Rattle.fsfs_model.specs.Transactions.IsTransaction tree top top (land (tree b) (tree top) t marks (suc top)) marks = Landed b top (suc top) t marks was le (omega arith) clear in
+    let now : Rattle.fsfs_model.specs.Flat.Transactions.IsTransaction tree top top (land (tree b) (tree top) t marks (suc top)) marks = Landed b top (suc top) t marks was le (omega arith) clear in
     fits look (suc top) (land (tree b) (tree top) t marks (suc top)) marks shows (folds_fit tree top top (land (tree b) (tree top) t marks (suc top)) marks is now)

@@ -4,14 +4,14 @@ use Rattle.std.proofs.Common.{◌≡◌, ◌≤◌, ◌<◌, ◌⊎◌, ℕ, suc
 use Rattle.std.specs.Prelude.{Option, if◌then◌else◌}
 use Rattle.fsfs_base.specs.Paths.{Path}
 use Rattle.fsfs_tree.specs.Nodes.{Node, TreeFunction}
-use Rattle.fsfs_model.specs.declared.mark.Mark.{Mark}
-use Rattle.fsfs_model.specs.Landing.{NoClash, land}
-use Rattle.fsfs_model.specs.Transactions.{IsTransaction, Landed}
+use Rattle.fsfs_model.specs.declared.flat.mark.Mark.{Mark}
+use Rattle.fsfs_model.specs.Flat.Landing.{NoClash, land}
+use Rattle.fsfs_model.specs.Flat.Transactions.{IsTransaction, Landed}
 use Rattle.fsfs_revision.specs.Told.{RevisionBytes}
-use Rattle.fsfs_revision.specs.Shown.{IsShownAs, Shows}
-use Rattle.fsfs_revision.specs.IdRules.{IdRule}
+use Rattle.fsfs_revision.specs.Shows.Shown.{IsShownAs, Shows}
+use Rattle.fsfs_revision.specs.Shows.IdRules.{IdRule}
 use Rattle.fsfs_model.proofs.TwoMerges.{land_twice}
-use Rattle.fsfs_revision.specs.Trees.{ShowTrees}
+use Rattle.fsfs_revision.specs.Ancestry.Trees.{ShowTrees}
 use Rattle.fsfs_merge.specs.declared.sight.Sight.{Sight}
 use Rattle.fsfs_draft.specs.OwnSides.{NodesAt, IsOwnSide, AreNodesOf}
 use Rattle.fsfs_merge.specs.MergeLaws.{IsMerge, landed_nodes}

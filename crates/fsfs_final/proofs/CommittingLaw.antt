@@ -6,23 +6,23 @@ use Rattle.std.proofs.lemmas.Bool.{leb-true, and_from, and_parts, both_ways}
 use Rattle.std.proofs.lemmas.Bool.Decides.{nat_tests}
 use Rattle.fsfs_base.specs.Paths.{Path, covers}
 use Rattle.fsfs_tree.specs.Nodes.{Node, TreeFunction}
-use Rattle.fsfs_model.specs.declared.mark.Mark.{Mark}
-use Rattle.fsfs_model.specs.declared.mark.What.TheVariants.{Make}
-use Rattle.fsfs_model.specs.declared.edit.Edit.{Edit}
-use Rattle.fsfs_model.specs.declared.edit.Edit.TheVariants.{MakeDir, MakeFile, Delete, Copy, PutText, SetProp}
-use Rattle.fsfs_model.specs.Edits.{accepts, applied, mark_of, can_make, with_copy, kind_of_node}
-use Rattle.fsfs_model.specs.Landing.{NoClash, land, reached}
-use Rattle.fsfs_model.specs.Transactions.{IsTransaction, Begun, Edited, Landed}
+use Rattle.fsfs_model.specs.declared.flat.mark.Mark.{Mark}
+use Rattle.fsfs_model.specs.declared.flat.mark.What.TheVariants.{Make}
+use Rattle.fsfs_model.specs.declared.flat.edit.Edit.{Edit}
+use Rattle.fsfs_model.specs.declared.flat.edit.Edit.TheVariants.{MakeDir, MakeFile, Delete, Copy, PutText, SetProp}
+use Rattle.fsfs_model.specs.Flat.Edits.{accepts, applied, mark_of, can_make, with_copy, kind_of_node}
+use Rattle.fsfs_model.specs.Flat.Landing.{NoClash, land, reached}
+use Rattle.fsfs_model.specs.Flat.Transactions.{IsTransaction, Begun, Edited, Landed}
 use Rattle.fsfs_base.proofs.PathLemmas.{covers-trans, covers-longer}
 use Rattle.fsfs_revision.specs.Told.{RevisionBytes}
 use Rattle.fsfs_noderev.specs.declared.node_rev.NodeRev.{NodeRev}
-use Rattle.fsfs_revision.specs.ShowsReading.{StandsAt}
+use Rattle.fsfs_revision.specs.Shows.Reading.{StandsAt}
 use Rattle.fsfs_revision.proofs.Walks.{child_stands}
-use Rattle.fsfs_revision.specs.Trees.{ShowTrees}
-use Rattle.fsfs_revision.specs.Bounded.{AreSameUpTo}
+use Rattle.fsfs_revision.specs.Ancestry.Trees.{ShowTrees}
+use Rattle.fsfs_revision.specs.Ancestry.Bounded.{AreSameUpTo}
 use Rattle.fsfs_revision.proofs.Behind.{shown_there}
 use Rattle.fsfs_revision.proofs.Bounded.{back_same, stands_same_bytes, child_same, text_shown, props_same}
-use Rattle.fsfs_revision.specs.Chains.{own_rev}
+use Rattle.fsfs_revision.specs.Shows.Chains.{own_rev}
 use Rattle.fsfs_revision.proofs.TreeLaw.{stands_home}
 use Rattle.fsfs_merge.specs.declared.sight.Sight.{Sight}
 use Rattle.fsfs_merge.specs.Walks.{merges, stays, down}

@@ -3,17 +3,17 @@ use Rattle.fsfs_revision.proofs.Revisions.{shown_revisions}
 use Rattle.std.proofs.Common.{◌≡◌, ◌∙◌, ◌≤◌, ℕ, suc, Bool, true, false, cond, if◌then◌else◌, not, List, [], ◌++◌, Option, Some, None, refl, sym, ap, subst, arith, inl, inr}
 use Rattle.std.specs.Prelude.{Ok, is_some}
 use mathlib.Core.Bool.{false≢true}
-use Rattle.fsfs_model.specs.declared.edit.Edit.{Edit}
-use Rattle.fsfs_model.specs.declared.edit.Edit.TheVariants.{MakeDir, MakeFile, Delete, Copy, PutText, SetProp}
-use Rattle.fsfs_model.specs.declared.mark.Mark.{Mark}
+use Rattle.fsfs_model.specs.declared.flat.edit.Edit.{Edit}
+use Rattle.fsfs_model.specs.declared.flat.edit.Edit.TheVariants.{MakeDir, MakeFile, Delete, Copy, PutText, SetProp}
+use Rattle.fsfs_model.specs.declared.flat.mark.Mark.{Mark}
 use Rattle.fsfs_base.specs.declared.kind.Kind.{Kind}
 use Rattle.fsfs_base.specs.declared.kind.Kind.TheVariants.{File, Dir}
 use Rattle.fsfs_base.specs.Paths.{Path, covers, same_path}
 use Rattle.fsfs_tree.specs.Nodes.{Node, TreeFunction, Bytes, empty_node}
-use Rattle.fsfs_model.specs.Marks.{effects}
-use Rattle.fsfs_model.specs.Edits.{accepts, applied, with_text, with_prop, bytes_of, copied_node, rest_after, is_file_node}
-use Rattle.fsfs_model.specs.Landing.{NoClash, land}
-use Rattle.fsfs_model.specs.Transactions.{IsTransaction, Begun, Edited, Landed}
+use Rattle.fsfs_model.specs.Flat.Marks.{effects}
+use Rattle.fsfs_model.specs.Flat.Edits.{accepts, applied, with_text, with_prop, bytes_of, copied_node, rest_after, is_file_node}
+use Rattle.fsfs_model.specs.Flat.Landing.{NoClash, land}
+use Rattle.fsfs_model.specs.Flat.Transactions.{IsTransaction, Begun, Edited, Landed}
 use Rattle.fsfs_revision.specs.Told.{RevisionBytes}
 use Rattle.fsfs_model.proofs.Origins.{Origin, Head, Changed, Own, origin}
 use Rattle.fsfs_model.proofs.NextHistory.{whole}
@@ -21,9 +21,9 @@ use Rattle.std.proofs.lemmas.Bool.{leb-true, and_parts, both_ways}
 use Rattle.fsfs_noderev.specs.declared.node_id.NodeId.{NodeId}
 use Rattle.fsfs_noderev.specs.declared.rep.Contents.{Contents}
 use Rattle.fsfs_noderev.specs.declared.node_rev.NodeRev.{NodeRev}
-use Rattle.fsfs_revision.specs.ShowsReading.{StandsAt, PropsOf}
-use Rattle.fsfs_revision.specs.Shown.{IsTextOf, Shows}
-use Rattle.fsfs_revision.specs.Trees.{ShowTrees}
+use Rattle.fsfs_revision.specs.Shows.Reading.{StandsAt, PropsOf}
+use Rattle.fsfs_revision.specs.Shows.Shown.{IsTextOf, Shows}
+use Rattle.fsfs_revision.specs.Ancestry.Trees.{ShowTrees}
 use Rattle.fsfs_revision.proofs.Behind.{shown_there}
 use Rattle.fsfs_merge.specs.Laws.{AreSame, IsSameNode}
 use Rattle.fsfs_merge.specs.declared.sight.Sight.{Sight}
@@ -69,14 +69,14 @@ bare_text text (Some x) h n e k =
     let same : record x { text = Bytes text } ≡ n = cc in
     by x.kind (ap (λ (z : Node). z.kind) same ∙ k) h
   where
-    by : (kind : Kind) → kind ≡ Dir → not (Rattle.fsfs_model.specs.Edits.is_dir kind) ≡ true → n.text ≡ Bytes []
+    by : (kind : Kind) → kind ≡ Dir → not (Rattle.fsfs_model.specs.Flat.Edits.is_dir kind) ≡ true → n.text ≡ Bytes []
     by Dir e h = absurd (false≢true h)
     by File e h = file_dir e
 
 bare_prop : (name : List ℕ) (value : Option (List ℕ)) (o : Option Node) → Bare o → Bare (with_prop name value o)
 bare_prop name value None was n e k = no_node n e
 bare_prop name value (Some x) was n e k =
-    let same : record x { properties = Rattle.fsfs_model.specs.Edits.changed_props name value x.properties } ≡ n = cc in
+    let same : record x { properties = Rattle.fsfs_model.specs.Flat.Edits.changed_props name value x.properties } ≡ n = cc in
     sym (ap (λ (z : Node). z.text) same) ∙ was x refl (ap (λ (z : Node). z.kind) same ∙ k)
 
 bare_if : (b : Bool) (x y : Option Node) → Bare x → Bare y → Bare (cond b x y)
@@ -114,13 +114,13 @@ shown_bare look r tree shows p n e k = let w = shows.each p in by w.0 w.1 w.2
     text Dir v e h = h
     text File v e h = file_dir e
 
-    by : (m : Rattle.fsfs_revision.specs.ShowsReading.Met) → Rattle.fsfs_revision.specs.ShowsReading.MetAt look r p (Ok m) → Rattle.fsfs_revision.specs.Shown.IsShownAs look r p m (tree p) → n.text ≡ Bytes []
-    by (Rattle.fsfs_revision.specs.ShowsReading.Stands v) at is =
+    by : (m : Rattle.fsfs_revision.specs.Shows.Reading.Met) → Rattle.fsfs_revision.specs.Shows.Reading.MetAt look r p (Ok m) → Rattle.fsfs_revision.specs.Shows.Shown.IsShownAs look r p m (tree p) → n.text ≡ Bytes []
+    by (Rattle.fsfs_revision.specs.Shows.Reading.Stands v) at is =
         let s = shown_there look r tree shows p v at in
         let same : s.0 ≡ n = some_same (tree p) s.0 n s.1 e in
         text v.kind v (sym s.2.kind ∙ ap (λ (x : Node). x.kind) same ∙ k) (subst (λ (x : Node). IsTextOf look v.kind v x.text) same s.2.text)
-    by (Rattle.fsfs_revision.specs.ShowsReading.Lacking d) at is = no_node n (sym is ∙ e)
-    by (Rattle.fsfs_revision.specs.ShowsReading.Blocked d) at is = no_node n (sym is ∙ e)
+    by (Rattle.fsfs_revision.specs.Shows.Reading.Lacking d) at is = no_node n (sym is ∙ e)
+    by (Rattle.fsfs_revision.specs.Shows.Reading.Blocked d) at is = no_node n (sym is ∙ e)
 
 -- ---- the new revision
 
@@ -239,7 +239,7 @@ module _ (look : RevisionBytes) (top : ℕ) (tree : ℕ → TreeFunction) (b h n
       linked v k f ids props =
           let old = lasting p v m k (ap (λ z. in_txn z.place) ids ∙ plain) g in (
             λ file. file_dir (sym file ∙ sym same.kind ∙ kinds p v m k g ∙ merged_dir p v f k),
-            subst (λ z. Rattle.fsfs_revision.specs.ShowsReading.OfContents [] (Rattle.fsfs_revision.specs.ShowsReading.PairsAt look) z (Ok y.properties)) props (subst (λ x. PropsOf look v (Ok x)) same.properties old.1),
+            subst (λ z. Rattle.fsfs_revision.specs.Shows.Reading.OfContents [] (Rattle.fsfs_revision.specs.Shows.Reading.PairsAt look) z (Ok y.properties)) props (subst (λ x. PropsOf look v (Ok x)) same.properties old.1),
           )
 
       by : (c : Bool) → is_merged see p ≡ c → (s o : Option NodeRev) → own p ≡ o → relinked c s o ≡ Some u → ReadsAs look u y

@@ -6,9 +6,9 @@ use Rattle.std.proofs.lemmas.List.{take-append-le}
 use Rattle.fsfs_base.specs.Paths.{PathName, Path}
 use Rattle.fsfs_revision.specs.Told.{RevisionBytes}
 use Rattle.fsfs_noderev.specs.declared.node_rev.NodeRev.{NodeRev}
-use Rattle.fsfs_revision.specs.ShowsReading.{StandsAt}
-use Rattle.fsfs_revision.specs.Chains.{copy_root_of, IsCopiedIn}
-use Rattle.fsfs_revision.specs.Shown.{Nearest}
+use Rattle.fsfs_revision.specs.Shows.Reading.{StandsAt}
+use Rattle.fsfs_revision.specs.Shows.Chains.{copy_root_of, IsCopiedIn}
+use Rattle.fsfs_revision.specs.Shows.Shown.{Nearest}
 use Rattle.fsfs_revision.proofs.OneWalk.{stands_same}
 use Rattle.fsfs_revision.proofs.Roots.{length_push}
 

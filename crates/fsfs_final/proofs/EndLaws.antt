@@ -2,12 +2,12 @@
 use Rattle.std.proofs.Common.{◌≡◌, ◌∙◌, ◌+◌, ◌<◌, ℕ, List, ◌++◌, length, drop, refl, sym, ap, subst, append_assoc, arith}
 use Rattle.std.proofs.Math.Seq.{drop-append_seam}
 use Rattle.std.proofs.lemmas.List.{length-append}
-use Rattle.fsfs_noderev.specs.Changes.{AreRevisionChanges}
-use Rattle.fsfs_noderev.specs.declared.item.ChangeItem.{ChangeItem}
+use Rattle.fsfs_noderev.specs.Changes.Texts.{AreRevisionChanges}
+use Rattle.fsfs_noderev.specs.declared.changes.item.ChangeItem.{ChangeItem}
 use Rattle.fsfs_revision.specs.Trailers.{EndsWith}
 use Rattle.fsfs_revision.specs.declared.trailer.Trailer.{Trailer}
 use Rattle.fsfs_revision.proofs.TrailerLemmas.{trailer_few}
-use Rattle.fsfs_final.specs.Endings.{IsEndPut, IsEnded, PutEndsAreRead}
+use Rattle.fsfs_final.specs.Pieces.Endings.{IsEndPut, IsEnded, PutEndsAreRead}
 use Rattle.fsfs_final.proofs.ListLaws.{behind, put_behind}
 
 module _ (start root : ℕ) (proto old new : List ℕ) (items : List ChangeItem) (is : IsEndPut start old new root items) (e : length proto ≡ start) (lt : root < start + length old) where

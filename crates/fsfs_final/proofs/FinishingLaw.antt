@@ -9,7 +9,7 @@ use Rattle.fsfs_noderev.specs.declared.rep.Contents.{Contents}
 use Rattle.fsfs_noderev.specs.declared.node_rev.CopyRoot.{CopyRoot}
 use Rattle.fsfs_noderev.specs.declared.node_rev.NodeRev.{NodeRev}
 use Rattle.fsfs_revision.specs.Nodes.{is_lasting_part, is_revision_id, has_revision_pred, has_revision_rep, has_revision_root, is_of_revision}
-use Rattle.fsfs_revision.specs.Chains.{own_rev, root_or_own}
+use Rattle.fsfs_revision.specs.Shows.Chains.{own_rev, root_or_own}
 use Rattle.fsfs_draft.specs.OwnSides.{NodesAt, in_txn}
 use Rattle.fsfs_draft.specs.NodeDrafts.{root_in, IsOwn, IsDraft}
 use Rattle.fsfs_final.specs.Final.{final_part, IsFinal}

@@ -12,11 +12,11 @@ use Rattle.fsfs_noderev.specs.declared.rep.Rep.{Rep}
 use Rattle.fsfs_noderev.specs.declared.rep.Contents.{Contents}
 use Rattle.fsfs_noderev.specs.declared.rep.Contents.TheVariants as contents
 use Rattle.fsfs_noderev.specs.declared.node_rev.NodeRev.{NodeRev}
-use Rattle.fsfs_revision.specs.Frames.{RepIn, rev_of}
+use Rattle.fsfs_revision.specs.Rep.Frames.{RepIn, rev_of}
 use Rattle.fsfs_revision.specs.Nodes.{IsNodeAt, is_root, is_before, place_before}
-use Rattle.fsfs_revision.specs.DamageDamages.{place_of}
+use Rattle.fsfs_revision.specs.Damage.Damages.{place_of}
 use Rattle.fsfs_revision.specs.declared.damage.RevOffset.{RevOffset}
-use Rattle.fsfs_revision.specs.ShowsReading.{NodeAt, RootOf, offset_of, OfContents, Pairs, AreEntries, EntriesAt, EntriesOf, OfId, DirEntry, OfNamed, named, ChildOf}
+use Rattle.fsfs_revision.specs.Shows.Reading.{NodeAt, RootOf, offset_of, OfContents, Pairs, AreEntries, EntriesAt, EntriesOf, OfId, DirEntry, OfNamed, named, ChildOf}
 use Rattle.fsfs_revision.proofs.Earlier.{stands_of_id}
 use Rattle.fsfs_draft.specs.OwnSides.{NodesAt, in_txn}
 use Rattle.fsfs_draft.specs.NodeDrafts.{IsOwn, IsDraft}
@@ -60,7 +60,7 @@ module _ (look : RevisionBytes) (top n : ℕ) (bytes : List ℕ) (own : NodesAt)
 
   -- a directory's list
   entries_of : (p : Path) (rep : Rep) (text : List ℕ) (pairs : Pairs) (entries : List DirEntry) → (done p).text ≡ Some (contents.At rep) → rev_of rep ≡ n → RepIn rep bytes (Ok text)
-      → Rattle.fsfs_layout.specs.Dump.IsDump text pairs → AreEntries (offset_of (done p).id.place) pairs entries → EntriesOf look (done p) (Ok entries)
+      → Rattle.fsfs_layout.specs.Hash.Dump.IsDump text pairs → AreEntries (offset_of (done p).id.place) pairs entries → EntriesOf look (done p) (Ok entries)
   entries_of p rep text pairs entries t r i d a =
       subst (λ (o : Option Contents). OfContents [] (EntriesAt look (offset_of (done p).id.place)) o (Ok entries)) (sym t)
       (pairs, (text, (bytes, (ap look r ∙ holds.bytes_are), i), d), a)

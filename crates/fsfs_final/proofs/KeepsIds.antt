@@ -13,9 +13,9 @@ use Rattle.fsfs_noderev.specs.declared.node_id.NodeId.{NodeId}
 use Rattle.fsfs_noderev.specs.declared.node_rev.CopySource.{CopySource}
 use Rattle.fsfs_noderev.specs.declared.node_rev.NodeRev.{NodeRev}
 use Rattle.fsfs_revision.specs.Nodes.{is_lasting_part, is_revision_id, is_revision_place, is_of_revision, has_revision_pred, has_revision_rep, has_revision_root}
-use Rattle.fsfs_revision.specs.ShowsReading.{OfId, ChildOf, StandsAt}
-use Rattle.fsfs_revision.specs.Chains.{own_rev, IsPred, copy_root_of, contents_rev}
-use Rattle.fsfs_revision.specs.IdRules.{IdRule, IsOf, IsChild, IsBehind, Next, Further, HasSuffix, IsDrawn, CopyPartFrom, Directory, Before, Drawn, root_after}
+use Rattle.fsfs_revision.specs.Shows.Reading.{OfId, ChildOf, StandsAt}
+use Rattle.fsfs_revision.specs.Shows.Chains.{own_rev, IsPred, copy_root_of, contents_rev}
+use Rattle.fsfs_revision.specs.Shows.IdRules.{IdRule, IsOf, IsChild, IsBehind, Next, Further, HasSuffix, IsDrawn, CopyPartFrom, Directory, Before, Drawn, root_after}
 use Rattle.fsfs_revision.proofs.OneWalk.{stands_same}
 use Rattle.fsfs_revision.proofs.Walks.{child_stands}
 use Rattle.fsfs_revision.proofs.TreeLaw.{stands_home}

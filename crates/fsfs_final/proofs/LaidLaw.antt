@@ -12,8 +12,8 @@ use Rattle.fsfs_noderev.specs.Lines.{line}
 use Rattle.fsfs_noderev.specs.declared.rep.Rep.{Rep}
 use Rattle.fsfs_noderev.specs.declared.node_rev.NodeRev.{NodeRev}
 use Rattle.fsfs_revision.specs.Nodes.{IsNodeAt}
-use Rattle.fsfs_revision.specs.DamageDamages.{place_of}
-use Rattle.fsfs_revision.specs.Frames.{RepIn}
+use Rattle.fsfs_revision.specs.Damage.Damages.{place_of}
+use Rattle.fsfs_revision.specs.Rep.Frames.{RepIn}
 use Rattle.fsfs_draft.specs.OwnSides.{NodesAt}
 use Rattle.fsfs_final.specs.Bytes.{HoldsDraft}
 use Rattle.fsfs_final.specs.Laid.{IsTextAt, IsPlaced, IsRepAt, IsFramed, Laid, with_laid, IsLaid, LaysDraft, LoopLaws}

@@ -1,11 +1,11 @@
 -- A list that was put stands framed behind the prototype file.
 use Rattle.std.proofs.Common.{◌≡◌, ◌+◌, ℕ, List, ◌++◌, length, sym, ap, subst, ◌∙◌, append_assoc, arith}
 use Rattle.std.proofs.lemmas.List.{length-append}
-use Rattle.fsfs_layout.specs.Dump.{dump_text}
+use Rattle.fsfs_layout.specs.Hash.Dump.{dump_text}
 use Rattle.fsfs_final.specs.Laid.{IsRepAt, IsFramed}
 use Rattle.fsfs_final.proofs.LaidLaw.{loop_laws}
-use Rattle.fsfs_final.specs.Lists.{PutListsAreFramed}
-use Rattle.fsfs_revision.specs.Frames.{framed_text}
+use Rattle.fsfs_final.specs.Pieces.Lists.{PutListsAreFramed}
+use Rattle.fsfs_revision.specs.Rep.Frames.{framed_text}
 
 -- where the next byte stands
 pub behind : (start : ℕ) (proto old : List ℕ) → length proto ≡ start → length (proto ++ old) ≡ start + length old

@@ -11,7 +11,7 @@ use Rattle.std.proofs.lemmas.Str.{IsUtf8-string_bytes}
 use Rattle.fsfs_base.specs.Paths.{PathName, Path, same_name}
 use Rattle.fsfs_base.specs.PathTexts.{IsName}
 use Rattle.fsfs_base.proofs.PathLemmas.{same_name-is}
-use Rattle.fsfs_revision.specs.DamageDamages.{place_of}
+use Rattle.fsfs_revision.specs.Damage.Damages.{place_of}
 use Rattle.fsfs_noderev.specs.declared.node_id.NodeId.{NodeId}
 use Rattle.fsfs_noderev.specs.declared.node_id.Part.{Part}
 use Rattle.fsfs_noderev.specs.declared.node_id.Part.TheVariants as parts
@@ -21,16 +21,16 @@ use Rattle.fsfs_noderev.specs.declared.rep.Contents.{Contents}
 use Rattle.fsfs_noderev.specs.declared.rep.Contents.TheVariants as contents
 use Rattle.fsfs_noderev.specs.declared.node_rev.NodeRev.{NodeRev}
 use Rattle.fsfs_revision.specs.Nodes.{is_revision_id, is_lasting_part, is_revision_place, is_before, place_before}
-use Rattle.fsfs_revision.specs.ShowsReading.{Pairs, DirEntry, named, offset_of}
-use Rattle.fsfs_revision.specs.Frames.{framed_text}
+use Rattle.fsfs_revision.specs.Shows.Reading.{Pairs, DirEntry, named, offset_of}
+use Rattle.fsfs_revision.specs.Rep.Frames.{framed_text}
 use Rattle.fsfs_dag.specs.declared.directory.DirEntry.{DirEntry as Listed}
 use Rattle.fsfs_dag.specs.Views.{entry_value, entry_values}
 use Rattle.fsfs_draft.specs.OwnSides.{in_txn}
 use Rattle.fsfs_final.specs.Final.{final_part}
-use Rattle.fsfs_layout.specs.Dump.{dump_text}
-use Rattle.fsfs_final.specs.Lists.{list_of, AreContentsPut}
-use Rattle.fsfs_final.specs.Naming.{FinalIds, final_entry}
-use Rattle.fsfs_final.specs.Nodes.{IsNodePut}
+use Rattle.fsfs_layout.specs.Hash.Dump.{dump_text}
+use Rattle.fsfs_final.specs.Pieces.Lists.{list_of, AreContentsPut}
+use Rattle.fsfs_final.specs.Pieces.Naming.{FinalIds, final_entry}
+use Rattle.fsfs_final.specs.Pieces.Nodes.{IsNodePut}
 use Rattle.fsfs_final.proofs.NodeLaws.{grown}
 use Rattle.fsfs_final.specs.Putting.{AreUtf8}
 use Rattle.fsfs_final.specs.Laying.{IsTextKept}

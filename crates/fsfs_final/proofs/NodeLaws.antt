@@ -5,16 +5,16 @@ use Rattle.std.proofs.lemmas.List.{append-nil, length-append}
 use Rattle.std.proofs.lemmas.Bool.Decides.{nat_tests}
 use Rattle.fsfs_base.specs.Paths.{Path}
 use Rattle.fsfs_revision.specs.Told.{RevisionBytes}
-use Rattle.fsfs_revision.specs.DamageDamages.{place_of}
+use Rattle.fsfs_revision.specs.Damage.Damages.{place_of}
 use Rattle.fsfs_noderev.specs.declared.rep.Rep.{Rep}
 use Rattle.fsfs_noderev.specs.declared.rep.Contents.{Contents}
 use Rattle.fsfs_noderev.specs.declared.rep.Contents.TheVariants as contents
 use Rattle.fsfs_noderev.specs.declared.node_rev.NodeRev.{NodeRev}
-use Rattle.fsfs_layout.specs.Dump.{dump_text}
+use Rattle.fsfs_layout.specs.Hash.Dump.{dump_text}
 use Rattle.fsfs_revision.specs.Nodes.{is_before, is_some_rev, rep_before, rep_place_before, has_revision_rep, is_of_revision, is_ordered}
-use Rattle.fsfs_revision.specs.ShowsReading.{Pairs}
-use Rattle.fsfs_revision.specs.Chains.{contents_rev}
-use Rattle.fsfs_revision.specs.Frames.{framed_text}
+use Rattle.fsfs_revision.specs.Shows.Reading.{Pairs}
+use Rattle.fsfs_revision.specs.Shows.Chains.{contents_rev}
+use Rattle.fsfs_revision.specs.Rep.Frames.{framed_text}
 use Rattle.fsfs_draft.specs.OwnSides.{NodesAt}
 use Rattle.fsfs_draft.specs.NodeDrafts.{IsOwn, IsDraft}
 use Rattle.fsfs_final.specs.Final.{IsFinal}
@@ -22,8 +22,8 @@ use Rattle.fsfs_final.specs.Finishing.{finish, FinishesProps}
 use Rattle.fsfs_final.specs.Laid.{Laid, with_laid, IsLaid, IsTextAt}
 use Rattle.fsfs_final.proofs.LaidLaw.{loop_laws}
 use Rattle.fsfs_final.proofs.FinishingLaw.{finishing_is_final}
-use Rattle.fsfs_final.specs.Lists.{list_of, in_revision, AreContentsPut}
-use Rattle.fsfs_final.specs.Nodes.{IsNodePut, IsRepBefore, HasTextBefore, HasList, IsNodeLaid, PutNodesAreLaid}
+use Rattle.fsfs_final.specs.Pieces.Lists.{list_of, in_revision, AreContentsPut}
+use Rattle.fsfs_final.specs.Pieces.Nodes.{IsNodePut, IsRepBefore, HasTextBefore, HasList, IsNodeLaid, PutNodesAreLaid}
 use Rattle.fsfs_final.proofs.PropsLaw.{HasPropsBefore, props_before}
 use Rattle.fsfs_final.proofs.ListLaws.{behind, put_behind, put_lists_are_framed}
 

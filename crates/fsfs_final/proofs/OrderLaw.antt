@@ -12,10 +12,10 @@ use Rattle.fsfs_noderev.specs.declared.node_rev.CopyRoot.{CopyRoot}
 use Rattle.fsfs_noderev.specs.declared.node_rev.CopySource.{CopySource}
 use Rattle.fsfs_noderev.specs.declared.node_rev.NodeRev.{NodeRev}
 use Rattle.fsfs_revision.specs.Nodes.{has_revision_root, is_some_rev, pred_before, place_before, source_before, root_not_after, rev_not_after}
-use Rattle.fsfs_revision.specs.DamageDamages.{place_of}
-use Rattle.fsfs_revision.specs.ShowsReading.{offset_of}
-use Rattle.fsfs_revision.specs.Chains.{own_rev, copy_root_of, root_or_own}
-use Rattle.fsfs_revision.specs.IdRules.{IsOf}
+use Rattle.fsfs_revision.specs.Damage.Damages.{place_of}
+use Rattle.fsfs_revision.specs.Shows.Reading.{offset_of}
+use Rattle.fsfs_revision.specs.Shows.Chains.{own_rev, copy_root_of, root_or_own}
+use Rattle.fsfs_revision.specs.Shows.IdRules.{IsOf}
 use Rattle.fsfs_revision.proofs.TreeLaw.{stands_home, root_le}
 use Rattle.fsfs_revision.proofs.Roots.{length_push}
 use Rattle.fsfs_revision.proofs.Earlier.{pred_same}

@@ -8,9 +8,9 @@ use mathlib.Core.Bool.{false≢true}
 use Rattle.fsfs_base.specs.Paths.{PathName, Path, same_path}
 use Rattle.fsfs_base.proofs.PathLemmas.{same_path-is, same_path-refl}
 use Rattle.fsfs_draft.specs.Drafts.{Kept}
-use Rattle.fsfs_draft.specs.declared.own.KeptNode.{KeptNode}
+use Rattle.fsfs_draft.specs.declared.txn_noderevs.KeptNode.{KeptNode}
 use Rattle.fsfs_draft.specs.Views.{kept_value}
-use Rattle.fsfs_final.specs.Orders.{path_of, last_first, is_in}
+use Rattle.fsfs_final.specs.Order.Orders.{path_of, last_first, is_in}
 
 -- ---- tests
 

@@ -3,21 +3,21 @@ use Rattle.std.proofs.Common.{◌≡◌, ◌∙◌, ◌≤◌, ℕ, Bool, true, 
 use Rattle.std.specs.Prelude.{option_map}
 use Rattle.fsfs_base.specs.Paths.{PathName, Path}
 use Rattle.fsfs_tree.specs.Nodes.{TreeFunction}
-use Rattle.fsfs_base.specs.declared.txn_name.TxnName.{TxnName}
+use Rattle.fsfs_base.specs.declared.fields.txn_name.TxnName.{TxnName}
 use Rattle.fsfs_revision.specs.Told.{RevisionBytes}
 use Rattle.fsfs_noderev.specs.declared.node_id.Place.{Place}
 use Rattle.fsfs_noderev.specs.declared.node_id.Place.TheVariants as places
 use Rattle.fsfs_noderev.specs.declared.node_id.NodeId.{NodeId}
 use Rattle.fsfs_noderev.specs.declared.node_rev.NodeRev.{NodeRev}
 use Rattle.fsfs_revision.specs.Nodes.{is_revision_id, is_lasting_part, is_revision_place}
-use Rattle.fsfs_revision.specs.ShowsReading.{DirEntry, named, StandsAt}
+use Rattle.fsfs_revision.specs.Shows.Reading.{DirEntry, named, StandsAt}
 use Rattle.fsfs_draft.specs.Own.{OwnNode, Own, under}
 use Rattle.fsfs_draft.specs.Rules.{at_top, head_at, IsEntryOf, AreEntriesOf, stands_under, above_at, stands_at}
 use Rattle.fsfs_draft.specs.Drafts.{Folder, IsDraft, ShowTrees}
 use Rattle.fsfs_draft.proofs.Changing.{of_id_lasting}
 use Rattle.fsfs_draft.proofs.Here.{head_none, under_is, none_own, rules_under, rule_here, agrees_below}
 use Rattle.fsfs_draft.proofs.OwnEntries.{lasting_id}
-use Rattle.fsfs_final.specs.Children.{id_named}
+use Rattle.fsfs_final.specs.Order.Children.{id_named}
 use Rattle.fsfs_final.proofs.OrderLists.{differ}
 
 and_false : (b : Bool) → (b && false) ≡ false

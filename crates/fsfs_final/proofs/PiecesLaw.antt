@@ -8,10 +8,10 @@ use Rattle.fsfs_noderev.specs.NodeRevs.{IsNodeRev, IsRead}
 use Rattle.fsfs_noderev.specs.declared.rep.Rep.{Rep}
 use Rattle.fsfs_noderev.specs.declared.rep.Uniquifier.{Uniquifier}
 use Rattle.fsfs_noderev.specs.declared.node_rev.NodeRev.{NodeRev}
-use Rattle.fsfs_revision.specs.Frames.{text_of, RepIn}
+use Rattle.fsfs_revision.specs.Rep.Frames.{text_of, RepIn}
 use Rattle.fsfs_revision.specs.Nodes.{IsNodeAt, is_of_revision, is_ordered}
-use Rattle.fsfs_revision.specs.DamageDamages.{place_of}
-use Rattle.fsfs_final.specs.Pieces.{PiecesAreRead}
+use Rattle.fsfs_revision.specs.Damage.Damages.{place_of}
+use Rattle.fsfs_final.specs.ReadPieces.{PiecesAreRead}
 
 node : (n : ℕ) (front text back : List ℕ) (v : NodeRev) → IsNodeRev text v → length text ≤ 65536 → is_of_revision v ≡ true → is_ordered (place_of n (length front)) v ≡ true
     → IsNodeAt (place_of n (length front)) (drop (length front) (front ++ (text ++ back))) v

@@ -8,15 +8,15 @@ use Rattle.fsfs_base.specs.Paths.{PathName, same_name}
 use Rattle.fsfs_base.proofs.PathLemmas.{same_name-refl, same_name-is}
 use Rattle.fsfs_noderev.specs.declared.node_id.NodeId.{NodeId}
 use Rattle.fsfs_revision.specs.Nodes.{is_revision_id}
-use Rattle.fsfs_revision.specs.ShowsReading.{DirEntry, named}
+use Rattle.fsfs_revision.specs.Shows.Reading.{DirEntry, named}
 use Rattle.fsfs_dag.specs.declared.directory.DirEntry.{DirEntry as Listed}
 use Rattle.fsfs_dag.specs.Views.{entry_value, entry_values}
 use Rattle.fsfs_draft.specs.Drafts.{Kept}
 use Rattle.fsfs_draft.specs.Steps.{Files, kept_at}
-use Rattle.fsfs_final.specs.Orders.{AreHeld}
-use Rattle.fsfs_final.specs.Children.{IdsByName, id_named, Child, is_named, HaveNamesOnce, IsChild, IsPushed, ArePushed, IfLacking}
-use Rattle.fsfs_final.specs.declared.error.OrderError.{OrderError}
-use Rattle.fsfs_final.specs.declared.error.OrderError.TheVariants as errors
+use Rattle.fsfs_final.specs.Order.Orders.{AreHeld}
+use Rattle.fsfs_final.specs.Order.Children.{IdsByName, id_named, Child, is_named, HaveNamesOnce, IsChild, IsPushed, ArePushed, IfLacking}
+use Rattle.fsfs_final.specs.declared.order.error.OrderError.{OrderError}
+use Rattle.fsfs_final.specs.declared.order.error.OrderError.TheVariants as errors
 use Rattle.fsfs_final.proofs.OrderLists.{differ}
 
 pub record ArePushing (files : Files) (ids left : IdsByName) (old new : List Kept) : Type 0 where

@@ -2,7 +2,7 @@
 use Rattle.std.proofs.Common.{◌≡◌, ◌∙◌, ◌+◌, ◌≤◌, ℕ, List, [], ◌∷◌, ◌++◌, length, true, Option, Some, None, sym, ap, subst, append_assoc}
 use Rattle.std.specs.Prelude.{codes}
 use Rattle.md5.specs.Md5.{md5}
-use Rattle.fsfs_base.specs.Grammar.{Appends}
+use Rattle.fsfs_base.specs.Grammar.Relations.{Appends}
 use Rattle.fsfs_base.specs.declared.kind.Kind.{Kind}
 use Rattle.fsfs_noderev.specs.Ids.{IsId, id_value}
 use Rattle.fsfs_noderev.specs.NodeRevs.{IsNodeRev}
@@ -12,18 +12,18 @@ use Rattle.fsfs_noderev.specs.declared.rep.Rep.{Rep}
 use Rattle.fsfs_noderev.specs.declared.rep.Contents.{Contents}
 use Rattle.fsfs_noderev.specs.declared.node_rev.CopyRoot.{CopyRoot}
 use Rattle.fsfs_noderev.specs.declared.node_rev.NodeRev.{NodeRev}
-use Rattle.fsfs_noderev.specs.Changes.{AreRevisionChanges}
-use Rattle.fsfs_noderev.specs.declared.item.ChangeItem.{ChangeItem}
-use Rattle.fsfs_layout.specs.Dump.{Entries, IsDump, dump_text}
+use Rattle.fsfs_noderev.specs.Changes.Texts.{AreRevisionChanges}
+use Rattle.fsfs_noderev.specs.declared.changes.item.ChangeItem.{ChangeItem}
+use Rattle.fsfs_layout.specs.Hash.Dump.{Entries, IsDump, dump_text}
 use Rattle.fsfs_revision.specs.Nodes.{is_revision_id}
 use Rattle.fsfs_revision.specs.Trailers.{IsOffset, IsTrailer}
 use Rattle.fsfs_revision.proofs.TrailerLemmas.{written}
-use Rattle.fsfs_revision.specs.ShowsReading.{Pairs, kind_word, IsEntryValue}
-use Rattle.fsfs_revision.specs.Frames.{framed_text}
+use Rattle.fsfs_revision.specs.Shows.Reading.{Pairs, kind_word, IsEntryValue}
+use Rattle.fsfs_revision.specs.Rep.Frames.{framed_text}
 use Rattle.fsfs_final.specs.Finishing.{final_root, finish}
-use Rattle.fsfs_final.specs.Lists.{IsListPut, AreContentsPut}
-use Rattle.fsfs_final.specs.Nodes.{IsNodePut}
-use Rattle.fsfs_final.specs.Endings.{IsEndPut}
+use Rattle.fsfs_final.specs.Pieces.Lists.{IsListPut, AreContentsPut}
+use Rattle.fsfs_final.specs.Pieces.Nodes.{IsNodePut}
+use Rattle.fsfs_final.specs.Pieces.Endings.{IsEndPut}
 
 pub list_put : (n start : ℕ) (old a b new text : List ℕ) (pairs : Pairs) (rep : Rep) → rep.rev ≡ Some n → rep.offset ≡ start + length old → rep.length ≡ length text → rep.size ≡ length text → rep.md5.bytes ≡ md5 text → rep.unique ≡ None
     → text ≡ dump_text pairs → IsDump text pairs → Entries text pairs → a ≡ old ++ codes "PLAIN\n" → b ≡ a ++ text → new ≡ b ++ codes "ENDREP\n" → IsListPut n start old new pairs rep

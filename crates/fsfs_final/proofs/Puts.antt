@@ -5,21 +5,21 @@ use Rattle.std.proofs.lemmas.List.{length-append}
 use Rattle.std.proofs.lemmas.Bool.{false_from_ne_true}
 use Rattle.fsfs_base.specs.Paths.{PathName, Path, same_path}
 use Rattle.fsfs_base.proofs.PathLemmas.{same_path-is, same_path-refl}
-use Rattle.fsfs_base.specs.declared.txn_name.TxnName.{TxnName}
+use Rattle.fsfs_base.specs.declared.fields.txn_name.TxnName.{TxnName}
 use Rattle.fsfs_tree.specs.Nodes.{TreeFunction}
-use Rattle.fsfs_model.specs.declared.mark.Mark.{Mark}
+use Rattle.fsfs_model.specs.declared.flat.mark.Mark.{Mark}
 use Rattle.fsfs_revision.specs.Told.{RevisionBytes}
 use Rattle.fsfs_revision.specs.declared.damage.RevOffset.{RevOffset}
-use Rattle.fsfs_revision.specs.DamageDamages.{place_of}
+use Rattle.fsfs_revision.specs.Damage.Damages.{place_of}
 use Rattle.fsfs_noderev.specs.declared.node_id.NodeId.{NodeId}
 use Rattle.fsfs_noderev.specs.declared.node_id.Place.{Place}
 use Rattle.fsfs_noderev.specs.declared.node_id.Place.TheVariants as places
 use Rattle.fsfs_noderev.specs.declared.rep.Contents.{Contents}
 use Rattle.fsfs_noderev.specs.declared.rep.Contents.TheVariants as contents
 use Rattle.fsfs_noderev.specs.declared.node_rev.NodeRev.{NodeRev}
-use Rattle.fsfs_layout.specs.Dump.{dump_text}
+use Rattle.fsfs_layout.specs.Hash.Dump.{dump_text}
 use Rattle.fsfs_revision.specs.Nodes.{is_revision_id, is_revision_place, place_before}
-use Rattle.fsfs_revision.specs.ShowsReading.{Pairs, DirEntry, IsEntryName, named, offset_of}
+use Rattle.fsfs_revision.specs.Shows.Reading.{Pairs, DirEntry, IsEntryName, named, offset_of}
 use Rattle.fsfs_revision.proofs.TreeLaw.{stands_home}
 use Rattle.fsfs_draft.specs.Own.{OwnNode, Own, has_entry}
 use Rattle.fsfs_draft.specs.Rules.{head_at, IsEntryOf}
@@ -34,14 +34,14 @@ use Rattle.fsfs_draft.proofs.WholeLaw.{drafts_are_handed}
 use Rattle.fsfs_draft.proofs.OwnEntries.{lasting_parts}
 use Rattle.fsfs_final.specs.Laid.{Laid, with_laid, IsFramed}
 use Rattle.fsfs_final.proofs.LaidLaw.{loop_laws}
-use Rattle.fsfs_final.specs.Lists.{list_of}
-use Rattle.fsfs_final.specs.Naming.{FinalIds, final_id, final_entry}
-use Rattle.fsfs_final.specs.Nodes.{HasTextBefore, HasList, IsNodeLaid}
+use Rattle.fsfs_final.specs.Pieces.Lists.{list_of}
+use Rattle.fsfs_final.specs.Pieces.Naming.{FinalIds, final_id, final_entry}
+use Rattle.fsfs_final.specs.Pieces.Nodes.{HasTextBefore, HasList, IsNodeLaid}
 use Rattle.fsfs_final.proofs.ListLaws.{behind, put_behind}
 use Rattle.fsfs_final.proofs.NodeLaws.{put_nodes_are_laid}
 use Rattle.fsfs_final.proofs.TextsLaw.{draft_texts_stand_before}
-use Rattle.fsfs_final.specs.Orders.{path_of, is_in}
-use Rattle.fsfs_final.specs.Children.{id_named}
+use Rattle.fsfs_final.specs.Order.Orders.{path_of, is_in}
+use Rattle.fsfs_final.specs.Order.Children.{id_named}
 use Rattle.fsfs_final.proofs.OrderLists.{differ, not_itself, in_front, in_none, out_of}
 use Rattle.fsfs_final.proofs.OwnChildren.{Below, not_of_revision, heads, lasting, child_own}
 use Rattle.fsfs_final.proofs.Walking.{parent_in}

@@ -9,7 +9,7 @@ use Rattle.fsfs_revision.proofs.OneAnswer.{ok_same}
 use Rattle.fsfs_noderev.specs.declared.rep.Contents.{Contents}
 use Rattle.fsfs_noderev.specs.declared.rep.Contents.TheVariants as contents
 use Rattle.fsfs_noderev.specs.declared.node_rev.NodeRev.{NodeRev}
-use Rattle.fsfs_revision.specs.ShowsReading.{Pairs, DirEntry, IsEntryName, AreEntries, EntriesAt, OfContents, OfNamed, ChildOf, named, offset_of}
+use Rattle.fsfs_revision.specs.Shows.Reading.{Pairs, DirEntry, IsEntryName, AreEntries, EntriesAt, OfContents, OfNamed, ChildOf, named, offset_of}
 
 in_list : (home : RevOffset) (name : PathName) (pairs : Pairs) (es : List DirEntry) (e : DirEntry) → AreEntries home pairs es → named name es ≡ Some e → IsEntryName name
 in_list home name [] [] e w h = absurd (let clash : None ≡ Some e = h in cc)

@@ -6,24 +6,24 @@ use Rattle.std.proofs.lemmas.Bool.Decides.{nat_tests}
 use mathlib.Core.Bool.{false≢true}
 use Rattle.fsfs_base.specs.Paths.{PathName, Path, covers}
 use Rattle.fsfs_tree.specs.Nodes.{Node, TreeFunction}
-use Rattle.fsfs_model.specs.declared.mark.Mark.{Mark}
-use Rattle.fsfs_model.specs.declared.mark.Effects.{Effects}
-use Rattle.fsfs_model.specs.Marks.{effects}
-use Rattle.fsfs_model.specs.Landing.{landed_at, land}
-use Rattle.fsfs_model.specs.Transactions.{IsTransaction}
+use Rattle.fsfs_model.specs.declared.flat.mark.Mark.{Mark}
+use Rattle.fsfs_model.specs.declared.flat.mark.Effects.{Effects}
+use Rattle.fsfs_model.specs.Flat.Marks.{effects}
+use Rattle.fsfs_model.specs.Flat.Landing.{landed_at, land}
+use Rattle.fsfs_model.specs.Flat.Transactions.{IsTransaction}
 use Rattle.fsfs_revision.specs.Told.{RevisionBytes}
 use Rattle.fsfs_noderev.specs.declared.rep.Contents.TheVariants as contents
 use Rattle.fsfs_noderev.specs.declared.node_rev.NodeRev.{NodeRev}
-use Rattle.fsfs_revision.specs.ShowsReading.{ChildOf, Met, Stands, Lacking, Blocked, MetAt, StandsAt}
-use Rattle.fsfs_revision.specs.Chains.{own_rev, IsPred, Chain, First, Goes, copy_root_of, IsCopiedIn, contents_rev}
-use Rattle.fsfs_revision.specs.Shown.{Nearest, copied_from, source_by, IsOfCopy, IsSource, IsShown, IsShownAs, Shows}
-use Rattle.fsfs_revision.specs.IdRules.{IsOf}
+use Rattle.fsfs_revision.specs.Shows.Reading.{ChildOf, Met, Stands, Lacking, Blocked, MetAt, StandsAt}
+use Rattle.fsfs_revision.specs.Shows.Chains.{own_rev, IsPred, Chain, First, Goes, copy_root_of, IsCopiedIn, contents_rev}
+use Rattle.fsfs_revision.specs.Shows.Shown.{Nearest, copied_from, source_by, IsOfCopy, IsSource, IsShown, IsShownAs, Shows}
+use Rattle.fsfs_revision.specs.Shows.IdRules.{IsOf}
 use Rattle.fsfs_revision.proofs.OneWalk.{met_same, stands_same}
 use Rattle.fsfs_revision.proofs.TreeLaw.{IsHome, stands_home, chain_le, root_le, props_le}
 use Rattle.fsfs_base.proofs.PathLemmas.{covers-longer, covers-length, split_at}
 use Rattle.fsfs_model.proofs.MergeWalk.{gone_down}
 use Rattle.fsfs_model.proofs.NextHistory.{IsWhole, whole, at_most}
-use Rattle.fsfs_revision.specs.Trees.{ShowTrees}
+use Rattle.fsfs_revision.specs.Ancestry.Trees.{ShowTrees}
 use Rattle.fsfs_revision.proofs.Standing.{for_each}
 use Rattle.fsfs_revision.proofs.Earlier.{stands_of_id, pred_same}
 use Rattle.fsfs_revision.proofs.Behind.{shown_there}
@@ -254,7 +254,7 @@ module _ (look : RevisionBytes) (top : ℕ) (tree : ℕ → TreeFunction) (t : T
   above_at : (p : Path) (name : PathName) (x : NodeRev) → StandsAt look top (p ++ name ∷ []) x → (d : NodeRev) × StandsAt look top p d
   above_at p name x at =
       let n = some_node look top (tree top) (shows.each top (omega arith)) base are (p ++ name ∷ []) x (base_at (p ++ name ∷ []) x at) in
-      let base_whole = whole tree top top (tree top) [] (shown_revisions look top tree shows) (Rattle.fsfs_model.specs.Transactions.Begun top (omega arith)) in
+      let base_whole = whole tree top top (tree top) [] (shown_revisions look top tree shows) (Rattle.fsfs_model.specs.Flat.Transactions.Begun top (omega arith)) in
       let some = base_whole.sound.closed p (p ++ name ∷ []) (covers-longer p (name ∷ [])) (ap is_some n.1) in
       by (tree top p) refl some
     where
@@ -431,7 +431,7 @@ module _ (look : RevisionBytes) (top : ℕ) (tree : ℕ → TreeFunction) (t : T
   contents_le p v at = let h = stands_home look N p v at in let l = props_le (offset_rev v) v.props h.0.props in omega (arith, h.1, l)
     where
       offset_rev : NodeRev → Rattle.fsfs_revision.specs.declared.damage.RevOffset.RevOffset
-      offset_rev v = Rattle.fsfs_revision.specs.ShowsReading.offset_of v.id.place
+      offset_rev v = Rattle.fsfs_revision.specs.Shows.Reading.offset_of v.id.place
 
   module _ (p : Path) (v : NodeRev) (y : Node) (at : StandsAt look N p v) (is : landed p ≡ Some y) where
     c : Copies p v

@@ -5,12 +5,12 @@ use Rattle.fsfs_base.specs.Paths.{PathName, Path}
 use Rattle.fsfs_revision.specs.Told.{RevisionBytes}
 use Rattle.fsfs_noderev.specs.declared.node_id.NodeId.{NodeId}
 use Rattle.fsfs_noderev.specs.declared.node_rev.NodeRev.{NodeRev}
-use Rattle.fsfs_revision.specs.ShowsReading.{offset_of, ChildOf}
-use Rattle.fsfs_revision.specs.Chains.{own_rev, IsPred}
-use Rattle.fsfs_revision.specs.IdRules.{IsOf}
+use Rattle.fsfs_revision.specs.Shows.Reading.{offset_of, ChildOf}
+use Rattle.fsfs_revision.specs.Shows.Chains.{own_rev, IsPred}
+use Rattle.fsfs_revision.specs.Shows.IdRules.{IsOf}
 use Rattle.fsfs_revision.proofs.TreeLaw.{of_id_home}
 use Rattle.fsfs_revision.proofs.Walks.{child_stands}
-use Rattle.fsfs_revision.specs.Bounded.{AreSameUpTo}
+use Rattle.fsfs_revision.specs.Ancestry.Bounded.{AreSameUpTo}
 use Rattle.fsfs_revision.proofs.Earlier.{stands_of_id, pred_same}
 use Rattle.fsfs_revision.proofs.Roots.{length_push}
 use Rattle.fsfs_revision.proofs.Bounded.{back_same, of_id_same, child_same}

@@ -5,21 +5,21 @@ use Rattle.std.proofs.lemmas.Bool.{cases_lt}
 use Rattle.fsfs_base.specs.Paths.{Path}
 use Rattle.fsfs_base.specs.declared.kind.Kind.{Kind}
 use Rattle.fsfs_base.specs.declared.kind.Kind.TheVariants.{File, Dir}
-use Rattle.fsfs_base.specs.declared.txn_name.TxnName.{TxnName}
+use Rattle.fsfs_base.specs.declared.fields.txn_name.TxnName.{TxnName}
 use Rattle.fsfs_tree.specs.Nodes.{TreeFunction, Content, Bytes, Closed}
-use Rattle.fsfs_model.specs.declared.mark.Mark.{Mark}
+use Rattle.fsfs_model.specs.declared.flat.mark.Mark.{Mark}
 use Rattle.fsfs_revision.specs.Told.{RevisionBytes}
-use Rattle.fsfs_revision.specs.DamageDamages.{place_of}
+use Rattle.fsfs_revision.specs.Damage.Damages.{place_of}
 use Rattle.fsfs_revision.specs.declared.wrong.Wrong.TheVariants as wrongs
 use Rattle.fsfs_noderev.specs.declared.rep.Rep.{Rep}
 use Rattle.fsfs_noderev.specs.declared.rep.Contents.{Contents}
 use Rattle.fsfs_noderev.specs.declared.rep.Contents.TheVariants as contents
 use Rattle.fsfs_noderev.specs.declared.node_rev.NodeRev.{NodeRev}
-use Rattle.fsfs_revision.specs.Headers.{plain_line}
-use Rattle.fsfs_revision.specs.Frames.{rev_of, RepIn}
+use Rattle.fsfs_revision.specs.Rep.Headers.{plain_line}
+use Rattle.fsfs_revision.specs.Rep.Frames.{rev_of, RepIn}
 use Rattle.fsfs_revision.proofs.HeaderLemmas.{stands_fits}
-use Rattle.fsfs_revision.specs.ShowsReading.{OfContents, RepAt, offset_of, DirEntry}
-use Rattle.fsfs_revision.specs.Shown.{IsTextOf}
+use Rattle.fsfs_revision.specs.Shows.Reading.{OfContents, RepAt, offset_of, DirEntry}
+use Rattle.fsfs_revision.specs.Shows.Shown.{IsTextOf}
 use Rattle.fsfs_revision.proofs.TreeLaw.{stands_home}
 use Rattle.fsfs_draft.specs.Own.{OwnNode, Own}
 use Rattle.fsfs_draft.specs.Drafts.{Folder, IsLasting, IsFileText, Lasting, Put, IsDraftText, ShowTrees}
@@ -32,7 +32,7 @@ use Rattle.fsfs_draft.proofs.HangLaw as hanging
 use Rattle.fsfs_draft.proofs.WholeLaw.{drafts_are_handed}
 use Rattle.fsfs_final.proofs.OrderLaw.{pred_or}
 use Rattle.fsfs_final.proofs.Stays.{ready}
-use Rattle.fsfs_final.specs.Nodes.{IsRepBefore, HasTextBefore, DraftTextsStandBefore}
+use Rattle.fsfs_final.specs.Pieces.Nodes.{IsRepBefore, HasTextBefore, DraftTextsStandBefore}
 use Rattle.fsfs_final.proofs.PropsLaw.{before_rev}
 use Rattle.fsfs_final.proofs.NodeLaws.{props_text}
 

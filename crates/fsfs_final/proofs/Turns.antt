@@ -1,17 +1,17 @@
 -- Own node-revisions put one after another, all of a whole draft.
 use Rattle.std.proofs.Common.{◌≡◌, ◌∙◌, ℕ, suc, List, [], ◌∷◌, ◌++◌, length, None, sym, subst}
 use Rattle.fsfs_base.specs.Paths.{Path}
-use Rattle.fsfs_base.specs.declared.txn_name.TxnName.{TxnName}
+use Rattle.fsfs_base.specs.declared.fields.txn_name.TxnName.{TxnName}
 use Rattle.fsfs_tree.specs.Nodes.{TreeFunction}
-use Rattle.fsfs_model.specs.declared.mark.Mark.{Mark}
+use Rattle.fsfs_model.specs.declared.flat.mark.Mark.{Mark}
 use Rattle.fsfs_revision.specs.Told.{RevisionBytes}
 use Rattle.fsfs_draft.specs.Own.{OwnNode}
 use Rattle.fsfs_draft.specs.Drafts.{Kept, Folder}
 use Rattle.fsfs_draft.specs.OwnSides.{NodesAt}
 use Rattle.fsfs_final.specs.Laid.{Laid, IsLaid, nothing_laid}
 use Rattle.fsfs_final.proofs.LaidLaw.{loop_laws}
-use Rattle.fsfs_final.specs.Naming.{FinalIds}
-use Rattle.fsfs_final.specs.Orders.{is_in}
+use Rattle.fsfs_final.specs.Pieces.Naming.{FinalIds}
+use Rattle.fsfs_final.specs.Order.Orders.{is_in}
 use Rattle.fsfs_final.proofs.OrderLists.{differ}
 use Rattle.fsfs_final.specs.Putting.{ArePut}
 use Rattle.fsfs_final.specs.Laying.{IsCommittable, IsPut, AreLaid, PutsLay}

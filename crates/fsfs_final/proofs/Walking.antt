@@ -6,16 +6,16 @@ use mathlib.Core.Bool.{false≢true}
 use Rattle.fsfs_base.specs.Paths.{PathName, Path, same_name}
 use Rattle.fsfs_base.proofs.PathLemmas.{same_name-refl, same_name-is}
 use Rattle.fsfs_tree.specs.Nodes.{TreeFunction}
-use Rattle.fsfs_base.specs.declared.txn_name.TxnName.{TxnName}
+use Rattle.fsfs_base.specs.declared.fields.txn_name.TxnName.{TxnName}
 use Rattle.fsfs_revision.specs.Told.{RevisionBytes}
 use Rattle.fsfs_noderev.specs.declared.node_id.NodeId.{NodeId}
-use Rattle.fsfs_revision.specs.ShowsReading.{DirEntry}
+use Rattle.fsfs_revision.specs.Shows.Reading.{DirEntry}
 use Rattle.fsfs_draft.specs.Own.{OwnNode, Own}
 use Rattle.fsfs_draft.specs.Drafts.{Kept, Folder, kept_of, IsDraft, ShowTrees}
 use Rattle.fsfs_draft.specs.Steps.{kept_at}
 use Rattle.fsfs_draft.specs.Walks.{IsRootId}
-use Rattle.fsfs_final.specs.Orders.{path_of, is_in, IsKeptAt, IsInOne, AreInOrder, IsOrder}
-use Rattle.fsfs_final.specs.Children.{id_named, Child, is_named, HaveNamesOnce, IsChild, ArePushed, LacksChild}
+use Rattle.fsfs_final.specs.Order.Orders.{path_of, is_in, IsKeptAt, IsInOne, AreInOrder, IsOrder}
+use Rattle.fsfs_final.specs.Order.Children.{id_named, Child, is_named, HaveNamesOnce, IsChild, ArePushed, LacksChild}
 use Rattle.fsfs_final.proofs.OrderLists.{differ, no_push, push_same, not_itself, in_front, in_later, in_either, in_none, out_of, in_left, in_right, in_neither}
 use Rattle.fsfs_final.proofs.OwnChildren.{child_own, child_named, above_own}
 

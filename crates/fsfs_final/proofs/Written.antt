@@ -8,11 +8,11 @@ use Rattle.fsfs_base.specs.declared.kind.Kind.TheVariants.{File, Dir}
 use Rattle.fsfs_revision.specs.Told.{RevisionBytes}
 use Rattle.fsfs_noderev.specs.declared.node_rev.NodeRev.{NodeRev}
 use Rattle.fsfs_revision.specs.declared.wrong.Wrong.{Wrong}
-use Rattle.fsfs_revision.specs.ShowsReading.{ChildOf, Met, Stands, Lacking, Blocked, OrLacking, InDirectory, MetFrom, MetAt, StandsAt}
+use Rattle.fsfs_revision.specs.Shows.Reading.{ChildOf, Met, Stands, Lacking, Blocked, OrLacking, InDirectory, MetFrom, MetAt, StandsAt}
 use Rattle.fsfs_revision.proofs.OneAnswer.{ok_same}
 use Rattle.fsfs_revision.proofs.OneWalk.{child_one, stands_same}
 use Rattle.fsfs_revision.proofs.Walks.{met_behind, in_dir, child_stands}
-use Rattle.fsfs_revision.specs.Trees.{ShowTrees}
+use Rattle.fsfs_revision.specs.Ancestry.Trees.{ShowTrees}
 use Rattle.fsfs_revision.proofs.Standing.{for_each}
 use Rattle.fsfs_revision.proofs.Roots.{length_push}
 use Rattle.fsfs_draft.specs.OwnSides.{NodesAt, in_txn}

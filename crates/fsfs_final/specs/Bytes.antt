@@ -12,14 +12,14 @@ use Rattle.fsfs_noderev.specs.declared.node_id.Place.TheVariants as places
 use Rattle.fsfs_noderev.specs.declared.rep.Rep.{Rep}
 use Rattle.fsfs_noderev.specs.declared.rep.Contents.TheVariants as contents
 use Rattle.fsfs_noderev.specs.declared.node_rev.NodeRev.{NodeRev}
-use Rattle.fsfs_layout.specs.Dump.{IsDump}
-use Rattle.fsfs_revision.specs.Frames.{rev_of, RepIn}
+use Rattle.fsfs_layout.specs.Hash.Dump.{IsDump}
+use Rattle.fsfs_revision.specs.Rep.Frames.{rev_of, RepIn}
 use Rattle.fsfs_revision.specs.Nodes.{IsNodeAt, is_root, is_before}
-use Rattle.fsfs_revision.specs.DamageDamages.{place_of}
+use Rattle.fsfs_revision.specs.Damage.Damages.{place_of}
 use Rattle.fsfs_revision.specs.Trailers.{EndsWith}
 use Rattle.fsfs_revision.specs.declared.trailer.Trailer.{Trailer}
-use Rattle.fsfs_revision.specs.ShowsReading.{offset_of, Pairs, DirEntry, AreEntries, named, ChildOf}
-use Rattle.fsfs_revision.specs.Chains.{IsPred}
+use Rattle.fsfs_revision.specs.Shows.Reading.{offset_of, Pairs, DirEntry, AreEntries, named, ChildOf}
+use Rattle.fsfs_revision.specs.Shows.Chains.{IsPred}
 use Rattle.fsfs_draft.specs.OwnSides.{NodesAt, in_txn}
 use Rattle.fsfs_draft.specs.NodeDrafts.{IsOwn, IsDraft}
 use Rattle.fsfs_final.specs.Final.{IsFinal}

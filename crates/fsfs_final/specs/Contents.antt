@@ -1,17 +1,17 @@
 -- Texts and properties of a draft, and of the revision that is made of it.
 use Rattle.std.specs.Prelude.{◌≡◌, ◌≤◌, ℕ, suc, false, List, [], Some, Ok}
-use Rattle.fsfs_model.specs.declared.mark.Mark.{Mark}
+use Rattle.fsfs_model.specs.declared.flat.mark.Mark.{Mark}
 use Rattle.fsfs_base.specs.declared.kind.Kind.TheVariants.{File, Dir}
 use Rattle.fsfs_base.specs.Paths.{Path}
 use Rattle.fsfs_tree.specs.Nodes.{Node, TreeFunction, Bytes}
 use Rattle.fsfs_tree.specs.Histories.{AreRevisions}
-use Rattle.fsfs_model.specs.Landing.{NoClash, land}
-use Rattle.fsfs_model.specs.Transactions.{IsTransaction}
+use Rattle.fsfs_model.specs.Flat.Landing.{NoClash, land}
+use Rattle.fsfs_model.specs.Flat.Transactions.{IsTransaction}
 use Rattle.fsfs_revision.specs.Told.{RevisionBytes}
 use Rattle.fsfs_noderev.specs.declared.node_rev.NodeRev.{NodeRev}
-use Rattle.fsfs_revision.specs.ShowsReading.{StandsAt, PropsOf}
-use Rattle.fsfs_revision.specs.Shown.{IsTextOf}
-use Rattle.fsfs_revision.specs.Trees.{ShowTrees}
+use Rattle.fsfs_revision.specs.Shows.Reading.{StandsAt, PropsOf}
+use Rattle.fsfs_revision.specs.Shows.Shown.{IsTextOf}
+use Rattle.fsfs_revision.specs.Ancestry.Trees.{ShowTrees}
 use Rattle.fsfs_merge.specs.declared.sight.Sight.{Sight}
 use Rattle.fsfs_draft.specs.OwnSides.{NodesAt, in_txn}
 use Rattle.fsfs_merge.specs.MergeLaws.{IsMerge, landed_nodes}

@@ -5,8 +5,8 @@ use Rattle.fsfs_tree.specs.Nodes.{TreeFunction}
 use Rattle.fsfs_base.specs.declared.kind.Kind.TheVariants.{Dir}
 use Rattle.fsfs_revision.specs.Told.{RevisionBytes}
 use Rattle.fsfs_noderev.specs.declared.node_rev.NodeRev.{NodeRev}
-use Rattle.fsfs_revision.specs.ShowsReading.{RootOf, ChildOf}
-use Rattle.fsfs_revision.specs.Trees.{ShowTrees}
+use Rattle.fsfs_revision.specs.Shows.Reading.{RootOf, ChildOf}
+use Rattle.fsfs_revision.specs.Ancestry.Trees.{ShowTrees}
 use Rattle.fsfs_draft.specs.OwnSides.{NodesAt, in_txn}
 use Rattle.fsfs_draft.specs.NodeDrafts.{IsOwn, IsDraft}
 use Rattle.fsfs_final.specs.Final.{IsFinal, IsWritten}

@@ -6,9 +6,9 @@ use Rattle.fsfs_noderev.specs.declared.node_id.Part.{Part}
 use Rattle.fsfs_noderev.specs.declared.node_id.Part.TheVariants as parts
 use Rattle.fsfs_noderev.specs.declared.rep.Contents.TheVariants as contents
 use Rattle.fsfs_noderev.specs.declared.node_rev.NodeRev.{NodeRev}
-use Rattle.fsfs_revision.specs.ShowsReading.{Met, MetAt, StandsAt}
-use Rattle.fsfs_revision.specs.Chains.{own_rev, copy_root_of, contents_rev}
-use Rattle.fsfs_revision.specs.IdRules.{IdRule}
+use Rattle.fsfs_revision.specs.Shows.Reading.{Met, MetAt, StandsAt}
+use Rattle.fsfs_revision.specs.Shows.Chains.{own_rev, copy_root_of, contents_rev}
+use Rattle.fsfs_revision.specs.Shows.IdRules.{IdRule}
 use Rattle.fsfs_draft.specs.OwnSides.{NodesAt, in_txn}
 use Rattle.fsfs_draft.specs.NodeDrafts.{draft_root, IsDraft}
 

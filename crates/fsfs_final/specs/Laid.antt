@@ -9,10 +9,10 @@ use Rattle.fsfs_noderev.specs.declared.node_id.Place.TheVariants as places
 use Rattle.fsfs_noderev.specs.declared.rep.Rep.{Rep}
 use Rattle.fsfs_noderev.specs.declared.node_rev.NodeRev.{NodeRev}
 use Rattle.fsfs_revision.specs.Nodes.{IsNodeAt, is_of_revision, is_ordered, is_root}
-use Rattle.fsfs_revision.specs.DamageDamages.{place_of}
+use Rattle.fsfs_revision.specs.Damage.Damages.{place_of}
 use Rattle.fsfs_revision.specs.Trailers.{EndsWith}
 use Rattle.fsfs_revision.specs.declared.trailer.Trailer.{Trailer}
-use Rattle.fsfs_revision.specs.Frames.{RepIn}
+use Rattle.fsfs_revision.specs.Rep.Frames.{RepIn}
 use Rattle.fsfs_draft.specs.OwnSides.{NodesAt}
 use Rattle.fsfs_draft.specs.NodeDrafts.{IsOwn}
 use Rattle.fsfs_final.specs.Final.{IsFinal}

@@ -2,16 +2,16 @@
 use Rattle.std.specs.Prelude.{◌≡◌, ℕ, suc, true, false, List, [], ◌∷◌, ◌++◌, length, Option, Some, None}
 use Rattle.fsfs_base.specs.Paths.{PathName, Path}
 use Rattle.fsfs_base.specs.PathTexts.{IsPath}
-use Rattle.fsfs_base.specs.declared.txn_name.TxnName.{TxnName}
+use Rattle.fsfs_base.specs.declared.fields.txn_name.TxnName.{TxnName}
 use Rattle.fsfs_tree.specs.Nodes.{TreeFunction}
-use Rattle.fsfs_model.specs.declared.mark.Mark.{Mark}
+use Rattle.fsfs_model.specs.declared.flat.mark.Mark.{Mark}
 use Rattle.fsfs_revision.specs.Told.{RevisionBytes}
 use Rattle.fsfs_noderev.specs.declared.node_id.Place.TheVariants as places
 use Rattle.fsfs_noderev.specs.declared.rep.Contents.{Contents}
 use Rattle.fsfs_noderev.specs.declared.rep.Contents.TheVariants as contents
 use Rattle.fsfs_noderev.specs.declared.node_rev.NodeRev.{NodeRev}
 use Rattle.fsfs_revision.specs.Nodes.{is_revision_id}
-use Rattle.fsfs_revision.specs.ShowsReading.{Pairs, DirEntry, AreEntries, named, offset_of}
+use Rattle.fsfs_revision.specs.Shows.Reading.{Pairs, DirEntry, AreEntries, named, offset_of}
 use Rattle.fsfs_draft.specs.Own.{OwnNode, Own}
 use Rattle.fsfs_draft.specs.Drafts.{Kept, Folder, ShowTrees}
 use Rattle.fsfs_draft.specs.OwnSides.{NodesAt}
@@ -20,10 +20,10 @@ use Rattle.fsfs_draft.specs.Staying.{IsYoungest}
 use Rattle.fsfs_draft.specs.Whole.{IsDraftOf}
 use Rattle.fsfs_final.specs.Final.{IsFinal}
 use Rattle.fsfs_final.specs.Laid.{Laid, IsLaid}
-use Rattle.fsfs_final.specs.Lists.{in_revision}
-use Rattle.fsfs_final.specs.Naming.{FinalIds}
-use Rattle.fsfs_final.specs.Nodes.{HasList}
-use Rattle.fsfs_final.specs.Orders.{is_in, AreInOrder, IsOrder}
+use Rattle.fsfs_final.specs.Pieces.Lists.{in_revision}
+use Rattle.fsfs_final.specs.Pieces.Naming.{FinalIds}
+use Rattle.fsfs_final.specs.Pieces.Nodes.{HasList}
+use Rattle.fsfs_final.specs.Order.Orders.{is_in, AreInOrder, IsOrder}
 use Rattle.fsfs_final.specs.Putting.{ArePut, no_ids}
 
 -- a whole draft on the youngest revision

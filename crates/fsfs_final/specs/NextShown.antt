@@ -3,10 +3,10 @@ use Rattle.std.specs.Prelude.{◌≡◌, ℕ, List, [], ◌∷◌, ◌++◌, len
 use Rattle.std.specs.FinMap.{get}
 use Rattle.fsfs_tree.specs.Revisions.{Revision, tree_of}
 use Rattle.fsfs_tree.specs.Dated.{last_of}
-use Rattle.fsfs_model.specs.Landing.{land}
-use Rattle.fsfs_model.specs.Transactions.{Entry, IsEntry, IsNext}
+use Rattle.fsfs_model.specs.Flat.Landing.{land}
+use Rattle.fsfs_model.specs.Flat.Transactions.{Entry, IsEntry, IsNext}
 use Rattle.fsfs_revision.specs.Told.{RevisionBytes}
-use Rattle.fsfs_layout.specs.Dump.{IsDump}
+use Rattle.fsfs_layout.specs.Hash.Dump.{IsDump}
 use Rattle.fsfs_stands.specs.Changes.{AreChangesOf}
 use Rattle.fsfs_stands.specs.History.{ShowsHistory}
 use Rattle.fsfs_draft.specs.OwnSides.{NodesAt, IsOwnSide, AreNodesOf}

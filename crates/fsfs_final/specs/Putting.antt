@@ -4,13 +4,13 @@ use Rattle.std.specs.Str.{IsUtf8}
 use Rattle.fsfs_base.specs.Paths.{PathName, Path, same_path}
 use Rattle.fsfs_noderev.specs.Writing.{HasText}
 use Rattle.fsfs_noderev.specs.declared.node_rev.NodeRev.{NodeRev}
-use Rattle.fsfs_revision.specs.ShowsReading.{Pairs, DirEntry, named}
+use Rattle.fsfs_revision.specs.Shows.Reading.{Pairs, DirEntry, named}
 use Rattle.fsfs_draft.specs.Drafts.{Kept}
 use Rattle.fsfs_noderev.specs.Limits.{IsNodePast}
-use Rattle.fsfs_noderev.specs.declared.limit.PathLimit.{PathLimit}
-use Rattle.fsfs_final.specs.Naming.{FinalIds, final_entry}
-use Rattle.fsfs_final.specs.Nodes.{IsNodePut}
-use Rattle.fsfs_final.specs.Orders.{path_of}
+use Rattle.fsfs_noderev.specs.declared.limits.limit.PathLimit.{PathLimit}
+use Rattle.fsfs_final.specs.Pieces.Naming.{FinalIds, final_entry}
+use Rattle.fsfs_final.specs.Pieces.Nodes.{IsNodePut}
+use Rattle.fsfs_final.specs.Order.Orders.{path_of}
 use Rattle.fsfs_dag.specs.Entries.{ListsEntries}
 
 abbrev pub no_ids : FinalIds

@@ -1,7 +1,7 @@
 -- A draft stays one while later revisions come.
 use Rattle.std.specs.Prelude.{◌≤◌, ℕ}
 use Rattle.fsfs_revision.specs.Told.{RevisionBytes}
-use Rattle.fsfs_revision.specs.Bounded.{AreSameUpTo}
+use Rattle.fsfs_revision.specs.Ancestry.Bounded.{AreSameUpTo}
 use Rattle.fsfs_draft.specs.OwnSides.{NodesAt}
 use Rattle.fsfs_draft.specs.NodeDrafts.{IsDraft}
 

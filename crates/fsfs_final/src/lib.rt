@@ -6,34 +6,26 @@
 //! A draft's own node-revisions put one after another into a new revision, behind its prototype file.
 #![tactic(auto)]
 
-mod children;
-mod ending;
-mod error;
-mod finishing;
 mod laws;
-mod laying_laws;
-mod lists;
-mod naming;
-mod nodes;
-mod offsets;
 mod order;
-mod putting;
-mod putting_laws;
+mod pieces;
+mod write_final;
+mod write_final_laws;
 
-pub use ending::put_end;
-pub use error::OrderError;
 pub use laws::{
     begun_is_a_draft, changes_fit_the_bytes, commits_add_revisions, contents_are_read,
     directories_are_enough, drafts_stay, finals_are_in_order, finishing_is_final,
     held_drafts_are_committed, held_drafts_are_read, pieces_are_read, the_next_revision_is_shown,
     what_is_laid_is_held, written_drafts_keep_ids, written_drafts_show_the_landing,
 };
-pub use laying_laws::{
+pub use order::error::OrderError;
+pub use order::nodes::own_nodes;
+pub use pieces::ending::put_end;
+pub use pieces::laws::{
     draft_texts_stand_before, put_ends_are_read, put_lists_are_framed, put_nodes_are_laid,
 };
-pub use lists::put_list;
-pub use naming::{final_entries, name_final};
-pub use nodes::put_node;
-pub use order::own_nodes;
-pub use putting::put_all;
-pub use putting_laws::puts_lay;
+pub use pieces::lists::put_list;
+pub use pieces::naming::{final_entries, name_final};
+pub use pieces::nodes::put_node;
+pub use write_final::put_all;
+pub use write_final_laws::puts_lay;

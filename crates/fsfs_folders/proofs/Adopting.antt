@@ -6,10 +6,10 @@ use Rattle.std.specs.Prelude.{◌≤◌, ◌^◌, ◌==◌, ◌&&◌, ◌||◌, 
 use Rattle.std.specs.FinMap.{get}
 use Rattle.fsfs_disk.specs.Benches.{bytes_on, IsFirmFile, removed}
 use Rattle.fsfs_disk.specs.Trace.{Trace, Operation, Done, Adopt, Performs, FailsToAdopt, add_operation}
-use Rattle.fsfs_folders.specs.Paths.{has_path, folder_of}
-use Rattle.fsfs_folders.specs.Listing.{is_entry}
-use Rattle.fsfs_folders.specs.CallRecord.{CallRecord, Named, Take, Remove, Contents, add_call, names_now, contents_now, Makes, Takes, MayTake}
-use Rattle.fsfs_folders.specs.Remains.{are_synced}
+use Rattle.fsfs_folders.specs.System.Paths.{has_path, folder_of}
+use Rattle.fsfs_folders.specs.System.Listing.{is_entry}
+use Rattle.fsfs_folders.specs.System.CallRecord.{CallRecord, Named, Take, Remove, Contents, add_call, names_now, contents_now, Makes, Takes, MayTake}
+use Rattle.fsfs_folders.specs.System.Remains.{are_synced}
 use Rattle.fsfs_folders.specs.Told.{is_apart, trace_of, operations_of, files_of, labels_of}
 use Rattle.fsfs_folders.specs.Keeping.{keeps, are_names_firm, are_folders_firm, is_place, is_whole, is_sound}
 use Rattle.fsfs_folders.specs.BenchFiles.{file_held, bytes_of, files_held, bench_told, firm_part, firm_held, AreShort, Sets, SetsAny}

@@ -6,8 +6,8 @@ use Rattle.std.proofs.lemmas.List.{length-append}
 use Rattle.std.specs.Prelude.{◌-◌, ◌||◌, ◌==◌, length, take, drop, codes, nat_eq}
 use Rattle.std.specs.List.{starts_with, ends_with}
 use Rattle.std.specs.Cmp.Lexicographic.{pointwise}
-use Rattle.fsfs_folders.specs.Paths.{is_below}
-use Rattle.fsfs_folders.specs.CallRecord.{is_reachable}
+use Rattle.fsfs_folders.specs.System.Paths.{is_below}
+use Rattle.fsfs_folders.specs.System.CallRecord.{is_reachable}
 use Rattle.fsfs_folders.proofs.PathLemmas.{or_right}
 use Rattle.fsfs_folders.proofs.NameLemmas.{reachable_still}
 use Rattle.fsfs_folders.specs.Told.{is_beside, is_in_bench, is_apart}

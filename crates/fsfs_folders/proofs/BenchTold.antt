@@ -7,8 +7,8 @@ use Rattle.fsfs_base.specs.Files.{Files, same_text}
 use Rattle.fsfs_base.proofs.FileLemmas.{same_files}
 use Rattle.fsfs_disk.specs.Benches.{with_file, appended, written, removed, bytes_in, bytes_on, Spoils}
 use Rattle.fsfs_disk.specs.Trace.{IsThere}
-use Rattle.fsfs_folders.specs.Listing.{is_entry}
-use Rattle.fsfs_folders.specs.CallRecord.{CallRecord, Contents, no_contents, more_bytes, made_firm, made_lost, names_now, contents_now}
+use Rattle.fsfs_folders.specs.System.Listing.{is_entry}
+use Rattle.fsfs_folders.specs.System.CallRecord.{CallRecord, Contents, no_contents, more_bytes, made_firm, made_lost, names_now, contents_now}
 use Rattle.fsfs_folders.proofs.PathLemmas.{same_itself}
 use Rattle.fsfs_folders.specs.SameText.{text_cases}
 use Rattle.fsfs_folders.specs.BenchFiles.{file_held, file_or_new, bytes_of, files_held, bench_told, firm_part, firm_held, Follows, Sets, SetsAny, AreShort, AreKept}

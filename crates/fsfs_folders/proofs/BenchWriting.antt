@@ -4,8 +4,8 @@ use Rattle.std.proofs.lemmas.Bool.{eq-eqb}
 use Rattle.std.proofs.lemmas.List.{length-append}
 use Rattle.std.proofs.lemmas.Option.{same_Some, none-some}
 use Rattle.std.specs.Prelude.{◌≤◌, ◌^◌, length, is_some, Option, Some, None, option_map, unwrap_or, IfSome, Result, Ok, Err, IfOk, OnOk, OnErr}
-use Rattle.fsfs_folders.specs.Listing.{is_entry}
-use Rattle.fsfs_folders.specs.CallRecord.{CallRecord, Named, Create, Remove, SyncFile, FailSync, Does, made_firm, made_lost, Contents, Standing, no_contents, more_bytes, add_call, names_now, contents_now, new_number, Makes, MayMake}
+use Rattle.fsfs_folders.specs.System.Listing.{is_entry}
+use Rattle.fsfs_folders.specs.System.CallRecord.{CallRecord, Named, Create, Remove, SyncFile, FailSync, Does, made_firm, made_lost, Contents, Standing, no_contents, more_bytes, add_call, names_now, contents_now, new_number, Makes, MayMake}
 use Rattle.fsfs_folders.proofs.NameLemmas.{given_at}
 use Rattle.fsfs_folders.specs.Writing.{Writes, WritesSome}
 use Rattle.fsfs_folders.specs.BenchFiles.{file_held, file_or_new, Follows, Sets, SetsAny, Opens}

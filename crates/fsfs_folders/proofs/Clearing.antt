@@ -6,9 +6,9 @@ use Rattle.std.specs.Prelude.{◌≤◌, ◌^◌, ◌==◌, nat_le, length, if�
 use Rattle.std.specs.FinMap.{empty, get-empty}
 use Rattle.fsfs_base.specs.Files.{Files, NamedFile, same_text}
 use Rattle.fsfs_base.proofs.FileLemmas.{same_files}
-use Rattle.fsfs_folders.specs.Paths.{has_path}
-use Rattle.fsfs_folders.specs.Listing.{is_entry, has_file, IsListOf}
-use Rattle.fsfs_folders.specs.CallRecord.{CallRecord, Contents, Begins, are_short, first_bytes, names_now}
+use Rattle.fsfs_folders.specs.System.Paths.{has_path}
+use Rattle.fsfs_folders.specs.System.Listing.{is_entry, has_file, IsListOf}
+use Rattle.fsfs_folders.specs.System.CallRecord.{CallRecord, Contents, Begins, are_short, first_bytes, names_now}
 use Rattle.fsfs_folders.specs.SameText.{text_cases}
 use Rattle.fsfs_folders.specs.BenchFiles.{file_held, bytes_of, files_held, bench_told, Sets, Clears, HoldsNothing, AreShort, AreKept}
 use Rattle.fsfs_folders.specs.Standing.{told}

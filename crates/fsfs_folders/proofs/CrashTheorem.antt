@@ -6,9 +6,9 @@ use Rattle.std.specs.Prelude.{length, Option, Some, None, option_map, IfSome}
 use Rattle.std.specs.FinMap.{get}
 use Rattle.fsfs_base.specs.Files.{Files}
 use Rattle.fsfs_disk.specs.Trace.{Operation, Done, Put, Rename, Remove, IsImage, files_now}
-use Rattle.fsfs_folders.specs.CallRecord as system
-use Rattle.fsfs_folders.specs.CallRecord.{Call, Named, MakeFolder, DropFolder, Create, Take, Append, SyncFile, FailSync, SyncFolder, Firmed, Beginning, CallRecord, Standing, contents_now, names_now, file_count}
-use Rattle.fsfs_folders.specs.Remains.{AreNamesLeft, AreBytesLeft, IsLeft}
+use Rattle.fsfs_folders.specs.System.CallRecord as system
+use Rattle.fsfs_folders.specs.System.CallRecord.{Call, Named, MakeFolder, DropFolder, Create, Take, Append, SyncFile, FailSync, SyncFolder, Firmed, Beginning, CallRecord, Standing, contents_now, names_now, file_count}
+use Rattle.fsfs_folders.specs.System.Remains.{AreNamesLeft, AreBytesLeft, IsLeft}
 use Rattle.fsfs_folders.proofs.NameLemmas.{given_apart}
 use Rattle.fsfs_folders.proofs.LeftLemmas.{now_is_left, number_within}
 use Rattle.fsfs_folders.specs.Told.{is_apart, shown, AreShown, bytes_after, bytes_at, operations_of, trace_of, ShowsFiles, LeavesImages}

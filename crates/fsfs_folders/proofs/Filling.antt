@@ -4,7 +4,7 @@ use Rattle.std.proofs.Math.Seq.{take-add}
 use Rattle.std.proofs.lemmas.List.{drop-drop, drop_at, length-drop, length-take, take_all, take_at, append-nil, append_assoc}
 use Rattle.std.specs.Prelude.{◌≤◌, Option, Some, None, IfSome}
 use borrow.Rule.Slice.PartMut.{put_mid}
-use Rattle.fsfs_folders.specs.CallRecord.{CallRecord, contents_now}
+use Rattle.fsfs_folders.specs.System.CallRecord.{CallRecord, contents_now}
 
 none_left : (xs : List ℕ) → length xs ≡ 0 → xs ≡ []
 none_left [] e = refl

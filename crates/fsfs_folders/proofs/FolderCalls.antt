@@ -3,8 +3,8 @@ use Rattle.std.proofs.Common.{◌≡◌, ◌⊎◌, ℕ, List, [], Bool, true, f
 use Rattle.std.specs.Prelude.{length, Option, Some, None, option_map, IfSome, Result, Ok, Err, OnOk, OnErr}
 use Rattle.fsfs_disk.specs.Labels.{Label, has_label}
 use Rattle.fsfs_disk.specs.Trace.{Trace, KeepLabel, DropLabel, Performs, PerformsIfThere, file_at, labels_now}
-use Rattle.fsfs_folders.specs.Paths.{has_path, folder_of}
-use Rattle.fsfs_folders.specs.CallRecord.{CallRecord, NameCall, MakeFolder, DropFolder, SyncFolder, Makes, MayMake, Does, names_now}
+use Rattle.fsfs_folders.specs.System.Paths.{has_path, folder_of}
+use Rattle.fsfs_folders.specs.System.CallRecord.{CallRecord, NameCall, MakeFolder, DropFolder, SyncFolder, Makes, MayMake, Does, names_now}
 use Rattle.fsfs_folders.specs.LabelPaths.{bench_folder, IsFitting}
 use Rattle.fsfs_folders.specs.Told.{is_apart, is_in_bench, shown, trace_of, bytes_after}
 use Rattle.fsfs_folders.specs.Keeping.{are_names_firm, is_sound}

@@ -7,9 +7,9 @@ use Rattle.fsfs_disk.specs.Labels.{Label}
 use Rattle.fsfs_base.specs.Files.{Files, NamedFile}
 use Rattle.fsfs_base.proofs.FileLemmas.{same_files}
 use Rattle.fsfs_disk.specs.Trace.{NameChange, Operation, Done, FirmNames, KeepLabel, DropLabel, IsImage, files_after}
-use Rattle.fsfs_folders.specs.CallRecord.{Call, Append, SyncFile, FailSync, SyncFolder, Firmed, Beginning, Standing, Contents, is_reachable, names_after, contents_after, more_bytes, made_firm, made_lost, first_names, first_number}
-use Rattle.fsfs_folders.specs.Paths.{has_path}
-use Rattle.fsfs_folders.specs.Remains.{AreNamesLeft}
+use Rattle.fsfs_folders.specs.System.CallRecord.{Call, Append, SyncFile, FailSync, SyncFolder, Firmed, Beginning, Standing, Contents, is_reachable, names_after, contents_after, more_bytes, made_firm, made_lost, first_names, first_number}
+use Rattle.fsfs_folders.specs.System.Paths.{has_path}
+use Rattle.fsfs_folders.specs.System.Remains.{AreNamesLeft}
 use Rattle.fsfs_folders.specs.SameText.{text_cases}
 use Rattle.fsfs_folders.proofs.LeftLemmas.{left_before_sync, files_are_now}
 use Rattle.fsfs_folders.specs.Told.{is_apart, is_in_bench, shown, AreShown, bytes_after, files_of, on_label}

@@ -6,10 +6,10 @@ use Rattle.std.specs.Prelude.{◌||◌, length, Option, Some, None, option_map, 
 use Rattle.std.specs.FinMap.{get, get-empty}
 use Rattle.fsfs_base.proofs.FileLemmas.{same_files}
 use Rattle.fsfs_base.specs.Files.{same_text}
-use Rattle.fsfs_folders.specs.Paths.{has_path}
-use Rattle.fsfs_folders.specs.Listing.{is_entry}
-use Rattle.fsfs_folders.specs.Named.{named_paths}
-use Rattle.fsfs_folders.specs.CallRecord.{CallRecord, Call, Named, Create, Remove, SyncFile, FailSync, Append, Contents, Standing, no_contents, more_bytes, made_firm, made_lost, given, add_call, names_now, contents_now, new_number, Makes, Does}
+use Rattle.fsfs_folders.specs.System.Paths.{has_path}
+use Rattle.fsfs_folders.specs.System.Listing.{is_entry}
+use Rattle.fsfs_folders.specs.System.Named.{named_paths}
+use Rattle.fsfs_folders.specs.System.CallRecord.{CallRecord, Call, Named, Create, Remove, SyncFile, FailSync, Append, Contents, Standing, no_contents, more_bytes, made_firm, made_lost, given, add_call, names_now, contents_now, new_number, Makes, Does}
 use Rattle.fsfs_folders.specs.SameText.{text_cases}
 use Rattle.fsfs_folders.proofs.NameLemmas.{given_at, given_apart}
 use Rattle.fsfs_folders.proofs.NamedLemmas.{file_is_named}

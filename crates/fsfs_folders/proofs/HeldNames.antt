@@ -6,9 +6,9 @@ use Rattle.std.specs.Cmp.Lexicographic.{nat_list_cmp_total}
 use Rattle.std.specs.FinMap.{get, insert, remove, get-insert, get-remove}
 use Rattle.fsfs_base.specs.Files.{Files, renamed, same_text}
 use Rattle.fsfs_disk.specs.Trace.{Operation, Done, Put, Rename, Remove, files_after}
-use Rattle.fsfs_folders.specs.CallRecord as system
-use Rattle.fsfs_folders.specs.CallRecord.{Call, Named, MakeFolder, Create, Beginning, Standing, Contents, is_reachable, given, names_after, contents_after, no_contents, file_count}
-use Rattle.fsfs_folders.specs.Remains.{AreNamesLeft}
+use Rattle.fsfs_folders.specs.System.CallRecord as system
+use Rattle.fsfs_folders.specs.System.CallRecord.{Call, Named, MakeFolder, Create, Beginning, Standing, Contents, is_reachable, given, names_after, contents_after, no_contents, file_count}
+use Rattle.fsfs_folders.specs.System.Remains.{AreNamesLeft}
 use Rattle.fsfs_folders.proofs.NameLemmas.{given_apart, comes_from, reachable_with}
 use Rattle.fsfs_folders.proofs.LeftLemmas.{now_is_left, number_within, folder_is_now}
 use Rattle.fsfs_folders.specs.Told.{is_apart, is_in_bench, shown, bytes_after, bytes_at, files_of}

@@ -5,10 +5,10 @@ use Rattle.std.specs.Prelude.{◌||◌, ◌&&◌, not, is_some, length, Option, 
 use Rattle.std.specs.Cmp.Lexicographic.{nat_list_cmp_total}
 use Rattle.std.specs.FinMap.{get, get-insert}
 use Rattle.fsfs_disk.specs.Trace.{Operation, Done, Adopt, files_after}
-use Rattle.fsfs_folders.specs.Paths.{has_path, is_below}
-use Rattle.fsfs_folders.specs.CallRecord.{Call, Named, DropFolder, Take, Beginning, Standing, Contents, is_reachable, given, names_after, contents_after, file_count}
-use Rattle.fsfs_folders.specs.Named.{named_paths}
-use Rattle.fsfs_folders.specs.Remains.{AreNamesLeft}
+use Rattle.fsfs_folders.specs.System.Paths.{has_path, is_below}
+use Rattle.fsfs_folders.specs.System.CallRecord.{Call, Named, DropFolder, Take, Beginning, Standing, Contents, is_reachable, given, names_after, contents_after, file_count}
+use Rattle.fsfs_folders.specs.System.Named.{named_paths}
+use Rattle.fsfs_folders.specs.System.Remains.{AreNamesLeft}
 use Rattle.fsfs_folders.specs.SameText.{text_cases}
 use Rattle.fsfs_folders.proofs.NameLemmas.{comes_from, reachable_without}
 use Rattle.fsfs_folders.proofs.NamedLemmas.{file_is_named}

@@ -6,9 +6,9 @@ use Rattle.std.specs.Prelude.{◌||◌, ◌&&◌, not, Option, Some, None}
 use Rattle.fsfs_disk.specs.Labels.{Label, same_label, has_label, with_label, without_label}
 use Rattle.fsfs_disk.specs.Trace.{NameChange, Operation, Done, Put, Rename, Remove, KeepLabel, DropLabel, relabelled, labels_after, labels_now}
 use Rattle.fsfs_disk.proofs.LabelLemmas.{same_label-itself, same_label-same, has-append, has-without, has-without_label, has-with_label}
-use Rattle.fsfs_folders.specs.Paths.{has_path}
-use Rattle.fsfs_folders.specs.CallRecord as system
-use Rattle.fsfs_folders.specs.CallRecord.{Call, Named, MakeFolder, DropFolder, Create, Take, Append, SyncFile, FailSync, SyncFolder, Firmed, Beginning, CallRecord, names_after, names_now}
+use Rattle.fsfs_folders.specs.System.Paths.{has_path}
+use Rattle.fsfs_folders.specs.System.CallRecord as system
+use Rattle.fsfs_folders.specs.System.CallRecord.{Call, Named, MakeFolder, DropFolder, Create, Take, Append, SyncFile, FailSync, SyncFolder, Firmed, Beginning, CallRecord, names_after, names_now}
 use Rattle.fsfs_folders.specs.SameText.{text_cases}
 use Rattle.fsfs_folders.specs.LabelPaths.{bench_folder, label_at}
 use Rattle.fsfs_folders.specs.Told.{is_apart, with_folder, labels_of, on_label, bytes_at, operations_of, trace_of}

@@ -4,10 +4,10 @@ use Rattle.std.proofs.lemmas.Bool.{and_from, or_cases, not_from_false}
 use Rattle.std.specs.Prelude.{◌||◌, ◌&&◌, not, is_some, Option, Some, None, option_map, IfSome, Result, Ok, Err, IfOk}
 use Rattle.fsfs_disk.specs.Labels.{Label, Txn, Pack, HotCopy, has_label}
 use Rattle.fsfs_disk.specs.Trace.{Trace, Operation, Done, NameChange, KeepLabel, DropLabel, Performs, labels_now}
-use Rattle.fsfs_folders.specs.Paths.{has_path, folder_of, is_below}
-use Rattle.fsfs_folders.specs.Named.{named_paths}
-use Rattle.fsfs_folders.specs.CallRecord.{CallRecord, Named, MakeFolder, DropFolder, SyncFolder, Standing, IsEmptyAt, add_call, Makes, MayMake, Does, names_now}
-use Rattle.fsfs_folders.specs.Remains.{of_names, of_folders, are_synced}
+use Rattle.fsfs_folders.specs.System.Paths.{has_path, folder_of, is_below}
+use Rattle.fsfs_folders.specs.System.Named.{named_paths}
+use Rattle.fsfs_folders.specs.System.CallRecord.{CallRecord, Named, MakeFolder, DropFolder, SyncFolder, Standing, IsEmptyAt, add_call, Makes, MayMake, Does, names_now}
+use Rattle.fsfs_folders.specs.System.Remains.{of_names, of_folders, are_synced}
 use Rattle.fsfs_folders.specs.LabelPaths.{bench_folder, label_at, IsFitting}
 use Rattle.fsfs_folders.specs.Told.{is_in_bench, trace_of, operations_of, files_of, labels_of, on_label}
 use Rattle.fsfs_folders.specs.Keeping.{keeps, may_call, are_names_firm, are_folders_firm, are_none_below, is_dropping, is_sound}

@@ -4,13 +4,13 @@ use Rattle.std.proofs.lemmas.Option.{same_Some, none-some}
 use Rattle.std.proofs.lemmas.List.{length-append, take_at}
 use Rattle.std.specs.Prelude.{◌≤◌, ◌<◌, ◌-◌, ◌^◌, length, take, drop, codes, Option, Some, None}
 use Rattle.std.specs.Fmt.{decimal}
-use Rattle.fsfs_base.specs.Base36.{base36}
-use Rattle.fsfs_base.specs.Numeral.{numeral_at}
+use Rattle.fsfs_base.specs.Grammar.Base36.{base36}
+use Rattle.fsfs_base.specs.Grammar.Numeral.{numeral_at}
 use Rattle.fsfs_base.proofs.Numerals.{numeral_again}
 use Rattle.fsfs_base.proofs.Unique.{decimal_plain}
 use Rattle.fsfs_base.proofs.Base36Texts.{base36_numeral}
-use Rattle.fsfs_base.specs.RevNums.{last_rev}
-use Rattle.fsfs_base.specs.TxnNames.{txn_text, txn_name_at}
+use Rattle.fsfs_base.specs.Fields.RevNums.{last_rev}
+use Rattle.fsfs_base.specs.Fields.TxnNames.{txn_text, txn_name_at}
 use Rattle.fsfs_base.specs.Files.{same_text}
 use Rattle.fsfs_base.proofs.TxnNameTexts.{txn_name_spells}
 use Rattle.fsfs_disk.specs.Labels.{Label, Txn, Pack, HotCopy}

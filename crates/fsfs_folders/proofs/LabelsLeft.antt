@@ -2,9 +2,9 @@
 use Rattle.std.proofs.Common.{◌≡◌, ◌⊎◌, ℕ, List, [], ◌∷◌, Bool, true, false, ⊎_elim, refl, sym, ap, subst, ◌∙◌}
 use Rattle.std.proofs.lemmas.Bool.{and_from, and_parts, or_cases, not_from_false}
 use Rattle.std.specs.Prelude.{◌||◌, ◌&&◌, not, option_map, Option, Some, None, IfSome}
-use Rattle.fsfs_folders.specs.Paths.{has_path, folder_of}
-use Rattle.fsfs_folders.specs.CallRecord.{NameCall, MakeFolder, DropFolder, Create, Take, Rename, Remove, Call, Named, Append, SyncFile, FailSync, SyncFolder, Firmed, Beginning, CallRecord, Standing, renamed_by, names_after, file_count, add_call, Makes, Does}
-use Rattle.fsfs_folders.specs.Remains.{AreNamesLeft, are_firm, are_synced, folders_of}
+use Rattle.fsfs_folders.specs.System.Paths.{has_path, folder_of}
+use Rattle.fsfs_folders.specs.System.CallRecord.{NameCall, MakeFolder, DropFolder, Create, Take, Rename, Remove, Call, Named, Append, SyncFile, FailSync, SyncFolder, Firmed, Beginning, CallRecord, Standing, renamed_by, names_after, file_count, add_call, Makes, Does}
+use Rattle.fsfs_folders.specs.System.Remains.{AreNamesLeft, are_firm, are_synced, folders_of}
 use Rattle.fsfs_folders.proofs.PathLemmas.{or_right, has_head}
 use Rattle.fsfs_folders.specs.SameText.{text_cases}
 use Rattle.fsfs_folders.proofs.LeftLemmas.{firm_more}

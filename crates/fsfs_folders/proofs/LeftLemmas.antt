@@ -2,9 +2,9 @@
 use Rattle.std.proofs.Common.{◌≡◌, ℕ, List, [], ◌∷◌, Bool, true, false, inl, inr, ⊎_elim, refl, sym, ap, ◌∙◌, arith}
 use Rattle.std.proofs.lemmas.Bool.{and_parts, and_from, or_cases, false_from_ne_true, not-false}
 use Rattle.std.specs.Prelude.{◌<◌, ◌||◌, ◌&&◌, not, Option, Some, None}
-use Rattle.fsfs_folders.specs.Paths.{has_path}
-use Rattle.fsfs_folders.specs.CallRecord.{NameCall, MakeFolder, DropFolder, Create, Take, Rename, Remove, Call, Named, Append, SyncFile, FailSync, SyncFolder, Firmed, Beginning, Standing, given, renamed_by, names_after, file_count}
-use Rattle.fsfs_folders.specs.Remains.{AreNamesLeft, of_names, of_folders, are_firm, AreWithin, are_synced, folders_of}
+use Rattle.fsfs_folders.specs.System.Paths.{has_path}
+use Rattle.fsfs_folders.specs.System.CallRecord.{NameCall, MakeFolder, DropFolder, Create, Take, Rename, Remove, Call, Named, Append, SyncFile, FailSync, SyncFolder, Firmed, Beginning, Standing, given, renamed_by, names_after, file_count}
+use Rattle.fsfs_folders.specs.System.Remains.{AreNamesLeft, of_names, of_folders, are_firm, AreWithin, are_synced, folders_of}
 use Rattle.fsfs_folders.proofs.PathLemmas.{or_right}
 use Rattle.fsfs_folders.specs.SameText.{text_cases}
 use Rattle.fsfs_folders.proofs.NameLemmas.{comes_from, comes_within, count_more, first_within}

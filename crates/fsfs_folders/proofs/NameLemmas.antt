@@ -5,8 +5,8 @@ use Rattle.std.proofs.lemmas.List.{append_assoc}
 use Rattle.std.proofs.lemmas.Option.{same_Some, none-some}
 use Rattle.std.specs.Prelude.{◌<◌, ◌≤◌, ◌++◌, ◌==◌, ◌||◌, ◌&&◌, not, if◌then◌else◌, length, Option, Some, None}
 use Rattle.fsfs_base.specs.Files.{NamedFile, same_text}
-use Rattle.fsfs_folders.specs.Paths.{is_below}
-use Rattle.fsfs_folders.specs.CallRecord.{NameCall, MakeFolder, DropFolder, Create, Take, Rename, Remove, Call, Named, Beginning, Standing, given, first_number, renamed_by, file_count, are_there, is_reachable}
+use Rattle.fsfs_folders.specs.System.Paths.{is_below}
+use Rattle.fsfs_folders.specs.System.CallRecord.{NameCall, MakeFolder, DropFolder, Create, Take, Rename, Remove, Call, Named, Beginning, Standing, given, first_number, renamed_by, file_count, are_there, is_reachable}
 use Rattle.fsfs_folders.proofs.PathLemmas.{same_itself, or_right}
 use Rattle.fsfs_folders.specs.SameText.{text_cases}
 

@@ -2,8 +2,8 @@
 use Rattle.std.proofs.Common.{◌≡◌, ◌⊎◌, ℕ, zero, suc, List, [], ◌∷◌, ◌++◌, Bool, true, false, inl, inr, ⊎_elim, refl, sym, ap, length, get_or, ◌∙◌, arith}
 use Rattle.std.proofs.lemmas.Bool.{or_cases}
 use Rattle.std.specs.Prelude.{◌||◌, ◌<◌}
-use Rattle.fsfs_folders.specs.Paths.{has_path}
-use Rattle.fsfs_folders.specs.Remains.{AreWithin}
+use Rattle.fsfs_folders.specs.System.Paths.{has_path}
+use Rattle.fsfs_folders.specs.System.Remains.{AreWithin}
 use Rattle.fsfs_folders.proofs.PathLemmas.{has_head, has_tail, or_right}
 use Rattle.fsfs_base.specs.Files.{same_text}
 

@@ -3,7 +3,7 @@ use Rattle.std.proofs.Common.{◌≡◌, ◌⊎◌, ℕ, List, [], ◌∷◌, Bo
 use Rattle.std.proofs.lemmas.Option.{same_Some, none-some}
 use Rattle.std.specs.Prelude.{◌<◌, length, Option, Some, None}
 use Rattle.fsfs_base.specs.Files.{NamedFile, same_text}
-use Rattle.fsfs_folders.specs.CallRecord.{MakeFolder, DropFolder, Create, Take, Rename, Remove, Call, Named, Append, SyncFile, FailSync, SyncFolder, Firmed, Beginning, Standing, given, first_number, names_after, file_count}
+use Rattle.fsfs_folders.specs.System.CallRecord.{MakeFolder, DropFolder, Create, Take, Rename, Remove, Call, Named, Append, SyncFile, FailSync, SyncFolder, Firmed, Beginning, Standing, given, first_number, names_after, file_count}
 use Rattle.fsfs_folders.specs.SameText.{text_cases}
 use Rattle.fsfs_folders.proofs.NameLemmas.{given_at, given_from, first_within}
 use Rattle.fsfs_folders.proofs.LeftLemmas.{now_is_left, number_within}

@@ -3,7 +3,7 @@ use Rattle.std.proofs.Common.{◌≡◌, ℕ, List, ◌++◌, Bool, true, false,
 use Rattle.std.proofs.lemmas.Bool.{and_from, and_parts, eqb-true, eq-eqb, not-true, not_from_false}
 use Rattle.std.specs.Prelude.{length, take, drop, not, ◌&&◌, Option, Some, None, option_map, IfSome, IfOk, Result, Ok, Err}
 use Rattle.fsfs_disk.specs.Trace.{IsRead, IsSize, file_at}
-use Rattle.fsfs_folders.specs.CallRecord.{CallRecord, names_now, contents_now}
+use Rattle.fsfs_folders.specs.System.CallRecord.{CallRecord, names_now, contents_now}
 use Rattle.fsfs_folders.specs.Told.{is_apart}
 use Rattle.fsfs_folders.specs.Keeping.{is_sound}
 use Rattle.fsfs_folders.specs.Writing.{IsFilled, bytes_there}

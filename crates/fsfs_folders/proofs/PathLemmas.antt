@@ -13,7 +13,7 @@ use Rattle.std.specs.Cmp.Lexicographic.{slice_cmp, nat_list_cmp_total}
 use Rattle.std.specs.FinMap.{slice_cmp-IsAntisymmetric, nat_cmp-IsAntisymmetric}
 use Rattle.fsfs_base.proofs.FileLemmas.{apart_by}
 use Rattle.fsfs_base.specs.Files.{same_text}
-use Rattle.fsfs_folders.specs.Paths.{has_path, has_slash, before_slash}
+use Rattle.fsfs_folders.specs.System.Paths.{has_path, has_slash, before_slash}
 use Rattle.fsfs_folders.specs.SameText.{text_cases}
 
 pub same_itself : (p : List ℕ) → same_text p p ≡ true

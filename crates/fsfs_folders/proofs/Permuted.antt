@@ -4,8 +4,8 @@ use Rattle.std.proofs.lemmas.Bool.{and_from, and_parts, or_cases, not-true, not_
 use Rattle.std.proofs.lemmas.List.Sorted.{IsPermutation-refl, IsPermutation-cons, IsPermutation-trans}
 use Rattle.std.specs.Prelude.{◌||◌, ◌&&◌, not}
 use Rattle.std.specs.List.Sorted.{IsPermutation}
-use Rattle.fsfs_folders.specs.Paths.{has_path}
-use Rattle.fsfs_folders.specs.Listing.{are_apart}
+use Rattle.fsfs_folders.specs.System.Paths.{has_path}
+use Rattle.fsfs_folders.specs.System.Listing.{are_apart}
 use Rattle.fsfs_folders.proofs.PathLemmas.{has_head, has_tail}
 use Rattle.fsfs_folders.specs.SameText.{text_cases}
 use Rattle.fsfs_base.specs.Files.{same_text}

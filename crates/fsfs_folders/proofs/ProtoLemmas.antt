@@ -9,8 +9,8 @@ use Rattle.fsfs_base.proofs.FileLemmas.{same_files, same_is}
 use Rattle.fsfs_disk.specs.Benches.{with_file, appended, written, removed, bytes_in, bytes_on, Spoils, IsFirmFile}
 use Rattle.fsfs_disk.specs.Trace.{Trace, Adopt, Performs, FailsToAdopt}
 use Rattle.fsfs_disk.proofs.BenchLemmas.{get-appended}
-use Rattle.fsfs_folders.specs.Paths.{has_path}
-use Rattle.fsfs_folders.specs.CallRecord.{CallRecord}
+use Rattle.fsfs_folders.specs.System.Paths.{has_path}
+use Rattle.fsfs_folders.specs.System.CallRecord.{CallRecord}
 use Rattle.fsfs_folders.proofs.PathLemmas.{same_itself}
 use Rattle.fsfs_folders.specs.SameText.{text_cases}
 use Rattle.fsfs_folders.specs.BenchFiles.{file_held, bytes_of, bench_told, firm_held}

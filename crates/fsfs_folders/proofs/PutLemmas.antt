@@ -4,9 +4,9 @@ use Rattle.std.proofs.lemmas.Bool.{and_from, eq-eqb, le-leb, not_from_false}
 use Rattle.std.proofs.lemmas.Option.{none-some}
 use Rattle.std.specs.Prelude.{◌≤◌, ◌^◌, ◌||◌, ◌&&◌, ◌==◌, not, nat_le, length, Option, Some, None, option_map, unwrap_or, IfSome, IsSome, is_some, Result, Ok, Err, OnOk, OnErr}
 use Rattle.fsfs_disk.specs.Trace.{Trace, Operation, Done, Put, NameChange, Rename, Remove, FirmNames, Performs, IsThere, IsSize, file_at, add_operation}
-use Rattle.fsfs_folders.specs.Paths.{has_path, folder_of}
-use Rattle.fsfs_folders.specs.CallRecord as system
-use Rattle.fsfs_folders.specs.CallRecord.{CallRecord, Call, Named, NameCall, Create, SyncFile, FailSync, Firmed, Standing, Contents, add_call, Makes, MayMake, Does, Allows, names_now, names_after, contents_now, contents_after, new_number, no_contents, more_bytes, made_firm, given, is_reachable}
+use Rattle.fsfs_folders.specs.System.Paths.{has_path, folder_of}
+use Rattle.fsfs_folders.specs.System.CallRecord as system
+use Rattle.fsfs_folders.specs.System.CallRecord.{CallRecord, Call, Named, NameCall, Create, SyncFile, FailSync, Firmed, Standing, Contents, add_call, Makes, MayMake, Does, Allows, names_now, names_after, contents_now, contents_after, new_number, no_contents, more_bytes, made_firm, given, is_reachable}
 use Rattle.fsfs_folders.proofs.NameLemmas.{given_at}
 use Rattle.fsfs_folders.proofs.PathLemmas.{or_right}
 use Rattle.fsfs_folders.specs.Told.{is_apart, shown, trace_of, operations_of, files_of, labels_of, bytes_at, bytes_after}

@@ -3,8 +3,8 @@ use Rattle.std.proofs.Common.{◌≡◌, ◌⊎◌, ℕ, List, [], ◌∷◌, �
 use Rattle.std.proofs.lemmas.Bool.{and_from}
 use Rattle.std.proofs.lemmas.Option.{none-some}
 use Rattle.std.specs.Prelude.{Option, Some, None}
-use Rattle.fsfs_folders.specs.CallRecord.{CallRecord, Append, SyncFile, FailSync, SyncFolder, add_call, Does}
-use Rattle.fsfs_folders.specs.Remains.{of_names, of_folders}
+use Rattle.fsfs_folders.specs.System.CallRecord.{CallRecord, Append, SyncFile, FailSync, SyncFolder, add_call, Does}
+use Rattle.fsfs_folders.specs.System.Remains.{of_names, of_folders}
 use Rattle.fsfs_folders.proofs.PathLemmas.{has_tail}
 use Rattle.fsfs_folders.proofs.LeftLemmas.{firm_more}
 use Rattle.fsfs_folders.specs.Told.{is_in_bench}

@@ -6,7 +6,7 @@ use Rattle.std.specs.Cmp.Lexicographic.{nat_list_cmp_total}
 use Rattle.std.specs.FinMap.{get, insert, remove, empty, get-insert, get-remove, get-empty}
 use Rattle.fsfs_base.specs.Files.{Files, NamedFile, same_text}
 use Rattle.fsfs_base.proofs.FileLemmas.{same_files}
-use Rattle.fsfs_folders.specs.CallRecord.{Standing, given, first_number, first_bytes}
+use Rattle.fsfs_folders.specs.System.CallRecord.{Standing, given, first_number, first_bytes}
 use Rattle.fsfs_folders.specs.SameText.{text_cases}
 use Rattle.fsfs_folders.proofs.NameLemmas.{given_apart, first_within}
 use Rattle.fsfs_folders.specs.Told.{is_apart, shown, files_of}

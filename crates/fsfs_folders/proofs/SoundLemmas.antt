@@ -3,10 +3,10 @@ use Rattle.std.proofs.Common.{◌≡◌, ℕ, List, [], ◌∷◌, ◌++◌, Boo
 use Rattle.std.proofs.lemmas.Bool.{and_from, and_parts, or_cases, not-true}
 use Rattle.std.specs.Prelude.{◌||◌, ◌&&◌, not, Option, Some, None, IfSome}
 use Rattle.fsfs_disk.specs.Trace.{Trace, Done, Remove, KeepLabel}
-use Rattle.fsfs_folders.specs.Paths.{has_path, folder_of}
-use Rattle.fsfs_folders.specs.CallRecord as system
-use Rattle.fsfs_folders.specs.CallRecord.{CallRecord, Named, NameCall, MakeFolder, Create, add_call, MayMake, Allows, names_now}
-use Rattle.fsfs_folders.specs.Remains.{of_names, are_synced, folders_of, AreWithin}
+use Rattle.fsfs_folders.specs.System.Paths.{has_path, folder_of}
+use Rattle.fsfs_folders.specs.System.CallRecord as system
+use Rattle.fsfs_folders.specs.System.CallRecord.{CallRecord, Named, NameCall, MakeFolder, Create, add_call, MayMake, Allows, names_now}
+use Rattle.fsfs_folders.specs.System.Remains.{of_names, are_synced, folders_of, AreWithin}
 use Rattle.fsfs_folders.proofs.LeftLemmas.{firm_more, firm_folders}
 use Rattle.fsfs_folders.specs.Told.{is_apart, is_in_bench, operations_of, files_of, labels_of, on_label}
 use Rattle.fsfs_folders.specs.Keeping.{keeps, may_call, are_names_firm, are_folders_firm, is_naming, is_sound}

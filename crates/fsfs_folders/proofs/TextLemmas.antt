@@ -2,8 +2,8 @@
 use Rattle.std.proofs.Common.{◌≡◌, ◌⊎◌, ℕ, zero, suc, List, [], ◌∷◌, Bool, true, false, ⊎_elim, refl, sym, ap, get_or, ◌∙◌, arith}
 use Rattle.std.proofs.lemmas.Bool.{and_parts, not-true, eq-eqb, le-leb}
 use Rattle.std.specs.Prelude.{◌<◌, ◌≤◌, ◌==◌, ◌||◌, ◌&&◌, not, nat_le, length}
-use Rattle.fsfs_folders.specs.Paths.{has_slash}
-use Rattle.fsfs_folders.specs.Listing.{is_entry}
+use Rattle.fsfs_folders.specs.System.Paths.{has_slash}
+use Rattle.fsfs_folders.specs.System.Listing.{is_entry}
 use Rattle.fsfs_folders.proofs.PathLemmas.{or_right, lacks_slash}
 use Rattle.fsfs_folders.specs.Told.{is_in_bench, is_inner_folder}
 use Rattle.fsfs_base.specs.Files.{same_text}

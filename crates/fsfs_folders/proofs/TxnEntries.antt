@@ -10,24 +10,24 @@ use Rattle.std.proofs.lemmas.List.Sorted.{IsPermutation-trans}
 use Rattle.std.specs.Ordering.{nat_cmp}
 use Rattle.std.specs.Cmp.Lexicographic.{slice_cmp}
 use Rattle.std.specs.List.Sorted.{IsSorted, IsPermutation}
-use Rattle.fsfs_base.specs.Base36.{base36}
-use Rattle.fsfs_base.specs.Cuts.{Lacks}
-use Rattle.fsfs_base.specs.Numeral.{IsPlain, numeral_at}
+use Rattle.fsfs_base.specs.Grammar.Base36.{base36}
+use Rattle.fsfs_base.specs.Grammar.Cuts.{Lacks}
+use Rattle.fsfs_base.specs.Grammar.Numeral.{IsPlain, numeral_at}
 use Rattle.fsfs_base.proofs.Base36Texts.{length-last_digits}
 use Rattle.fsfs_base.proofs.CutLemmas.{two_lack}
 use Rattle.fsfs_base.proofs.Spelling.{plain_lacks}
-use Rattle.fsfs_base.specs.RevNums.{IsRev, last_rev}
+use Rattle.fsfs_base.specs.Fields.RevNums.{IsRev, last_rev}
 use Rattle.fsfs_base.proofs.RevNumTexts.{rev_text_lacks}
-use Rattle.fsfs_base.specs.TxnNames.{IsTxnName, txn_text, txn_name_at}
+use Rattle.fsfs_base.specs.Fields.TxnNames.{IsTxnName, txn_text, txn_name_at}
 use Rattle.fsfs_base.specs.Files.{same_text}
 use Rattle.fsfs_base.proofs.TxnNameTexts.{txn_name_spells}
 use Rattle.fsfs_base.proofs.FileLemmas.{same_is}
 use Rattle.fsfs_disk.specs.Labels.{Label, Txn, Pack, HotCopy, same_label, has_label, with_label, without_label, txn_entries, IsListing}
 use Rattle.fsfs_disk.specs.Trace.{labels_after, labels_now}
 use Rattle.fsfs_disk.proofs.LabelLemmas.{same_label-itself, same_label-same, has-without_label, has-without}
-use Rattle.fsfs_folders.specs.Paths.{has_path, has_slash, within}
-use Rattle.fsfs_folders.specs.Listing.{is_entry, are_apart, IsListOf}
-use Rattle.fsfs_folders.specs.CallRecord.{CallRecord, IsEmptyAt, names_now}
+use Rattle.fsfs_folders.specs.System.Paths.{has_path, has_slash, within}
+use Rattle.fsfs_folders.specs.System.Listing.{is_entry, are_apart, IsListOf}
+use Rattle.fsfs_folders.specs.System.CallRecord.{CallRecord, IsEmptyAt, names_now}
 use Rattle.fsfs_folders.proofs.PathLemmas.{has_head, has_tail, or_right}
 use Rattle.fsfs_folders.specs.SameText.{text_cases}
 use Rattle.fsfs_folders.specs.LabelPaths.{bench_folder, between, txns_of, packs_of, first_of, label_at, IsFitting}

@@ -4,7 +4,7 @@ use Rattle.std.proofs.Math.Seq.{take-add}
 use Rattle.std.proofs.lemmas.Bool.{eq-eqb, ne_eqb}
 use Rattle.std.proofs.lemmas.List.{drop-drop, length-drop, length-take, length-append, take_all, append-nil, append_assoc}
 use Rattle.std.specs.Prelude.{◌≤◌, ◌<◌, ◌-◌, nat_eq, Option, Some, None, option_map, Result, Ok, Err, OnErr}
-use Rattle.fsfs_folders.specs.CallRecord.{CallRecord, Append, Contents, Does, add_call, names_now, contents_now, new_number, more_bytes}
+use Rattle.fsfs_folders.specs.System.CallRecord.{CallRecord, Append, Contents, Does, add_call, names_now, contents_now, new_number, more_bytes}
 use Rattle.fsfs_folders.specs.Writing.{joined, with_pieces, Writes, WritesSome}
 
 mapped_itself : (o : Option CallRecord) → option_map (λ r. r) o ≡ o

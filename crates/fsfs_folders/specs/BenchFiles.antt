@@ -3,10 +3,10 @@ use Rattle.std.specs.Prelude.{◌≡◌, ◌⊎◌, ◌≤◌, ◌+◌, ◌^◌,
 use Rattle.std.specs.FinMap.{empty}
 use Rattle.fsfs_base.specs.Files.{Files, same_text}
 use Rattle.fsfs_disk.specs.Benches.{with_file}
-use Rattle.fsfs_folders.specs.Paths.{has_path}
-use Rattle.fsfs_folders.specs.Listing.{is_entry}
-use Rattle.fsfs_folders.specs.Named.{named_paths}
-use Rattle.fsfs_folders.specs.CallRecord.{CallRecord, Contents, no_contents, names_now, contents_now}
+use Rattle.fsfs_folders.specs.System.Paths.{has_path}
+use Rattle.fsfs_folders.specs.System.Listing.{is_entry}
+use Rattle.fsfs_folders.specs.System.Named.{named_paths}
+use Rattle.fsfs_folders.specs.System.CallRecord.{CallRecord, Contents, no_contents, names_now, contents_now}
 
 -- what the file with a name has; none where the name is none of a file right in the folder
 abbrev pub file_held : CallRecord → List ℕ → Option Contents

@@ -1,10 +1,10 @@
 -- What the calls of a disk keep to. So the crash model of disks holds of it, over the crash model of the system.
 use Rattle.std.specs.Prelude.{ℕ, ◌^◌, List, [], ◌∷◌, length, Bool, true, false, not, ◌==◌, nat_le, ◌&&◌, ◌||◌, Option, Some, None, is_some}
 use Rattle.fsfs_base.specs.Files.{NamedFile, same_text}
-use Rattle.fsfs_folders.specs.Paths.{has_path, is_below}
-use Rattle.fsfs_folders.specs.CallRecord.{Beginning, CallRecord, Contents, MakeFolder, DropFolder, Create, Take, Rename, Remove, Call, Named, Append, SyncFile, FailSync, SyncFolder, Firmed, Standing, is_reachable, file_count, names_after, contents_after}
-use Rattle.fsfs_folders.specs.Named.{named_paths}
-use Rattle.fsfs_folders.specs.Remains.{of_names, of_folders, are_firm}
+use Rattle.fsfs_folders.specs.System.Paths.{has_path, is_below}
+use Rattle.fsfs_folders.specs.System.CallRecord.{Beginning, CallRecord, Contents, MakeFolder, DropFolder, Create, Take, Rename, Remove, Call, Named, Append, SyncFile, FailSync, SyncFolder, Firmed, Standing, is_reachable, file_count, names_after, contents_after}
+use Rattle.fsfs_folders.specs.System.Named.{named_paths}
+use Rattle.fsfs_folders.specs.System.Remains.{of_names, of_folders, are_firm}
 use Rattle.fsfs_folders.specs.Told.{is_apart, is_in_bench}
 
 -- no name has changed since this file was made

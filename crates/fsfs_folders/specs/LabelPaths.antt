@@ -1,9 +1,9 @@
 -- The folder of a bench, and the label that a folder is of.
 use Rattle.std.specs.Prelude.{ℕ, ◌≤◌, ◌-◌, List, [], ◌∷◌, ◌++◌, length, take, drop, if◌then◌else◌, Option, Some, None, codes}
 use Rattle.std.specs.Fmt.{decimal}
-use Rattle.fsfs_base.specs.Numeral.{numeral_at}
-use Rattle.fsfs_base.specs.RevNums.{last_rev}
-use Rattle.fsfs_base.specs.TxnNames.{txn_text, txn_name_at}
+use Rattle.fsfs_base.specs.Grammar.Numeral.{numeral_at}
+use Rattle.fsfs_base.specs.Fields.RevNums.{last_rev}
+use Rattle.fsfs_base.specs.Fields.TxnNames.{txn_text, txn_name_at}
 use Rattle.fsfs_base.specs.Files.{same_text}
 use Rattle.fsfs_disk.specs.Labels.{Label, Txn, Pack, HotCopy}
 

@@ -2,8 +2,8 @@
 use Rattle.std.specs.Prelude.{◌≡◌, List, [], Bool, true, false, Option, IfSome}
 use Rattle.fsfs_disk.specs.Labels.{Label, has_label}
 use Rattle.fsfs_disk.specs.Trace.{labels_now}
-use Rattle.fsfs_folders.specs.CallRecord.{NameCall, MakeFolder, DropFolder, Create, Take, Rename, Remove, Call, CallRecord, Standing}
-use Rattle.fsfs_folders.specs.Remains.{AreNamesLeft, are_firm}
+use Rattle.fsfs_folders.specs.System.CallRecord.{NameCall, MakeFolder, DropFolder, Create, Take, Rename, Remove, Call, CallRecord, Standing}
+use Rattle.fsfs_folders.specs.System.Remains.{AreNamesLeft, are_firm}
 use Rattle.fsfs_folders.specs.LabelPaths.{bench_folder, IsFitting}
 use Rattle.fsfs_folders.specs.Told.{is_in_bench, trace_of}
 

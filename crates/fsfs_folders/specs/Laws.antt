@@ -12,10 +12,10 @@ use Rattle.fsfs_disk.specs.Short.{IsShortChange}
 use Rattle.fsfs_disk.specs.Crash.{AllImages}
 use Rattle.fsfs_disk.specs.Trace.{NameChange, Operation, Done, Put, Adopt, Rename, Remove, FirmNames, KeepLabel, DropLabel, IsImage, files_after}
 use Rattle.fsfs_disk.proofs.ShortLemmas.{short_empty, short_insert, short_changed, short_image}
-use Rattle.fsfs_folders.specs.Paths.{has_path}
-use Rattle.fsfs_folders.specs.Named.{named_paths}
-use Rattle.fsfs_folders.specs.CallRecord as system
-use Rattle.fsfs_folders.specs.CallRecord.{Call, Named, MakeFolder, DropFolder, Create, Take, Append, SyncFile, FailSync, SyncFolder, Firmed, Beginning, CallRecord, Contents, Standing, is_reachable, names_after, contents_after}
+use Rattle.fsfs_folders.specs.System.Paths.{has_path}
+use Rattle.fsfs_folders.specs.System.Named.{named_paths}
+use Rattle.fsfs_folders.specs.System.CallRecord as system
+use Rattle.fsfs_folders.specs.System.CallRecord.{Call, Named, MakeFolder, DropFolder, Create, Take, Append, SyncFile, FailSync, SyncFolder, Firmed, Beginning, CallRecord, Contents, Standing, is_reachable, names_after, contents_after}
 use Rattle.fsfs_folders.specs.SameText.{text_cases}
 use Rattle.fsfs_folders.specs.LabelPaths.{label_at}
 use Rattle.fsfs_folders.specs.Told.{is_apart, files_of, on_label, bytes_at, bytes_after, operations_of}

@@ -1,9 +1,5 @@
-pub mod Paths
+pub mod System
 pub mod SameText
-pub mod CallRecord
-pub mod Listing
-pub mod Named
-pub mod Remains
 pub mod LabelPaths
 pub mod TxnEntries
 pub mod Told

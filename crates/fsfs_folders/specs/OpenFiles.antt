@@ -1,6 +1,6 @@
 -- What is known of a file of the repository that is open.
 use Rattle.std.specs.Prelude.{ℕ, List, Bool, true, false, not, ◌==◌, ◌&&◌, Option, Some, None}
-use Rattle.fsfs_folders.specs.CallRecord.{CallRecord, names_now}
+use Rattle.fsfs_folders.specs.System.CallRecord.{CallRecord, names_now}
 use Rattle.fsfs_folders.specs.Told.{is_apart}
 
 abbrev pub is_number : ℕ → Option ℕ → Bool

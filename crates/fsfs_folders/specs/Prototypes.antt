@@ -5,7 +5,7 @@ use Rattle.std.specs.FinMap.{get}
 use Rattle.fsfs_base.specs.Files.{Files, same_text}
 use Rattle.fsfs_disk.specs.Benches.{with_file, HasShortFiles}
 use Rattle.fsfs_disk.proofs.ShortLemmas.{short_insert, short_remove}
-use Rattle.fsfs_folders.specs.CallRecord.{CallRecord}
+use Rattle.fsfs_folders.specs.System.CallRecord.{CallRecord}
 use Rattle.fsfs_folders.specs.BenchFiles.{bench_told, firm_held}
 
 -- its name in the bench

@@ -1,6 +1,6 @@
 -- Calls that change nothing of the repository.
 use Rattle.std.specs.Prelude.{◌≡◌, ℕ, List, ◌++◌, true, Option, Some, None}
-use Rattle.fsfs_folders.specs.CallRecord.{CallRecord, Create, MayMake, names_now}
+use Rattle.fsfs_folders.specs.System.CallRecord.{CallRecord, Create, MayMake, names_now}
 use Rattle.fsfs_folders.specs.Told.{trace_of}
 use Rattle.fsfs_folders.specs.Keeping.{keeps, is_newest, are_names_firm, are_folders_firm}
 

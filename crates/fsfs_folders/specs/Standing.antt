@@ -2,9 +2,9 @@
 use Rattle.std.specs.Prelude.{◌≡◌, ◌⊎◌, ℕ, List, [], length, true, Option, Some, None, option_map}
 use Rattle.fsfs_disk.specs.Benches.{bytes_on}
 use Rattle.fsfs_disk.specs.Trace.{Trace, Adopt, Performs}
-use Rattle.fsfs_folders.specs.Paths.{has_path, folder_of}
-use Rattle.fsfs_folders.specs.CallRecord.{CallRecord, names_now, contents_now}
-use Rattle.fsfs_folders.specs.Remains.{AreWithin}
+use Rattle.fsfs_folders.specs.System.Paths.{has_path, folder_of}
+use Rattle.fsfs_folders.specs.System.CallRecord.{CallRecord, names_now, contents_now}
+use Rattle.fsfs_folders.specs.System.Remains.{AreWithin}
 use Rattle.fsfs_folders.specs.Told.{trace_of, bytes_at}
 use Rattle.fsfs_folders.specs.Keeping.{is_whole}
 use Rattle.fsfs_folders.specs.BenchFiles.{bench_told, Sets}

@@ -6,9 +6,9 @@ use Rattle.std.specs.FinMap.{get, insert, empty}
 use Rattle.fsfs_base.specs.Files.{Files, NamedFile, same_text}
 use Rattle.fsfs_disk.specs.Labels.{Label, with_label}
 use Rattle.fsfs_disk.specs.Trace.{NameChange, Operation, Done, Trace, Put, Adopt, Rename, Remove, FirmNames, KeepLabel, DropLabel, IsImage}
-use Rattle.fsfs_folders.specs.CallRecord as system
-use Rattle.fsfs_folders.specs.Remains.{IsLeft}
-use Rattle.fsfs_folders.specs.CallRecord.{Beginning, CallRecord, Call, Named, Firmed, Standing, is_reachable, names_after, contents_after}
+use Rattle.fsfs_folders.specs.System.CallRecord as system
+use Rattle.fsfs_folders.specs.System.Remains.{IsLeft}
+use Rattle.fsfs_folders.specs.System.CallRecord.{Beginning, CallRecord, Call, Named, Firmed, Standing, is_reachable, names_after, contents_after}
 use Rattle.fsfs_folders.specs.LabelPaths.{label_at}
 
 -- a file is written under such a name first

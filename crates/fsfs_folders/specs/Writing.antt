@@ -1,6 +1,6 @@
 -- How a file is written and read, piece by piece.
 use Rattle.std.specs.Prelude.{◌≡◌, ◌≤◌, ℕ, ◌-◌, min, List, [], ◌∷◌, ◌++◌, length, take, drop, Option, option_map}
-use Rattle.fsfs_folders.specs.CallRecord.{CallRecord, Append, add_call, names_now, contents_now}
+use Rattle.fsfs_folders.specs.System.CallRecord.{CallRecord, Append, add_call, names_now, contents_now}
 
 -- pieces as they were written, the last in front
 abbrev pub joined : List (List ℕ) → List ℕ

@@ -3,28 +3,22 @@
 //! and what a crash may leave of the system shows one of the images that are told.
 #![tactic(auto)]
 
-mod bench;
-mod bench_files;
-mod calls;
-mod error;
+mod benches;
 mod folders;
-mod label_paths;
 mod law;
 mod listing;
-mod mode;
 mod noted;
 mod opened;
-mod part;
-mod path;
 mod reading;
+mod system;
 mod texts;
 mod writing;
 
-pub use bench::{FolderBench, PROTO};
-pub use calls::{Calls, OpenFile};
-pub use error::CallError;
+pub use benches::bench::{FolderBench, PROTO};
 pub use folders::Folders;
 pub use law::{leaves_images, leaves_labels};
-pub use mode::{Mode, Modes};
 pub use opened::Opened;
-pub use path::Path;
+pub use system::calls::{Calls, OpenFile};
+pub use system::error::CallError;
+pub use system::mode::{Mode, Modes};
+pub use system::path::Path;

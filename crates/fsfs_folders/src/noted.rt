@@ -1,7 +1,7 @@
 // Folders whose names may not be firm.
 ghost use Rattle.std.specs.Prelude.{◌≡◌, [], true, OnOk};
-ghost use Rattle.fsfs_folders.specs.Paths.{has_path};
-ghost use Rattle.fsfs_folders.specs.Remains.{AreWithin};
+ghost use Rattle.fsfs_folders.specs.System.Paths.{has_path};
+ghost use Rattle.fsfs_folders.specs.System.Remains.{AreWithin};
 
 use crate::Path;
 use std::alloc::{AllocError, Global};

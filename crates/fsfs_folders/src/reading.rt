@@ -1,6 +1,6 @@
 // Reads that go on until the buffer is full.
 ghost use Rattle.std.specs.Prelude.{◌≡◌, ◌≤◌, Some, None, length, IfOk, IfSome, MatchOption};
-ghost use Rattle.fsfs_folders.specs.CallRecord.{names_now, contents_now};
+ghost use Rattle.fsfs_folders.specs.System.CallRecord.{names_now, contents_now};
 ghost use Rattle.fsfs_folders.specs.Writing.{IsFilled, bytes_there};
 ghost use Rattle.fsfs_disk.specs.Trace.{IsRead, IsSize};
 

@@ -1,7 +1,7 @@
 // Tests of paths' texts.
 ghost use Rattle.std.specs.Prelude.{◌≡◌, nat_eq};
 ghost use Rattle.std.specs.List.{starts_with, ends_with};
-ghost use Rattle.fsfs_folders.specs.Paths.{has_slash as slash};
+ghost use Rattle.fsfs_folders.specs.System.Paths.{has_slash as slash};
 ghost use Rattle.fsfs_folders.specs.Told.{is_apart as apart, is_in_bench as in_bench, is_inner_folder as inner};
 
 use fsfs_base::Name;

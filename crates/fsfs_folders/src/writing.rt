@@ -1,6 +1,6 @@
 // Calls on files and folders, made as often as it takes.
 ghost use Rattle.std.specs.Prelude.{◌≡◌, length, Some, None, IfOk, IfSome, IsErrOf, OnOk, OnErr};
-ghost use Rattle.fsfs_folders.specs.CallRecord.{names_now};
+ghost use Rattle.fsfs_folders.specs.System.CallRecord.{names_now};
 ghost use Rattle.fsfs_folders.specs.Quiet.{IsQuiet, IsSynced, MakesQuietly};
 ghost use Rattle.fsfs_folders.specs.Writing.{Writes, WritesSome};
 ghost use Rattle.fsfs_folders.specs.Standing.{IsWritten};

@@ -10,12 +10,12 @@ use Rattle.fsfs_base.specs.declared.kind.Kind.TheVariants.{Dir}
 use Rattle.fsfs_revision.specs.Told.{RevisionBytes}
 use Rattle.fsfs_noderev.specs.declared.node_rev.NodeRev.{NodeRev}
 use Rattle.fsfs_revision.specs.declared.wrong.Wrong.{Wrong}
-use Rattle.fsfs_revision.specs.ShowsReading.{DirEntry as EntryValue, EntriesOf, OfEntry, OfNamed, ChildOf, named, Met, Stands, Lacking, InDirectory, MetFrom, MetAt, StandsAt}
+use Rattle.fsfs_revision.specs.Shows.Reading.{DirEntry as EntryValue, EntriesOf, OfEntry, OfNamed, ChildOf, named, Met, Stands, Lacking, InDirectory, MetFrom, MetAt, StandsAt}
 use Rattle.fsfs_revision.proofs.Walks.{met_behind, in_dir}
 use Rattle.fsfs_tree.specs.Answers.{last_name}
 use Rattle.fsfs_revision.specs.declared.wrong.ReadError.{ReadError}
 use Rattle.fsfs_revision.specs.declared.wrong.ReadError.TheVariants as errors
-use Rattle.fsfs_revision.specs.Readings.{Answers, IfWrong}
+use Rattle.fsfs_revision.specs.Damage.Readings.{Answers, IfWrong}
 use Rattle.fsfs_dag.specs.Views.{met_value}
 use Rattle.fsfs_dag.specs.declared.node.PlacedNode.{PlacedNode}
 use Rattle.fsfs_dag.specs.declared.walk.Met.{Met as Rust}

@@ -16,9 +16,9 @@ use Rattle.fsfs_revision.specs.declared.damage.RevOffset.{RevOffset}
 use Rattle.fsfs_revision.specs.declared.wrong.Wrong.{Wrong}
 use Rattle.fsfs_revision.specs.declared.wrong.ReadError.{ReadError}
 use Rattle.fsfs_revision.specs.declared.wrong.ReadError.TheVariants as reads
-use Rattle.fsfs_revision.specs.Readings.{Answers}
-use Rattle.fsfs_revision.specs.ShowsReading.{offset_of, RootOf, OfId, ChildOf, Met, Stands, Lacking, Blocked, MetAt}
-use Rattle.fsfs_revision.specs.Shown.{source_by, copied_from}
+use Rattle.fsfs_revision.specs.Damage.Readings.{Answers}
+use Rattle.fsfs_revision.specs.Shows.Reading.{offset_of, RootOf, OfId, ChildOf, Met, Stands, Lacking, Blocked, MetAt}
+use Rattle.fsfs_revision.specs.Shows.Shown.{source_by, copied_from}
 use Rattle.fsfs_dag.specs.declared.node.PlacedNode.{PlacedNode}
 use Rattle.fsfs_dag.specs.Views.{home_of}
 use Rattle.fsfs_stands.specs.Steps.{Point, Lead, Back, Across, lead_of, PointAt, OfSource, AcrossCopy, Leads, HistoryStep}
@@ -29,8 +29,8 @@ use Rattle.fsfs_history.specs.declared.history.Leading.{Leading}
 use Rattle.fsfs_history.specs.declared.history.Leading.TheVariants as leadings
 use Rattle.fsfs_history.specs.Points.{LeadsLower, lead_value, point_value, root_value, way_met, IsRootedWay, IsWithin, IsWayWithin, steps_to, height}
 use Rattle.fsfs_dag.specs.TreeWalks.{rank}
-use Rattle.fsfs_revision.specs.Chains.{copy_root_of}
-use Rattle.fsfs_revision.specs.CopyRoots.{later_root, IsRootedFrom, IsRootedAt}
+use Rattle.fsfs_revision.specs.Shows.Chains.{copy_root_of}
+use Rattle.fsfs_revision.specs.Ancestry.CopyRoots.{later_root, IsRootedFrom, IsRootedAt}
 
 -- from the root on
 pub rooted_from_root : (look : RevisionBytes) (rev : ℕ) (path : Path) (a : NodeRev) (root : ℕ × Path) → RootOf look rev (Ok a) → root ≡ copy_root_of a → (v : NodeRev) (last : ℕ × Path) → IsRootedFrom look a root path v last → IsRootedAt look rev path v last

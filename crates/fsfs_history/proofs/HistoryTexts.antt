@@ -5,8 +5,8 @@ use Rattle.fsfs_base.specs.Paths.{Path}
 use Rattle.fsfs_revision.specs.Told.{RevisionBytes}
 use Rattle.fsfs_revision.specs.declared.wrong.ReadError.{ReadError}
 use Rattle.fsfs_revision.specs.declared.wrong.ReadError.TheVariants as reads
-use Rattle.fsfs_revision.specs.Readings.{Answers}
-use Rattle.fsfs_revision.specs.ShowsReading.{Stands, MetAt}
+use Rattle.fsfs_revision.specs.Damage.Readings.{Answers}
+use Rattle.fsfs_revision.specs.Shows.Reading.{Stands, MetAt}
 use Rattle.fsfs_stands.specs.declared.look_fault.LookFault.TheVariants as faults
 use Rattle.fsfs_stands.specs.Texts.{End, Whole, Refused, Stopped}
 use Rattle.fsfs_tree.specs.HistoryTexts.{history_head}
@@ -19,7 +19,7 @@ use Rattle.fsfs_look.specs.Errors.{of_read}
 use Rattle.fsfs_history.specs.Points.{point_value, next_line, BehindText, LeftBehind, HistoryFrom, IsPointFound}
 use Rattle.fsfs_look.specs.Walks.{Joins, JoinsSome, Walks}
 use Rattle.fsfs_look.specs.Written.{Writes, WritesFront}
-use Rattle.fsfs_revision.specs.ShowsReading.{Lacking, Blocked}
+use Rattle.fsfs_revision.specs.Shows.Reading.{Lacking, Blocked}
 use Rattle.fsfs_history.specs.declared.history.Way.{Way}
 use Rattle.fsfs_history.specs.declared.history.Way.TheVariants as ways
 use Rattle.fsfs_history.specs.Points.{way_met, IsRootedWay}

@@ -4,9 +4,9 @@ use Rattle.std.specs.Prelude.{Result, Ok, Err, MatchResult}
 use Rattle.std.proofs.lemmas.List.{length-append}
 use Rattle.std.proofs.Math.Seq.{take-append_seam}
 use Rattle.fsfs_revision.specs.declared.damage.DamageKind.TheVariants as what
-use Rattle.fsfs_revision.specs.DamageDamages.{place_of, damaged}
-use Rattle.fsfs_noderev.specs.Changes.{HasNewPath, AreRevisionChanges, IsItemFault}
-use Rattle.fsfs_noderev.specs.declared.item.ChangeItem.{ChangeItem}
+use Rattle.fsfs_revision.specs.Damage.Damages.{place_of, damaged}
+use Rattle.fsfs_noderev.specs.Changes.Texts.{HasNewPath, AreRevisionChanges, IsItemFault}
+use Rattle.fsfs_noderev.specs.declared.changes.item.ChangeItem.{ChangeItem}
 use Rattle.fsfs_stands.specs.Items.{IsRefusedItem}
 
 module _ (bytes : List ℕ) (at : ℕ) (fault : IsItemFault HasNewPath bytes at) where

@@ -5,9 +5,9 @@ use Rattle.fsfs_base.specs.Paths.{Path, path_text}
 use Rattle.fsfs_revision.specs.declared.wrong.Wrong.{Wrong}
 use Rattle.fsfs_revision.specs.declared.wrong.ReadError.{ReadError}
 use Rattle.fsfs_revision.specs.declared.wrong.ReadError.TheVariants as reads
-use Rattle.fsfs_revision.specs.Readings.{Answers}
+use Rattle.fsfs_revision.specs.Damage.Readings.{Answers}
 use Rattle.fsfs_revision.specs.Told.{RevisionBytes}
-use Rattle.fsfs_noderev.specs.declared.item.ChangeItem.{ChangeItem}
+use Rattle.fsfs_noderev.specs.declared.changes.item.ChangeItem.{ChangeItem}
 use Rattle.fsfs_stands.specs.declared.look_fault.LookFault.TheVariants as faults
 use Rattle.fsfs_stands.specs.Texts.{End, Whole, Refused, Stopped}
 use Rattle.fsfs_look.specs.declared.look_error.LookError.{LookError}

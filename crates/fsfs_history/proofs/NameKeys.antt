@@ -12,7 +12,7 @@ use Rattle.std.proofs.lemmas.Map.Text.{is_eq-slice_cmp}
 use Rattle.std.proofs.lemmas.Slice.Eq.{bytes_eq-Decides}
 use Rattle.fsfs_base.specs.Paths.{PathName, same_name}
 use Rattle.fsfs_base.proofs.PathLemmas.{same_name-refl, same_name-is}
-use Rattle.fsfs_revision.specs.ShowsReading.{DirEntry as EntryValue}
+use Rattle.fsfs_revision.specs.Shows.Reading.{DirEntry as EntryValue}
 use Rattle.fsfs_dag.specs.Views.{entry_value}
 use Rattle.fsfs_dag.specs.declared.directory.DirEntry.{DirEntry}
 use Rattle.fsfs_history.proofs.TextKeys.{Key, key_cmp}

@@ -2,7 +2,7 @@
 use Rattle.std.specs.Prelude.{◌≡◌, ◌≤◌, ℕ, List, length, drop, Result, Ok, Err}
 use Rattle.fsfs_revision.specs.Told.{RevisionBytes, BytesOf}
 use Rattle.fsfs_revision.specs.declared.wrong.Wrong.{Wrong}
-use Rattle.fsfs_revision.specs.Readings.{AndThen}
+use Rattle.fsfs_revision.specs.Damage.Readings.{AndThen}
 use Rattle.fsfs_revision.specs.declared.trailer.Trailer.{Trailer}
 use Rattle.fsfs_revision.specs.Damages.{TrailerIn}
 

@@ -4,9 +4,9 @@ use Rattle.fsfs_base.specs.Paths.{Path}
 use Rattle.fsfs_revision.specs.Told.{RevisionBytes}
 use Rattle.fsfs_dag.specs.Views.{home_of}
 use Rattle.fsfs_revision.specs.declared.damage.RevOffset.{RevOffset}
-use Rattle.fsfs_revision.specs.ShowsReading.{offset_of, Met, Stands, Lacking, Blocked, MetAt}
+use Rattle.fsfs_revision.specs.Shows.Reading.{offset_of, Met, Stands, Lacking, Blocked, MetAt}
 use Rattle.fsfs_stands.specs.Texts.{End, Whole, Stopped, Nothing}
-use Rattle.fsfs_revision.specs.CopyRoots.{IsRootedAt}
+use Rattle.fsfs_revision.specs.Ancestry.CopyRoots.{IsRootedAt}
 use Rattle.fsfs_stands.specs.Steps.{Point, Lead, Nowhere, Back, Across}
 use Rattle.fsfs_stands.specs.HistoryTexts.{line_of, PointsText, HeadedText}
 use Rattle.fsfs_history.specs.declared.history.CopyPlace.{CopyPlace}

@@ -1,7 +1,7 @@
 //! The bytes of a revision's changed-path data.
 ghost use Rattle.std.specs.Prelude.{◌≡◌, ◌+◌, ◌<◌, ◌≤◌, ◌^◌, ℕ, List, length, decimal};
-ghost use Rattle.fsfs_revision.specs.Causes.{HasCause};
-ghost use Rattle.fsfs_revision.specs.Readings.{Answers};
+ghost use Rattle.fsfs_revision.specs.Damage.Causes.{HasCause};
+ghost use Rattle.fsfs_revision.specs.Damage.Readings.{Answers};
 ghost use Rattle.fsfs_revision.specs.Told.{RevisionBytes, Keeps, IsTold};
 ghost use Rattle.fsfs_revision.specs.Trailers.{IsTrailer};
 ghost use Rattle.fsfs_stands.specs.Items.{DataOf};

@@ -2,7 +2,7 @@
 ghost use Rattle.std.specs.Prelude.{◌≡◌, ℕ, List, Some, IfOk, OnOk, option_map, if◌then◌else◌};
 ghost use Rattle.std.specs.String.{string_bytes};
 ghost use Rattle.fsfs_base.specs.Paths.{same_name};
-ghost use Rattle.fsfs_revision.specs.ShowsReading.{named};
+ghost use Rattle.fsfs_revision.specs.Shows.Reading.{named};
 ghost use Rattle.fsfs_dag.specs.Views.{entry_value, entry_values};
 ghost use Rattle.fsfs_history.specs.KeptDirs.{by_name};
 

@@ -1,8 +1,8 @@
 //! The items of a revision's changed-path data.
-ghost use Rattle.fsfs_revision.specs.Causes.{HasCause, IsQuiet};
-ghost use Rattle.fsfs_revision.specs.Readings.{Answers};
+ghost use Rattle.fsfs_revision.specs.Damage.Causes.{HasCause, IsQuiet};
+ghost use Rattle.fsfs_revision.specs.Damage.Readings.{Answers};
 ghost use Rattle.fsfs_revision.specs.Told.{RevisionBytes, Keeps, IsTold};
-ghost use Rattle.fsfs_noderev.specs.Changes.{HasNewPath, IsItemFault};
+ghost use Rattle.fsfs_noderev.specs.Changes.Texts.{HasNewPath, IsItemFault};
 ghost use Rattle.fsfs_stands.specs.Items.{ItemsIn, ItemsOf};
 
 use crate::data::{ChangesData, changes_data};

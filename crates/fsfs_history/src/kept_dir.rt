@@ -3,12 +3,12 @@
 //! What was replaced in one directory comes in the order of its names, one behind the other, so that its entries are read once.
 ghost use Rattle.std.specs.Prelude.{◌≡◌, ◌++◌, ◌∷◌, [], Ok, OnOk, IfOk, IfErr, IfSome};
 ghost use Rattle.fsfs_base.specs.declared.kind.Kind.TheVariants.{Dir};
-ghost use Rattle.fsfs_revision.specs.Causes.{HasCause, IsQuiet};
+ghost use Rattle.fsfs_revision.specs.Damage.Causes.{HasCause, IsQuiet};
 ghost use Rattle.fsfs_tree.specs.Answers.{last_name as last};
-ghost use Rattle.fsfs_revision.specs.Readings.{Answers, IfWrong};
+ghost use Rattle.fsfs_revision.specs.Damage.Readings.{Answers, IfWrong};
 ghost use Rattle.fsfs_revision.specs.Told.{RevisionBytes, Knows, Keeps};
 ghost use Rattle.fsfs_noderev.specs.declared.node_rev.NodeRev.{NodeRev};
-ghost use Rattle.fsfs_revision.specs.ShowsReading.{EntriesOf, StandsAt, offset_of};
+ghost use Rattle.fsfs_revision.specs.Shows.Reading.{EntriesOf, StandsAt, offset_of};
 ghost use Rattle.fsfs_dag.specs.Views.{entry_value, entry_values};
 ghost use Rattle.fsfs_stands.specs.ChangedTexts.{KindAt};
 ghost use Rattle.fsfs_history.specs.KeptDirs.{EntryKind, IsDirAt, IsKept, is_place};

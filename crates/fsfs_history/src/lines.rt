@@ -1,8 +1,8 @@
 //! The lines of an item.
 ghost use Rattle.std.specs.Prelude.{◌≡◌, ◌++◌, ℕ, List, Ok, OnOk, IfOk};
 ghost use Rattle.fsfs_tree.specs.Answers.{kind_mark};
-ghost use Rattle.fsfs_revision.specs.Causes.{HasCause, IsQuiet};
-ghost use Rattle.fsfs_revision.specs.Readings.{Answers};
+ghost use Rattle.fsfs_revision.specs.Damage.Causes.{HasCause, IsQuiet};
+ghost use Rattle.fsfs_revision.specs.Damage.Readings.{Answers};
 ghost use Rattle.fsfs_revision.specs.Told.{RevisionBytes, Knows, Keeps};
 ghost use Rattle.fsfs_tree.specs.ChangedTexts.{changed_line, modified_line, replaced_lines};
 ghost use Rattle.fsfs_stands.specs.ChangedTexts.{ActionLines, ItemLines};

@@ -1,7 +1,7 @@
 //! What a replace took away.
 ghost use Rattle.std.specs.Prelude.{◌≡◌, ◌≤◌, ◌++◌, IfOk, option_map, length, drop};
-ghost use Rattle.fsfs_revision.specs.Causes.{HasCause};
-ghost use Rattle.fsfs_revision.specs.Readings.{Answers};
+ghost use Rattle.fsfs_revision.specs.Damage.Causes.{HasCause};
+ghost use Rattle.fsfs_revision.specs.Damage.Readings.{Answers};
 ghost use Rattle.fsfs_revision.specs.Told.{RevisionBytes, Knows, Keeps};
 ghost use Rattle.fsfs_tree.specs.ChangedTexts.{nearest_source, place_before, place_upto, taken_from};
 ghost use Rattle.fsfs_stands.specs.ChangedTexts.{source_at, TakenKind};

@@ -12,7 +12,7 @@ use Rattle.fsfs_layout.specs.Small.{IsRevLine, IsBase36Line}
 use Rattle.fsfs_layout.specs.declared.layout.Layout.{Layout}
 use Rattle.fsfs_revision.specs.declared.wrong.Refusal.{Refusal}
 use Rattle.fsfs_revision.specs.RevBytes.{packed_bytes}
-use Rattle.fsfs_layout.specs.Dump.{IsDump}
+use Rattle.fsfs_layout.specs.Hash.Dump.{IsDump}
 use Rattle.fsfs_disk.specs.Labels.{Label, same_label}
 use Rattle.fsfs_disk.specs.Labels as held
 use Rattle.fsfs_disk.specs.Trace.{Operation, Done, Attempted, files_after, TornBy}

@@ -12,13 +12,13 @@ use Rattle.fsfs_machine.proofs.Growing.{revisions_length}
 use Rattle.fsfs_turn.specs.Views.{View, IsTxnOver}
 use Rattle.fsfs_repo.specs.Works.{Landings}
 use Rattle.fsfs_repo.specs.Refusals.{IsClashAt}
-use Rattle.fsfs_repo.specs.Commits.{Bars}
-use Rattle.fsfs_repo.specs.declared.answers.CommitBar.{CommitBar}
-use Rattle.fsfs_repo.specs.declared.answers.CommitBar.TheVariants as bars
-use Rattle.fsfs_script.specs.declared.job.CommitJob.{CommitJob}
-use Rattle.fsfs_script.specs.declared.job.Job.TheVariants as jobs
+use Rattle.fsfs_repo.specs.Txns.Commits.{Bars}
+use Rattle.fsfs_repo.specs.declared.txns.answers.CommitBar.{CommitBar}
+use Rattle.fsfs_repo.specs.declared.txns.answers.CommitBar.TheVariants as bars
+use Rattle.fsfs_script.specs.declared.job_lines.job.CommitJob.{CommitJob}
+use Rattle.fsfs_script.specs.declared.job_lines.job.Job.TheVariants as jobs
 use Rattle.fsfs_jobs.specs.declared.answer.JobAnswer.TheVariants.{Conflict, Stopped}
-use Rattle.fsfs_job_run.specs.Jobs.{Fails, ByStuck, ByMemory}
+use Rattle.fsfs_job_run.specs.Serial.Jobs.{Fails, ByStuck, ByMemory}
 use Rattle.fsfs_job_run.specs.Faults.{fault_of_merge, answer_of_bar}
 use Rattle.fsfs_job_run.specs.Running.{HasOutsideCause, IsNoRequest}
 use Rattle.fsfs_job_run.specs.Ending.{CommitsTxn, ByRevs}

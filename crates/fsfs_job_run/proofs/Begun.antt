@@ -1,7 +1,7 @@
 -- A transaction that has begun, and why none was begun.
 use Rattle.std.proofs.Common.{◌≡◌, ◌≤◌, ◌<◌, ◌∷◌, ℕ, List, [], length, ap, inr, arith}
 use Rattle.std.specs.Prelude.{Err}
-use Rattle.fsfs_base.specs.declared.txn_name.TxnName.{TxnName}
+use Rattle.fsfs_base.specs.declared.fields.txn_name.TxnName.{TxnName}
 use Rattle.fsfs_draft.specs.Drafts.{Folder}
 use Rattle.fsfs_revision.specs.declared.wrong.Wrong.{Wrong}
 use Rattle.fsfs_revision.specs.declared.wrong.Wrong.TheVariants as wrongs
@@ -10,20 +10,20 @@ use Rattle.fsfs_machine.specs.declared.machine.Recorded.{Recorded}
 use Rattle.fsfs_machine.specs.Machine.{revisions}
 use Rattle.fsfs_tree.specs.Dated.{last_of}
 use Rattle.fsfs_machine.proofs.Growing.{revisions_length}
-use Rattle.fsfs_revision.specs.ShowsReading.{RootOf}
+use Rattle.fsfs_revision.specs.Shows.Reading.{RootOf}
 use Rattle.fsfs_turn.specs.Bytes.{bytes_of}
 use Rattle.fsfs_turn.specs.Views.{View}
-use Rattle.fsfs_cli.specs.FaultsFaults.{fault_from_wrong}
-use Rattle.fsfs_cli.specs.declared.faults_fault.Fault.{Fault}
+use Rattle.fsfs_cli.specs.CommandFaults.{fault_from_wrong}
+use Rattle.fsfs_cli.specs.declared.faults.fault.Fault.{Fault}
 use Rattle.fsfs_repo.specs.BeginSteps.{Moved}
 use Rattle.fsfs_repo.specs.BeginFaults.{Cause, IfDisk, LacksNumber}
 use Rattle.fsfs_repo.specs.BeginFault.{BeginFault}
 use Rattle.fsfs_repo.specs.BeginFault.TheVariants as begin
-use Rattle.fsfs_repo.specs.Begun.{BeginsTxn}
-use Rattle.fsfs_script.specs.declared.job.CommitJob.{CommitJob}
-use Rattle.fsfs_script.specs.declared.job.Job.TheVariants as jobs
+use Rattle.fsfs_repo.specs.Txns.Begun.{BeginsTxn}
+use Rattle.fsfs_script.specs.declared.job_lines.job.CommitJob.{CommitJob}
+use Rattle.fsfs_script.specs.declared.job_lines.job.Job.TheVariants as jobs
 use Rattle.fsfs_jobs.specs.declared.answer.JobAnswer.TheVariants.{Stopped}
-use Rattle.fsfs_job_run.specs.Jobs.{Fails, ByDisk, ByBench, ByStuck, ByMemory, ByNames}
+use Rattle.fsfs_job_run.specs.Serial.Jobs.{Fails, ByDisk, ByBench, ByStuck, ByMemory, ByNames}
 use Rattle.fsfs_job_run.specs.Faults.{fault_of_begin}
 use Rattle.fsfs_job_run.specs.Running.{Stays, HasOutsideCause, IfCounted, CommitsSo, StopsOver}
 use Rattle.fsfs_job_run.proofs.Staying.{IsCounted, seen_same, bare_leaves}

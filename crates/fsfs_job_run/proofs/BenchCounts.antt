@@ -2,7 +2,7 @@
 use Rattle.std.proofs.Common.{◌≡◌, ◌+◌, ℕ, List, [], ◌∷◌, ◌++◌, arith}
 use Rattle.fsfs_turn.specs.Mountings.{RoseBy}
 use Rattle.fsfs_jobs.specs.declared.answer.JobAnswer.{JobAnswer}
-use Rattle.fsfs_job_run.specs.Jobs.{bench_told, bench_faults_in}
+use Rattle.fsfs_job_run.specs.Serial.Jobs.{bench_told, bench_faults_in}
 
 pub benches_append : (answers : List JobAnswer) (answer : JobAnswer) → bench_faults_in (answers ++ answer ∷ []) ≡ bench_faults_in answers + bench_told answer
 benches_append [] answer = omega arith

@@ -6,15 +6,15 @@ use Rattle.fsfs_tree.specs.Dated.{last_of}
 use Rattle.fsfs_machine.specs.declared.machine.Recorded.{Recorded}
 use Rattle.fsfs_machine.specs.Machine.{revisions}
 use Rattle.fsfs_turn.specs.Views.{View, Begins}
-use Rattle.fsfs_script.specs.declared.job.Base.{Base}
-use Rattle.fsfs_script.specs.declared.job.Base.TheVariants.{Youngest, Number}
-use Rattle.fsfs_script.specs.declared.job.Job.{Job}
+use Rattle.fsfs_script.specs.declared.job_lines.job.Base.{Base}
+use Rattle.fsfs_script.specs.declared.job_lines.job.Base.TheVariants.{Youngest, Number}
+use Rattle.fsfs_script.specs.declared.job_lines.job.Job.{Job}
 use Rattle.fsfs_jobs.specs.Serial.{base_of, ReadsText as AloneReads, LacksRead as AloneLacksRead, LacksBase as AloneLacksBase, LacksName, Begins as AloneBegins}
 use Rattle.fsfs_jobs.specs.declared.answer.JobAnswer.{JobAnswer}
-use Rattle.fsfs_job_run.specs.Jobs.{own_of, own_of_all, tells_stuck}
-use Rattle.fsfs_job_run.specs.Beside.{IsBase, RunsBeside, ReadsText, LacksRead, LacksBase, DoesEdits, GoesOnFrom, shown_in}
-use Rattle.fsfs_job_run.specs.Passes.{last_known, IsOnward, End, More}
-use Rattle.fsfs_job_run.specs.BesideLaws.{LinesStay, WorkersLinesStay, AloneIsBeside, WorkGoesOn, WorkersWorked}
+use Rattle.fsfs_job_run.specs.Serial.Jobs.{own_of, own_of_all, tells_stuck}
+use Rattle.fsfs_job_run.specs.Workers.Beside.{IsBase, RunsBeside, ReadsText, LacksRead, LacksBase, DoesEdits, GoesOnFrom, shown_in}
+use Rattle.fsfs_job_run.specs.Workers.Passes.{last_known, IsOnward, End, More}
+use Rattle.fsfs_job_run.specs.Workers.Laws.{LinesStay, WorkersLinesStay, AloneIsBeside, WorkGoesOn, WorkersWorked}
 
 -- ---- of a later history, and a worker that knew less
 

@@ -4,21 +4,21 @@ use Rattle.std.specs.Prelude.{Result, Ok, Err, IfErr}
 use Rattle.fsfs_revision.specs.declared.wrong.Wrong.{Wrong}
 use Rattle.fsfs_revision.specs.declared.wrong.Wrong.TheVariants as wrongs
 use Rattle.fsfs_revision.specs.declared.wrong.Refusal.TheVariants as refusals
-use Rattle.fsfs_cli.specs.FaultsFaults.{fault_from_wrong}
-use Rattle.fsfs_cli.specs.declared.faults_fault.Fault.{Fault}
-use Rattle.fsfs_cli.specs.declared.faults_fault.Fault.TheVariants.{Words, Request, Repository, Outside, Memory, Limit}
-use Rattle.fsfs_cli.specs.declared.outside_fault.OutsideFault.TheVariants as outside
-use Rattle.fsfs_cli.specs.declared.request_fault.RequestFault.TheVariants.{NoRev}
+use Rattle.fsfs_cli.specs.CommandFaults.{fault_from_wrong}
+use Rattle.fsfs_cli.specs.declared.faults.fault.Fault.{Fault}
+use Rattle.fsfs_cli.specs.declared.faults.fault.Fault.TheVariants.{Words, Request, Repository, Outside, Memory, Limit}
+use Rattle.fsfs_cli.specs.declared.faults.outside_fault.OutsideFault.TheVariants as outside
+use Rattle.fsfs_cli.specs.declared.faults.request_fault.RequestFault.TheVariants.{NoRev}
 use Rattle.fsfs_repo.specs.BeginFaults.{IfDisk as IfBeginFails}
 use Rattle.fsfs_repo.specs.BeginFault.{BeginFault}
 use Rattle.fsfs_repo.specs.BeginFault.TheVariants as begin
-use Rattle.fsfs_repo.specs.declared.answers.CommitBar.{CommitBar}
-use Rattle.fsfs_repo.specs.declared.answers.CommitBar.TheVariants as bars
+use Rattle.fsfs_repo.specs.declared.txns.answers.CommitBar.{CommitBar}
+use Rattle.fsfs_repo.specs.declared.txns.answers.CommitBar.TheVariants as bars
 use Rattle.fsfs_jobs.specs.declared.answer.JobAnswer.{JobAnswer}
 use Rattle.fsfs_jobs.specs.declared.answer.JobAnswer.TheVariants as answers
-use Rattle.fsfs_jobs.specs.Editing.{IfDisk as IfEditFails}
+use Rattle.fsfs_jobs.specs.JobEdits.Editing.{IfDisk as IfEditFails}
 use Rattle.fsfs_job_run.specs.TextReads.{IfAnswerFails, IfDiskFails}
-use Rattle.fsfs_job_run.specs.Jobs.{tells_doubt, TellNoDoubt}
+use Rattle.fsfs_job_run.specs.Serial.Jobs.{tells_doubt, TellNoDoubt}
 use Rattle.fsfs_job_run.specs.Faults.{fault_of_begin, fault_of_merge, answer_of_bar}
 use Rattle.fsfs_job_run.specs.Running.{IfAnyFails}
 

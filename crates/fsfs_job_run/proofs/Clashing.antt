@@ -1,13 +1,13 @@
 -- What clashes behind landings, clashed before them.
 use Rattle.std.proofs.Common.{◌≡◌, ◌<◌, ◌≤◌, ℕ, List, length, ⊎_elim, sym, ap, subst, ◌∙◌, arith}
 use Rattle.std.specs.FinMap.{get}
-use Rattle.fsfs_model.specs.declared.mark.Mark.{Mark}
+use Rattle.fsfs_model.specs.declared.flat.mark.Mark.{Mark}
 use Rattle.fsfs_base.specs.Paths.{Path}
 use Rattle.fsfs_tree.specs.Nodes.{TreeFunction}
-use Rattle.fsfs_model.specs.Landing.{land, is_clash, NoClash, IsFirstClash}
+use Rattle.fsfs_model.specs.Flat.Landing.{land, is_clash, NoClash, IsFirstClash}
 use Rattle.fsfs_tree.specs.Histories.{AreRevisions, IsHistory}
 use Rattle.fsfs_tree.specs.Revisions.{tree_of}
-use Rattle.fsfs_model.specs.Transactions.{IsTransaction}
+use Rattle.fsfs_model.specs.Flat.Transactions.{IsTransaction}
 use Rattle.fsfs_tree.specs.Dated.{last_of}
 use Rattle.fsfs_model.proofs.TwoMergesLaw.{two_merges_are_one}
 use Rattle.fsfs_machine.specs.declared.machine.Recorded.{Recorded}
@@ -17,7 +17,7 @@ use Rattle.fsfs_machine.proofs.Growing.{revisions_length}
 use Rattle.fsfs_turn.specs.Views.{Begins, IsTxnOver}
 use Rattle.fsfs_repo.specs.Works.{LandedOn, Unmoved, Moved}
 use Rattle.fsfs_repo.proofs.Handing.{over_of, whole_revisions, whole_clear, whole_tree}
-use Rattle.fsfs_job_run.specs.Clashes.{ClashesFirst, LandedClashesAreClashes}
+use Rattle.fsfs_job_run.specs.Serial.Clashes.{ClashesFirst, LandedClashesAreClashes}
 
 -- behind one landing
 step : (tree : ℕ → TreeFunction) (last b mid head : ℕ) (t u : TreeFunction) (marks : List Mark) (path : Path) → AreRevisions tree last → IsTransaction tree last b t marks → b ≤ mid → mid ≤ head → head ≤ last

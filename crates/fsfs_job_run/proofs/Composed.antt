@@ -3,14 +3,14 @@ use Rattle.std.proofs.Common.{◌≡◌, ◌⊎◌, ◌≤◌, ◌<◌, ◌∷�
 use Rattle.std.specs.Prelude.{Result, Ok, Err, None, IfErr}
 use Rattle.std.specs.FinMap.{get}
 use Rattle.fsfs_base.specs.Paths.{Path}
-use Rattle.fsfs_base.specs.declared.txn_name.TxnName.{TxnName}
+use Rattle.fsfs_base.specs.declared.fields.txn_name.TxnName.{TxnName}
 use Rattle.fsfs_tree.specs.Nodes.{TreeFunction}
 use Rattle.fsfs_tree.specs.Revisions.{Revision, tree_of}
 use Rattle.fsfs_revision.specs.Told.{RevisionBytes}
 use Rattle.fsfs_machine.specs.declared.machine.Recorded.{Recorded}
-use Rattle.fsfs_cli.specs.declared.request_fault.RequestFault.TheVariants.{Mergeinfo}
+use Rattle.fsfs_cli.specs.declared.faults.request_fault.RequestFault.TheVariants.{Mergeinfo}
 use Rattle.fsfs_tree.specs.Dated.{last_of}
-use Rattle.fsfs_model.specs.declared.mark.Mark.{Mark}
+use Rattle.fsfs_model.specs.declared.flat.mark.Mark.{Mark}
 use Rattle.fsfs_draft.specs.Drafts.{Folder}
 use Rattle.fsfs_machine.specs.declared.machine.Txn.{Txn}
 use Rattle.fsfs_machine.specs.Machine.{revisions}
@@ -21,27 +21,27 @@ use Rattle.fsfs_turn.specs.Alone.{BringsNoDoubt}
 use Rattle.fsfs_turn.proofs.Doubts.{same_faults}
 use Rattle.fsfs_repo.specs.Meaning.{IsTxnOf}
 use Rattle.fsfs_machine.specs.Kept.{IsIn}
-use Rattle.fsfs_repo.specs.Begun.{BeginsTxn}
-use Rattle.fsfs_repo.specs.Purged.{PurgesAny}
+use Rattle.fsfs_repo.specs.Txns.Begun.{BeginsTxn}
+use Rattle.fsfs_repo.specs.Txns.Purged.{PurgesAny}
 use Rattle.fsfs_repo.specs.PurgeFault.{PurgeFault}
 use Rattle.fsfs_machine.specs.declared.machine.Step.TheVariants.{Purge}
 use Rattle.fsfs_turn.specs.Views.{with_txns}
-use Rattle.fsfs_script.specs.declared.edit.Edit.{Edit}
-use Rattle.fsfs_script.specs.declared.job.CommitJob.{CommitJob}
-use Rattle.fsfs_script.specs.declared.job.Job.TheVariants as jobs
-use Rattle.fsfs_cli.specs.declared.faults_fault.Fault.{Fault}
-use Rattle.fsfs_cli.specs.declared.faults_fault.Fault.TheVariants.{Words, Request, Repository, Outside, Memory, Limit}
-use Rattle.fsfs_cli.specs.declared.outside_fault.OutsideFault.{OutsideFault}
-use Rattle.fsfs_cli.specs.declared.outside_fault.OutsideFault.TheVariants as outside
+use Rattle.fsfs_script.specs.declared.job_lines.edit.Edit.{Edit}
+use Rattle.fsfs_script.specs.declared.job_lines.job.CommitJob.{CommitJob}
+use Rattle.fsfs_script.specs.declared.job_lines.job.Job.TheVariants as jobs
+use Rattle.fsfs_cli.specs.declared.faults.fault.Fault.{Fault}
+use Rattle.fsfs_cli.specs.declared.faults.fault.Fault.TheVariants.{Words, Request, Repository, Outside, Memory, Limit}
+use Rattle.fsfs_cli.specs.declared.faults.outside_fault.OutsideFault.{OutsideFault}
+use Rattle.fsfs_cli.specs.declared.faults.outside_fault.OutsideFault.TheVariants as outside
 use Rattle.fsfs_jobs.specs.Edits.{StopsAt, TakesSteps}
 use Rattle.fsfs_jobs.specs.Serial.{base_of}
 use Rattle.fsfs_jobs.specs.declared.answer.JobAnswer.{JobAnswer}
 use Rattle.fsfs_jobs.specs.declared.answer.JobAnswer.TheVariants.{Stopped}
-use Rattle.fsfs_jobs.specs.Editing.{Bars, IfRefused, IfDisk, IfDiskIn, IsCounted as HasCounts, AreEditing, IsEditedWhole, path_of}
-use Rattle.fsfs_jobs.specs.declared.edits.Stopped.{Stopped as Halted}
-use Rattle.fsfs_script.specs.declared.job.Step.{Step}
+use Rattle.fsfs_jobs.specs.JobEdits.Editing.{Bars, IfRefused, IfDisk, IfDiskIn, IsCounted as HasCounts, AreEditing, IsEditedWhole, path_of}
+use Rattle.fsfs_jobs.specs.declared.job_edits.edits.Stopped.{Stopped as Halted}
+use Rattle.fsfs_script.specs.declared.job_lines.job.Step.{Step}
 use Rattle.fsfs_base.specs.Counts.{Rose}
-use Rattle.fsfs_job_run.specs.Jobs.{DoesJob, Fails, ByDisk, ByBench, ByMemory}
+use Rattle.fsfs_job_run.specs.Serial.Jobs.{DoesJob, Fails, ByDisk, ByBench, ByMemory}
 use Rattle.fsfs_job_run.specs.Running.{Stays, HasOutsideCause, DoesSo, CommitsSo, IfCounted, IsNoRequest, StopsOver}
 use Rattle.fsfs_job_run.specs.Ending.{EndsSo, IsEdited}
 use Rattle.fsfs_job_run.proofs.Staying.{IsCounted, bare_leaves}

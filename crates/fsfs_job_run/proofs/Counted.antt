@@ -1,25 +1,25 @@
 -- Causes of failures, one behind another, and what is told where a job was refused for mergeinfo.
 use Rattle.std.proofs.Common.{◌≡◌, ℕ, List, [], subst}
-use Rattle.fsfs_base.specs.declared.txn_name.TxnName.{TxnName}
+use Rattle.fsfs_base.specs.declared.fields.txn_name.TxnName.{TxnName}
 use Rattle.fsfs_tree.specs.Dated.{last_of}
 use Rattle.fsfs_tree.specs.Revisions.{tree_of}
 use Rattle.fsfs_machine.specs.declared.machine.Recorded.{Recorded}
 use Rattle.fsfs_machine.specs.Machine.{revisions}
 use Rattle.fsfs_turn.specs.Bytes.{bytes_of}
 use Rattle.fsfs_turn.specs.Views.{View}
-use Rattle.fsfs_script.specs.declared.job.CommitJob.{CommitJob}
-use Rattle.fsfs_script.specs.declared.job.Job.{Job}
-use Rattle.fsfs_script.specs.declared.job.Job.TheVariants as jobs
-use Rattle.fsfs_cli.specs.declared.faults_fault.Fault.{Fault}
-use Rattle.fsfs_cli.specs.declared.faults_fault.Fault.TheVariants.{Words, Request, Repository, Outside, Memory, Limit}
-use Rattle.fsfs_cli.specs.declared.outside_fault.OutsideFault.TheVariants as outside
-use Rattle.fsfs_cli.specs.declared.request_fault.RequestFault.{RequestFault}
-use Rattle.fsfs_cli.specs.declared.request_fault.RequestFault.TheVariants as requests
+use Rattle.fsfs_script.specs.declared.job_lines.job.CommitJob.{CommitJob}
+use Rattle.fsfs_script.specs.declared.job_lines.job.Job.{Job}
+use Rattle.fsfs_script.specs.declared.job_lines.job.Job.TheVariants as jobs
+use Rattle.fsfs_cli.specs.declared.faults.fault.Fault.{Fault}
+use Rattle.fsfs_cli.specs.declared.faults.fault.Fault.TheVariants.{Words, Request, Repository, Outside, Memory, Limit}
+use Rattle.fsfs_cli.specs.declared.faults.outside_fault.OutsideFault.TheVariants as outside
+use Rattle.fsfs_cli.specs.declared.faults.request_fault.RequestFault.{RequestFault}
+use Rattle.fsfs_cli.specs.declared.faults.request_fault.RequestFault.TheVariants as requests
 use Rattle.fsfs_jobs.specs.Edits.{StopsAt}
 use Rattle.fsfs_jobs.specs.Serial.{base_of}
 use Rattle.fsfs_jobs.specs.declared.answer.JobAnswer.{JobAnswer}
 use Rattle.fsfs_jobs.specs.declared.answer.JobAnswer.TheVariants as answers
-use Rattle.fsfs_jobs.specs.Editing.{Bars, IfRefused, IfDisk}
+use Rattle.fsfs_jobs.specs.JobEdits.Editing.{Bars, IfRefused, IfDisk}
 use Rattle.fsfs_job_run.specs.Running.{HasOutsideCause, IfCounted, IsNoRequest, StopsOver, DoesSo}
 
 -- ---- causes

@@ -1,10 +1,10 @@
 -- Edits of a job that are refused.
 use Rattle.std.proofs.Common.{◌⊎◌, ℕ, List, ◌∷◌, [], ◌++◌, inl, inr}
 use Rattle.fsfs_tree.specs.Nodes.{TreeFunction}
-use Rattle.fsfs_model.specs.declared.mark.Mark.{Mark}
-use Rattle.fsfs_script.specs.declared.edit.Edit.{Edit}
-use Rattle.fsfs_script.specs.declared.job.Step.{Step}
-use Rattle.fsfs_cli.specs.declared.faults_fault.Fault.{Fault}
+use Rattle.fsfs_model.specs.declared.flat.mark.Mark.{Mark}
+use Rattle.fsfs_script.specs.declared.job_lines.edit.Edit.{Edit}
+use Rattle.fsfs_script.specs.declared.job_lines.job.Step.{Step}
+use Rattle.fsfs_cli.specs.declared.faults.fault.Fault.{Fault}
 use Rattle.fsfs_jobs.specs.Edits.{edited, marks_of, StopsAt}
 
 -- the first edit that is not done is refused by the one, or by the other

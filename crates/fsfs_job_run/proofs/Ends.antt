@@ -4,8 +4,8 @@ use Rattle.std.specs.BTreeMap.{insert_entry}
 use Rattle.std.specs.Cmp.Lexicographic.{slice_cmp}
 use Rattle.std.specs.Ordering.{nat_cmp}
 use Rattle.std.specs.Prelude.{Result, Ok, Err, None}
-use Rattle.fsfs_base.specs.declared.place.DiskPlace.{DiskPlace}
-use Rattle.fsfs_base.specs.declared.place.DiskPlace.TheVariants.{Remove}
+use Rattle.fsfs_base.specs.declared.places.place.DiskPlace.{DiskPlace}
+use Rattle.fsfs_base.specs.declared.places.place.DiskPlace.TheVariants.{Remove}
 use Rattle.fsfs_tree.specs.Revisions.{Revision}
 use Rattle.fsfs_tree.specs.Dated.{date_name}
 use Rattle.fsfs_machine.specs.declared.machine.Recorded.{Recorded}
@@ -24,14 +24,14 @@ use Rattle.fsfs_repo.specs.PurgeFault.{PurgeFault}
 use Rattle.fsfs_repo.specs.PurgeFault.TheVariants.{DiskFault}
 use Rattle.fsfs_repo.specs.Replies.{Committed, Moved}
 use Rattle.fsfs_turn.proofs.Doubts.{same_faults, fault_more}
-use Rattle.fsfs_script.specs.declared.job.CommitJob.{CommitJob}
-use Rattle.fsfs_script.specs.declared.job.Job.TheVariants as jobs
+use Rattle.fsfs_script.specs.declared.job_lines.job.CommitJob.{CommitJob}
+use Rattle.fsfs_script.specs.declared.job_lines.job.Job.TheVariants as jobs
 use Rattle.fsfs_jobs.specs.Properties.{undated_properties}
 use Rattle.fsfs_jobs.specs.declared.answer.JobAnswer.{JobAnswer}
 use Rattle.fsfs_jobs.specs.declared.answer.JobAnswer.TheVariants as answers
-use Rattle.fsfs_job_run.specs.Jobs.{Fails, tells_doubt}
+use Rattle.fsfs_job_run.specs.Serial.Jobs.{Fails, tells_doubt}
 use Rattle.fsfs_repo.specs.Dating.{IsDatedAt}
-use Rattle.fsfs_repo.specs.Commits.{IsDropped}
+use Rattle.fsfs_repo.specs.Txns.Commits.{IsDropped}
 use Rattle.fsfs_job_run.specs.Running.{Stays, HasOutsideCause}
 use Rattle.fsfs_job_run.specs.Ending.{CommitsTxn, EndsSo}
 use Rattle.fsfs_job_run.proofs.PropertyLemmas.{job_dated}

@@ -14,14 +14,14 @@ use Rattle.fsfs_base.proofs.ResultLemmas.{none_of}
 use Rattle.fsfs_base.specs.declared.kind.Kind.TheVariants.{File, Dir}
 use Rattle.fsfs_tree.specs.Nodes.{Node, TreeFunction, empty_node}
 use Rattle.fsfs_tree.specs.Revisions.{Revision, node_in, tree_of}
-use Rattle.fsfs_model.specs.declared.mark.Mark.{Mark}
-use Rattle.fsfs_model.specs.Edits.{rest_after, with_node, without, with_copy, with_text, with_prop, copied_node}
+use Rattle.fsfs_model.specs.declared.flat.mark.Mark.{Mark}
+use Rattle.fsfs_model.specs.Flat.Edits.{rest_after, with_node, without, with_copy, with_text, with_prop, copied_node}
 use Rattle.fsfs_model.proofs.Filling.{same_path_is}
-use Rattle.fsfs_script.specs.declared.edit.Edit.{Edit}
-use Rattle.fsfs_script.specs.declared.edit.Edit.TheVariants.{MakeDir, MakeFile, Delete, Copy, Put, Prop}
-use Rattle.fsfs_script.specs.declared.job.Step.{Step}
+use Rattle.fsfs_script.specs.declared.job_lines.edit.Edit.{Edit}
+use Rattle.fsfs_script.specs.declared.job_lines.edit.Edit.TheVariants.{MakeDir, MakeFile, Delete, Copy, Put, Prop}
+use Rattle.fsfs_script.specs.declared.job_lines.job.Step.{Step}
 use Rattle.fsfs_jobs.specs.Edits.{TakesSteps, edited, marks_of, with_file}
-use Rattle.fsfs_job_run.specs.Trees.{EditedTreesAreMaps}
+use Rattle.fsfs_job_run.specs.Serial.Trees.{EditedTreesAreMaps}
 
 -- the path is among these
 abbrev among : List Path → Path → Bool

@@ -4,9 +4,9 @@ use Rattle.std.proofs.lemmas.List.{take_more, take_all}
 use Rattle.std.specs.Prelude.{None, slice_index_or}
 use Rattle.fsfs_turn.specs.Alone.{are_harmless}
 use Rattle.fsfs_turn.specs.Views.{View}
-use Rattle.fsfs_script.specs.declared.job.Job.{Job}
+use Rattle.fsfs_script.specs.declared.job_lines.job.Job.{Job}
 use Rattle.fsfs_jobs.specs.declared.answer.JobAnswer.{JobAnswer}
-use Rattle.fsfs_job_run.specs.Jobs.{RunJobs, End}
+use Rattle.fsfs_job_run.specs.Serial.Jobs.{RunJobs, End}
 use Rattle.fsfs_job_run.specs.Running.{DoesSo, DoAll}
 use Rattle.fsfs_job_run.proofs.SerialJobLemmas.{go_on, grow}
 use Rattle.fsfs_job_run.proofs.Stuck.{none_stuck, stuck_more, not_stuck}

@@ -7,7 +7,7 @@ use Rattle.fsfs_base.specs.declared.kind.Kind.TheVariants.{File, Dir}
 use Rattle.fsfs_tree.specs.Nodes.{Content, Bytes, Closed, TreeFunction}
 use Rattle.fsfs_tree.specs.Answers.{Found, Stands, Lacking, Blocked, found_at}
 use Rattle.fsfs_revision.specs.Told.{RevisionBytes}
-use Rattle.fsfs_revision.specs.Shown.{Shows}
+use Rattle.fsfs_revision.specs.Shows.Shown.{Shows}
 use Rattle.fsfs_stands.specs.declared.look_fault.LookFault.{LookFault}
 use Rattle.fsfs_stands.specs.declared.look_fault.LookFault.TheVariants as looks
 use Rattle.fsfs_stands.specs.Texts.{Whole, Refused}
@@ -19,11 +19,11 @@ use Rattle.fsfs_revision.specs.declared.wrong.Wrong.{Wrong}
 use Rattle.fsfs_revision.specs.declared.wrong.Wrong.TheVariants as wrongs
 use Rattle.fsfs_revision.specs.declared.wrong.Refusal.{Refusal}
 use Rattle.fsfs_revision.specs.declared.wrong.Refusal.TheVariants as refusals
-use Rattle.fsfs_cli.specs.FaultsFaults.{IsFromLook, fault_from_refusal, fault_from_wrong}
-use Rattle.fsfs_cli.specs.declared.faults_fault.Fault.{Fault}
-use Rattle.fsfs_cli.specs.declared.faults_fault.Fault.TheVariants.{Request, Memory}
-use Rattle.fsfs_cli.specs.declared.request_fault.RequestFault.TheVariants.{NotFound, NotDir, NotFile}
-use Rattle.fsfs_script.specs.declared.job.ReadJob.{ReadJob}
+use Rattle.fsfs_cli.specs.CommandFaults.{IsFromLook, fault_from_refusal, fault_from_wrong}
+use Rattle.fsfs_cli.specs.declared.faults.fault.Fault.{Fault}
+use Rattle.fsfs_cli.specs.declared.faults.fault.Fault.TheVariants.{Request, Memory}
+use Rattle.fsfs_cli.specs.declared.faults.request_fault.RequestFault.TheVariants.{NotFound, NotDir, NotFile}
+use Rattle.fsfs_script.specs.declared.job_lines.job.ReadJob.{ReadJob}
 use Rattle.fsfs_jobs.specs.Serial.{IsReadOf, read_kind}
 use Rattle.fsfs_jobs.specs.declared.answer.TextRead.{TextRead}
 use Rattle.fsfs_jobs.specs.declared.answer.JobAnswer.{JobAnswer}

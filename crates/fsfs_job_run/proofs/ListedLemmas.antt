@@ -3,8 +3,8 @@ use Rattle.std.proofs.Common.{◌≡◌, ◌⊎◌, ◌≤◌, ◌+◌, ℕ, Lis
 use Rattle.std.specs.Prelude.{◌||◌, Option, Some, None, IfSome, option_map}
 use Rattle.fsfs_disk.specs.Labels.{Label, same_label, has_label, without_label, AreLeft}
 use Rattle.fsfs_disk.proofs.LabelLemmas.{without-AreLeft, without_absent, left_itself, left_then}
-use Rattle.fsfs_disk.specs.Txns.{txn_label}
-use Rattle.fsfs_job_run.specs.Listed.{without_txns, LeavesListed, AreUnlisted, NoneIsLeft, AllAreKept, ListingsGoOn}
+use Rattle.fsfs_disk.specs.Transactions.Txns.{txn_label}
+use Rattle.fsfs_job_run.specs.Serial.Listed.{without_txns, LeavesListed, AreUnlisted, NoneIsLeft, AllAreKept, ListingsGoOn}
 
 -- ---- the laws
 

@@ -1,18 +1,18 @@
 -- The label of a job's transaction, from its beginning to its end.
 use Rattle.std.proofs.Common.{◌≡◌, ◌⊎◌, ◌≤◌, ℕ, List, Bool, true, false, inl, inr, ⊎_elim, sym, subst}
 use Rattle.std.specs.Prelude.{Option, option_map, Result, Ok, Err, OnOk, OnErr}
-use Rattle.fsfs_base.specs.declared.txn_name.TxnName.{TxnName}
+use Rattle.fsfs_base.specs.declared.fields.txn_name.TxnName.{TxnName}
 use Rattle.fsfs_disk.specs.Labels.{Label, with_label, without_label}
-use Rattle.fsfs_disk.specs.Txns.{pair_of, txn_label}
+use Rattle.fsfs_disk.specs.Transactions.Txns.{pair_of, txn_label}
 use Rattle.fsfs_repo.specs.BeginLabels.{IsUnlisted, ListsNoMore}
 use Rattle.fsfs_repo.proofs.Benching.{came_and_went}
-use Rattle.fsfs_repo.specs.OwnedRepoLabels.{LeavesLabels, Unlists}
-use Rattle.fsfs_repo.specs.Commits.{IfBack}
-use Rattle.fsfs_repo.specs.declared.answers.CommitAnswer.{CommitAnswer}
-use Rattle.fsfs_repo.specs.declared.answers.CommitAnswer.TheVariants as answers
-use Rattle.fsfs_repo.specs.declared.answers.CommitBar.{CommitBar}
-use Rattle.fsfs_base.specs.declared.place.DiskPlace.{DiskPlace}
-use Rattle.fsfs_job_run.specs.Listed.{LeavesListed}
+use Rattle.fsfs_repo.specs.Owned.Labels.{LeavesLabels, Unlists}
+use Rattle.fsfs_repo.specs.Txns.Commits.{IfBack}
+use Rattle.fsfs_repo.specs.declared.txns.answers.CommitAnswer.{CommitAnswer}
+use Rattle.fsfs_repo.specs.declared.txns.answers.CommitAnswer.TheVariants as answers
+use Rattle.fsfs_repo.specs.declared.txns.answers.CommitBar.{CommitBar}
+use Rattle.fsfs_base.specs.declared.places.place.DiskPlace.{DiskPlace}
+use Rattle.fsfs_job_run.specs.Serial.Listed.{LeavesListed}
 use Rattle.fsfs_job_run.proofs.ListedLemmas.{none_begun, one_gone, more_begun, failed_on}
 
 -- ---- the end of a transaction

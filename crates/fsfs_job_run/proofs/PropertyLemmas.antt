@@ -6,7 +6,7 @@ use Rattle.std.specs.Ordering.{nat_cmp}
 use Rattle.fsfs_tree.specs.Dated.{date_name}
 use Rattle.fsfs_tree.specs.PropTexts.{author_name, log_name}
 use Rattle.fsfs_jobs.specs.Properties.{prop_of, undated_properties, job_properties}
-use Rattle.fsfs_script.specs.declared.job.CommitJob.{CommitJob}
+use Rattle.fsfs_script.specs.declared.job_lines.job.CommitJob.{CommitJob}
 
 dated : (date : List ℕ) (author log : Option (List ℕ)) → insert_entry (slice_cmp nat_cmp) (prop_of author_name author ++ prop_of log_name log) date_name date ≡ prop_of author_name author ++ (date_name, date) ∷ prop_of log_name log
 dated date None None = refl

@@ -2,7 +2,7 @@
 use Rattle.std.proofs.Common.{◌≡◌, ◌⊎◌, ◌≤◌, ℕ, List, [], sym, ap, subst, inl, inr, arith}
 use Rattle.fsfs_base.specs.declared.kind.Kind.{Kind}
 use Rattle.fsfs_base.specs.declared.kind.Kind.TheVariants.{File, Dir}
-use Rattle.fsfs_base.specs.Dates.{IsDateAt}
+use Rattle.fsfs_base.specs.Fields.Dates.{IsDateAt}
 use Rattle.fsfs_tree.specs.Nodes.{Content, Bytes, Closed}
 use Rattle.fsfs_tree.specs.Revisions.{Revision, tree_of}
 use Rattle.fsfs_tree.specs.Dated.{last_of}
@@ -11,14 +11,14 @@ use Rattle.fsfs_base.specs.Counts.{Rose}
 use Rattle.fsfs_machine.specs.declared.machine.Recorded.{Recorded}
 use Rattle.fsfs_machine.specs.Machine.{revisions}
 use Rattle.fsfs_turn.specs.Views.{View}
-use Rattle.fsfs_base.specs.declared.place.DiskPlace.TheVariants as places
-use Rattle.fsfs_script.specs.declared.job.ReadJob.{ReadJob}
-use Rattle.fsfs_script.specs.declared.job.Job.TheVariants as jobs
+use Rattle.fsfs_base.specs.declared.places.place.DiskPlace.TheVariants as places
+use Rattle.fsfs_script.specs.declared.job_lines.job.ReadJob.{ReadJob}
+use Rattle.fsfs_script.specs.declared.job_lines.job.Job.TheVariants as jobs
 use Rattle.fsfs_jobs.specs.Serial.{ReadsText, IsReadOf, read_kind, base_of}
 use Rattle.fsfs_jobs.specs.declared.answer.JobAnswer.{JobAnswer}
 use Rattle.fsfs_jobs.specs.declared.answer.JobAnswer.TheVariants as answers
 use Rattle.fsfs_job_run.specs.TextReads.{ReadsSo, ByTree, DiskFails, Wants, IfAnswerFails}
-use Rattle.fsfs_job_run.specs.Jobs.{IfAdded, DoesJob, Fails, ByDisk, ByMemory, RunsJob}
+use Rattle.fsfs_job_run.specs.Serial.Jobs.{IfAdded, DoesJob, Fails, ByDisk, ByMemory, RunsJob}
 use Rattle.fsfs_job_run.specs.Running.{HasLooked, HasOutsideCause, DoesSo}
 use Rattle.fsfs_job_run.proofs.Staying.{IsBare, bare_leaves}
 

@@ -5,22 +5,22 @@ use Rattle.fsfs_base.specs.Paths.{Path}
 use Rattle.fsfs_tree.specs.Nodes.{TreeFunction}
 use Rattle.fsfs_tree.specs.Revisions.{Revision, tree_of}
 use Rattle.fsfs_tree.specs.Dated.{last_of}
-use Rattle.fsfs_model.specs.declared.mark.Mark.{Mark}
+use Rattle.fsfs_model.specs.declared.flat.mark.Mark.{Mark}
 use Rattle.fsfs_machine.specs.declared.machine.Txn.{Txn}
 use Rattle.fsfs_machine.specs.Machine.{revisions}
 use Rattle.fsfs_turn.specs.Views.{View}
 use Rattle.fsfs_turn.specs.Alone.{BringsNoDoubt}
-use Rattle.fsfs_script.specs.declared.edit.Edit.{Edit}
-use Rattle.fsfs_script.specs.declared.job.CommitJob.{CommitJob}
-use Rattle.fsfs_script.specs.declared.job.Job.TheVariants as jobs
-use Rattle.fsfs_cli.specs.declared.faults_fault.Fault.{Fault}
-use Rattle.fsfs_cli.specs.declared.faults_fault.Fault.TheVariants.{Request}
-use Rattle.fsfs_cli.specs.declared.request_fault.RequestFault.TheVariants.{Mergeinfo}
+use Rattle.fsfs_script.specs.declared.job_lines.edit.Edit.{Edit}
+use Rattle.fsfs_script.specs.declared.job_lines.job.CommitJob.{CommitJob}
+use Rattle.fsfs_script.specs.declared.job_lines.job.Job.TheVariants as jobs
+use Rattle.fsfs_cli.specs.declared.faults.fault.Fault.{Fault}
+use Rattle.fsfs_cli.specs.declared.faults.fault.Fault.TheVariants.{Request}
+use Rattle.fsfs_cli.specs.declared.faults.request_fault.RequestFault.TheVariants.{Mergeinfo}
 use Rattle.fsfs_jobs.specs.Edits.{Refuses, StopsAt, TakesSteps}
 use Rattle.fsfs_jobs.specs.Serial.{Begins, Refused, base_of}
 use Rattle.fsfs_jobs.specs.declared.answer.JobAnswer.{JobAnswer}
 use Rattle.fsfs_jobs.specs.declared.answer.JobAnswer.TheVariants.{Stopped}
-use Rattle.fsfs_job_run.specs.Jobs.{DoesJob, Fails, ByCounts, RunsJob}
+use Rattle.fsfs_job_run.specs.Serial.Jobs.{DoesJob, Fails, ByCounts, RunsJob}
 use Rattle.fsfs_job_run.proofs.Finite.{edited_maps}
 use Rattle.fsfs_job_run.specs.Running.{Stays}
 use Rattle.fsfs_job_run.specs.Ending.{CommitsTxn, EndsTxn, IsEdited}

@@ -4,9 +4,9 @@ use Rattle.std.proofs.lemmas.List.{map-append, length-map}
 use Rattle.std.specs.Prelude.{Option, Some, None, IfSome, Result, Err}
 use Rattle.fsfs_base.specs.Failures.{Rose}
 use Rattle.fsfs_layout.specs.declared.layout.Layout.{Layout}
-use Rattle.fsfs_base.specs.declared.place.DiskPlace.{DiskPlace}
-use Rattle.fsfs_base.specs.declared.open_fault.OpenFault.{OpenFault}
-use Rattle.fsfs_base.specs.declared.open_fault.OpenFault.TheVariants.{NotRepo, OtherFormat, Linear, Small, DiskFault, Memory}
+use Rattle.fsfs_base.specs.declared.places.place.DiskPlace.{DiskPlace}
+use Rattle.fsfs_base.specs.declared.places.open_fault.OpenFault.{OpenFault}
+use Rattle.fsfs_base.specs.declared.places.open_fault.OpenFault.TheVariants.{NotRepo, OtherFormat, Linear, Small, DiskFault, Memory}
 use Rattle.fsfs_repo.specs.OpenFaults.{OpensBecause}
 use Rattle.fsfs_stands.specs.Files.{StandsFor}
 use Rattle.fsfs_repo.specs.Known.{HasSeenAll}
@@ -14,8 +14,8 @@ use Rattle.fsfs_turn.specs.Opening.{LeftoversAgree}
 use Rattle.fsfs_script.specs.Errors.{IfReadFault}
 use Rattle.fsfs_script.specs.Whole.{ReadsScript}
 use Rattle.fsfs_script.specs.declared.script_error.ScriptError.{ScriptError}
-use Rattle.fsfs_cli.specs.FaultsFaults.{fault_from_open, fault_from_script}
-use Rattle.fsfs_cli.specs.declared.faults_fault.Fault.{Fault}
+use Rattle.fsfs_cli.specs.CommandFaults.{fault_from_open, fault_from_script}
+use Rattle.fsfs_cli.specs.declared.faults.fault.Fault.{Fault}
 use Rattle.fsfs_disk.specs.Trace.{Trace, NameChange, FirmNames, FailsAt, Performs, files_now}
 use Rattle.fsfs_disk.proofs.CrashLemmas.{files_are_image}
 use Rattle.fsfs_machine.specs.declared.machine.Recorded.{Recorded}
@@ -26,10 +26,10 @@ use Rattle.fsfs_turn.specs.Views.{View}
 use Rattle.fsfs_turn.specs.Alone.{are_harmless, KnowsAlone}
 use Rattle.fsfs_turn.specs.Past.{IsPart}
 use Rattle.fsfs_turn.specs.Whole.{NamesFrom}
-use Rattle.fsfs_repo.specs.Crashes.{CrashesLeave}
-use Rattle.fsfs_script.specs.declared.job.Job.{Job}
+use Rattle.fsfs_repo.specs.Owned.Crashes.{CrashesLeave}
+use Rattle.fsfs_script.specs.declared.job_lines.job.Job.{Job}
 use Rattle.fsfs_jobs.specs.declared.answer.JobAnswer.{JobAnswer}
-use Rattle.fsfs_job_run.specs.Jobs.{DoesJob, Fails, ByDisk, ByBench, ByStuck, ByMemory, ByNames, ByCounts, AddsBy, RunsJob, RunJobs, End, More, StuckBehindDoubt, bench_faults_in}
+use Rattle.fsfs_job_run.specs.Serial.Jobs.{DoesJob, Fails, ByDisk, ByBench, ByStuck, ByMemory, ByNames, ByCounts, AddsBy, RunsJob, RunJobs, End, More, StuckBehindDoubt, bench_faults_in}
 use Rattle.fsfs_job_run.proofs.SerialJobLemmas.{runs_serial, grow}
 use Rattle.fsfs_job_run.proofs.ListedLemmas.{failed_on}
 use Rattle.fsfs_job_run.specs.Running.{DoAll}

@@ -2,15 +2,15 @@
 use Rattle.std.proofs.Common.{◌<◌, ℕ, List, length, sym, subst, arith}
 use Rattle.std.specs.Prelude.{Option}
 use Rattle.std.specs.FinMap.{get}
-use Rattle.fsfs_base.specs.declared.txn_name.TxnName.{TxnName}
+use Rattle.fsfs_base.specs.declared.fields.txn_name.TxnName.{TxnName}
 use Rattle.fsfs_layout.specs.declared.layout.Layout.{Layout}
 use Rattle.fsfs_disk.specs.Trace.{Trace}
-use Rattle.fsfs_base.specs.declared.place.DiskPlace.{DiskPlace}
+use Rattle.fsfs_base.specs.declared.places.place.DiskPlace.{DiskPlace}
 use Rattle.fsfs_tree.specs.Dated.{last_of}
 use Rattle.fsfs_tree.specs.Histories.{AreRevisions, IsHistory}
 use Rattle.fsfs_tree.specs.Revisions.{tree_of}
-use Rattle.fsfs_model.specs.Transactions.{IsTransaction}
-use Rattle.fsfs_revision.specs.Trees.{ShowTrees}
+use Rattle.fsfs_model.specs.Flat.Transactions.{IsTransaction}
+use Rattle.fsfs_revision.specs.Ancestry.Trees.{ShowTrees}
 use Rattle.fsfs_revision.proofs.Revisions.{shown_revisions}
 use Rattle.fsfs_draft.specs.Drafts.{Folder}
 use Rattle.fsfs_machine.specs.declared.machine.Recorded.{Recorded}

@@ -3,11 +3,11 @@ use Rattle.std.proofs.Common.{◌≡◌, ◌⊎◌, ◌+◌, ℕ, suc, List, [],
 use Rattle.fsfs_machine.specs.declared.machine.Recorded.{Recorded}
 use Rattle.fsfs_machine.specs.Machine.{revisions}
 use Rattle.fsfs_turn.specs.Views.{View, Begins}
-use Rattle.fsfs_script.specs.declared.job.Job.{Job}
+use Rattle.fsfs_script.specs.declared.job_lines.job.Job.{Job}
 use Rattle.fsfs_jobs.specs.declared.answer.JobAnswer.{JobAnswer}
 use Rattle.fsfs_jobs.specs.declared.answer.JobAnswer.TheVariants.{Committed, Read, Conflict, Stopped}
-use Rattle.fsfs_job_run.specs.Jobs.{DoesJob, Fails, AddsBy, own_of, RunsJob, End, More, own_of_all}
-use Rattle.fsfs_job_run.specs.Laws.{RunsAreSerial, RunsGoOn, RunsGrow}
+use Rattle.fsfs_job_run.specs.Serial.Jobs.{DoesJob, Fails, AddsBy, own_of, RunsJob, End, More, own_of_all}
+use Rattle.fsfs_job_run.specs.Serial.Laws.{RunsAreSerial, RunsGoOn, RunsGrow}
 
 -- ---- a serial run
 

@@ -1,7 +1,7 @@
 -- What the pass knows behind calls that add nothing.
 use Rattle.std.proofs.Common.{◌≡◌, ◌+◌, ℕ, List, [], ◌∷◌, ◌++◌, length, false, refl, sym, ap, subst, ◌∙◌, append_assoc, append-nil, arith}
 use Rattle.std.specs.Prelude.{None}
-use Rattle.fsfs_base.specs.declared.place.DiskPlace.{DiskPlace}
+use Rattle.fsfs_base.specs.declared.places.place.DiskPlace.{DiskPlace}
 use Rattle.fsfs_machine.specs.declared.machine.Recorded.{Recorded}
 use Rattle.fsfs_machine.specs.declared.machine.Step.{Step}
 use Rattle.fsfs_machine.specs.declared.machine.Txn.{Txn}
@@ -16,7 +16,7 @@ use Rattle.fsfs_repo.specs.Replies.{Committed, Moved as CommitMoved}
 use Rattle.fsfs_turn.proofs.Doubts.{same_faults}
 use Rattle.fsfs_jobs.specs.declared.answer.JobAnswer.{JobAnswer}
 use Rattle.fsfs_jobs.specs.declared.answer.JobAnswer.TheVariants as answers
-use Rattle.fsfs_job_run.specs.Jobs.{AddsBy, own_of, tells_doubt, Leaves}
+use Rattle.fsfs_job_run.specs.Serial.Jobs.{AddsBy, own_of, tells_doubt, Leaves}
 use Rattle.fsfs_job_run.specs.Running.{Stays, HasLooked}
 
 -- Of the revisions that a pass has seen none came since the opening but its own: what a pass knows that is alone.

@@ -3,11 +3,11 @@ use Rattle.std.proofs.Common.{◌≡◌, List, [], ◌∷◌, ◌++◌, true, fa
 use Rattle.std.specs.Prelude.{Some, None}
 use Rattle.fsfs_turn.specs.Alone.{are_harmless}
 use Rattle.fsfs_turn.specs.Views.{View}
-use Rattle.fsfs_cli.specs.declared.faults_fault.Fault.TheVariants.{Words, Request, Repository, Outside, Memory, Limit}
-use Rattle.fsfs_cli.specs.declared.outside_fault.OutsideFault.TheVariants as outside
+use Rattle.fsfs_cli.specs.declared.faults.fault.Fault.TheVariants.{Words, Request, Repository, Outside, Memory, Limit}
+use Rattle.fsfs_cli.specs.declared.faults.outside_fault.OutsideFault.TheVariants as outside
 use Rattle.fsfs_jobs.specs.declared.answer.JobAnswer.{JobAnswer}
 use Rattle.fsfs_jobs.specs.declared.answer.JobAnswer.TheVariants as answers
-use Rattle.fsfs_job_run.specs.Jobs.{Leaves, TellNoDoubt, StuckBehindDoubt, tells_stuck}
+use Rattle.fsfs_job_run.specs.Serial.Jobs.{Leaves, TellNoDoubt, StuckBehindDoubt, tells_stuck}
 use Rattle.fsfs_job_run.specs.Running.{HasOutsideCause}
 
 pub none_stuck : (told : List JobAnswer) → told ≡ [] → StuckBehindDoubt told

@@ -10,12 +10,12 @@ use Rattle.fsfs_revision.specs.Told.{RevisionBytes, Told}
 use Rattle.fsfs_noderev.specs.declared.rep.Rep.{Rep}
 use Rattle.fsfs_noderev.specs.declared.rep.Contents.TheVariants as contents
 use Rattle.fsfs_noderev.specs.declared.node_rev.NodeRev.{NodeRev}
-use Rattle.fsfs_revision.specs.Faults.{IsRefusedFor}
-use Rattle.fsfs_revision.specs.Frames.{rev_of, text_of, IsFramed, IsWhole, IsFaultOf}
-use Rattle.fsfs_revision.specs.declared.frame.TheConstants.{PLAIN_LEN}
+use Rattle.fsfs_revision.specs.Rep.Faults.{IsRefusedFor}
+use Rattle.fsfs_revision.specs.Rep.Frames.{rev_of, text_of, IsFramed, IsWhole, IsFaultOf}
+use Rattle.fsfs_revision.specs.declared.rep.frame.TheConstants.{PLAIN_LEN}
 use Rattle.std.specs.Prelude.{codes}
 use Rattle.fsfs_revision.proofs.HeaderLemmas.{stands_fits}
-use Rattle.fsfs_revision.specs.ShowsReading.{RepAt, MetAt, Stands}
+use Rattle.fsfs_revision.specs.Shows.Reading.{RepAt, MetAt, Stands}
 use Rattle.fsfs_dag.proofs.Reps.{rep_wrong, contents_some, contents_none}
 use Rattle.fsfs_look.specs.Errors.{of_read}
 use Rattle.fsfs_look.specs.Paths.{IsFound}

@@ -4,8 +4,8 @@ use Rattle.std.specs.Prelude.{Ok, Err}
 use Rattle.fsfs_revision.specs.declared.wrong.Wrong.{Wrong}
 use Rattle.fsfs_tree.specs.Nodes.{TreeFunction}
 use Rattle.fsfs_revision.specs.Told.{RevisionBytes}
-use Rattle.fsfs_revision.specs.ShowsReading.{RootOf}
-use Rattle.fsfs_revision.specs.Shown.{Shows}
+use Rattle.fsfs_revision.specs.Shows.Reading.{RootOf}
+use Rattle.fsfs_revision.specs.Shows.Shown.{Shows}
 use Rattle.fsfs_revision.proofs.OneNode.{root_of_one}
 
 pub root_whole : (look : RevisionBytes) (rev : ℕ) (tree : TreeFunction) (wrong : Wrong) → Shows look rev tree → RootOf look rev (Err wrong) → ⊥

@@ -1,23 +1,23 @@
 -- What becomes of a job's transaction.
 use Rattle.std.specs.Prelude.{◌≡◌, ◌⊎◌, ◌<◌, ℕ, List, [], length}
 use Rattle.std.specs.FinMap.{get}
-use Rattle.fsfs_base.specs.Dates.{IsDateAt}
-use Rattle.fsfs_base.specs.RevNums.{last_rev}
+use Rattle.fsfs_base.specs.Fields.Dates.{IsDateAt}
+use Rattle.fsfs_base.specs.Fields.RevNums.{last_rev}
 use Rattle.fsfs_tree.specs.Revisions.{Revision, tree_of}
 use Rattle.fsfs_tree.specs.Dated.{last_of}
 use Rattle.fsfs_machine.specs.declared.machine.Txn.{Txn}
 use Rattle.fsfs_machine.specs.Machine.{revisions, entry_of}
 use Rattle.fsfs_turn.specs.Views.{View}
-use Rattle.fsfs_script.specs.declared.job.CommitJob.{CommitJob}
-use Rattle.fsfs_script.specs.declared.job.Job.TheVariants as jobs
-use Rattle.fsfs_cli.specs.declared.faults_fault.Fault.TheVariants.{Limit}
-use Rattle.fsfs_cli.specs.declared.limit_fault.LimitFault.TheVariants.{RevsFull}
+use Rattle.fsfs_script.specs.declared.job_lines.job.CommitJob.{CommitJob}
+use Rattle.fsfs_script.specs.declared.job_lines.job.Job.TheVariants as jobs
+use Rattle.fsfs_cli.specs.declared.faults.fault.Fault.TheVariants.{Limit}
+use Rattle.fsfs_cli.specs.declared.faults.limit_fault.LimitFault.TheVariants.{RevsFull}
 use Rattle.fsfs_jobs.specs.Edits.{TakesSteps}
 use Rattle.fsfs_jobs.specs.Properties.{job_properties}
 use Rattle.fsfs_jobs.specs.Serial.{Commits}
 use Rattle.fsfs_jobs.specs.declared.answer.JobAnswer.{JobAnswer}
 use Rattle.fsfs_jobs.specs.declared.answer.JobAnswer.TheVariants.{Stopped}
-use Rattle.fsfs_job_run.specs.Jobs.{IfAdded, Fails, Leaves}
+use Rattle.fsfs_job_run.specs.Serial.Jobs.{IfAdded, Fails, Leaves}
 use Rattle.fsfs_job_run.specs.Running.{HasOutsideCause}
 
 -- what a commit of the transaction answers, by the flat model: it is added, or clashes; or all numbers of revisions were given

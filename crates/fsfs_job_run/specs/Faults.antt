@@ -2,17 +2,17 @@
 use Rattle.fsfs_revision.specs.declared.wrong.Wrong.{Wrong}
 use Rattle.fsfs_revision.specs.declared.wrong.Wrong.TheVariants as wrongs
 use Rattle.fsfs_revision.specs.declared.wrong.Refusal.TheVariants as refusals
-use Rattle.fsfs_cli.specs.FaultsFaults.{fault_from_wrong}
-use Rattle.fsfs_cli.specs.declared.faults_fault.Fault.{Fault}
-use Rattle.fsfs_cli.specs.declared.faults_fault.Fault.TheVariants.{Request, Repository, Outside, Memory, Limit}
-use Rattle.fsfs_cli.specs.declared.request_fault.RequestFault.TheVariants as requests
-use Rattle.fsfs_cli.specs.declared.repository_fault.RepositoryFault.TheVariants as repositories
-use Rattle.fsfs_cli.specs.declared.outside_fault.OutsideFault.TheVariants as outside
-use Rattle.fsfs_cli.specs.declared.limit_fault.LimitFault.TheVariants as limits
+use Rattle.fsfs_cli.specs.CommandFaults.{fault_from_wrong}
+use Rattle.fsfs_cli.specs.declared.faults.fault.Fault.{Fault}
+use Rattle.fsfs_cli.specs.declared.faults.fault.Fault.TheVariants.{Request, Repository, Outside, Memory, Limit}
+use Rattle.fsfs_cli.specs.declared.faults.request_fault.RequestFault.TheVariants as requests
+use Rattle.fsfs_cli.specs.declared.faults.repository_fault.RepositoryFault.TheVariants as repositories
+use Rattle.fsfs_cli.specs.declared.faults.outside_fault.OutsideFault.TheVariants as outside
+use Rattle.fsfs_cli.specs.declared.faults.limit_fault.LimitFault.TheVariants as limits
 use Rattle.fsfs_repo.specs.BeginFault.{BeginFault}
 use Rattle.fsfs_repo.specs.BeginFault.TheVariants as begin
-use Rattle.fsfs_repo.specs.declared.answers.CommitBar.{CommitBar}
-use Rattle.fsfs_repo.specs.declared.answers.CommitBar.TheVariants as bars
+use Rattle.fsfs_repo.specs.declared.txns.answers.CommitBar.{CommitBar}
+use Rattle.fsfs_repo.specs.declared.txns.answers.CommitBar.TheVariants as bars
 use Rattle.fsfs_jobs.specs.declared.answer.JobAnswer.{JobAnswer}
 use Rattle.fsfs_jobs.specs.declared.answer.JobAnswer.TheVariants.{Conflict, Stopped}
 use Rattle.std.specs.Prelude.{ℕ}

@@ -1,10 +1,10 @@
 -- Jobs one after another, over histories.
 use Rattle.std.specs.Prelude.{◌≡◌, ◌⊎◌, ◌≤◌, ◌+◌, ◌++◌, ℕ, List, [], ◌∷◌, length}
 use Rattle.fsfs_tree.specs.Revisions.{Revision}
-use Rattle.fsfs_script.specs.declared.job.Job.{Job}
+use Rattle.fsfs_script.specs.declared.job_lines.job.Job.{Job}
 use Rattle.fsfs_jobs.specs.Serial.{last_name}
 use Rattle.fsfs_jobs.specs.declared.answer.JobAnswer.{JobAnswer}
-use Rattle.fsfs_job_run.specs.Jobs.{DoesJob, Fails, NoneFails, IsSerialAt, own_of_all}
+use Rattle.fsfs_job_run.specs.Serial.Jobs.{DoesJob, Fails, NoneFails, IsSerialAt, own_of_all}
 
 -- a job is done by the definition of jobs over the history; or it failed, and nothing was added
 abbrev pub EndsJob : ℕ → List Revision → Job → JobAnswer → List Revision → Type 0

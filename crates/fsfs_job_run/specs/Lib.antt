@@ -1,13 +1,6 @@
 pub mod TextReads
-pub mod Jobs
-pub mod Laws
-pub mod Trees
-pub mod Clashes
-pub mod Listed
-pub mod Beside
-pub mod Lines
-pub mod Passes
-pub mod BesideLaws
+pub mod Serial
+pub mod Workers
 pub mod Faults
 pub mod Running
 pub mod Ending

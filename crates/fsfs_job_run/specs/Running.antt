@@ -1,6 +1,6 @@
 -- What a job does over a repository that runs.
 use Rattle.std.specs.Prelude.{◌≡◌, ◌<◌, ◌++◌, ◌∷◌, ℕ, List, [], true, None, Some}
-use Rattle.fsfs_base.specs.declared.txn_name.TxnName.{TxnName}
+use Rattle.fsfs_base.specs.declared.fields.txn_name.TxnName.{TxnName}
 use Rattle.fsfs_tree.specs.Revisions.{tree_of}
 use Rattle.fsfs_tree.specs.Dated.{last_of}
 use Rattle.fsfs_machine.specs.declared.machine.Recorded.{Recorded}
@@ -8,22 +8,22 @@ use Rattle.fsfs_machine.specs.Machine.{revisions}
 use Rattle.fsfs_turn.specs.Bytes.{bytes_of}
 use Rattle.fsfs_turn.specs.Alone.{BringsNoDoubt, are_harmless}
 use Rattle.fsfs_turn.specs.Views.{View}
-use Rattle.fsfs_script.specs.declared.job.Base.{Base}
-use Rattle.fsfs_script.specs.declared.job.Base.TheVariants.{Number}
-use Rattle.fsfs_script.specs.declared.job.CommitJob.{CommitJob}
-use Rattle.fsfs_script.specs.declared.job.Job.{Job}
-use Rattle.fsfs_script.specs.declared.job.Job.TheVariants as jobs
-use Rattle.fsfs_cli.specs.declared.faults_fault.Fault.{Fault}
-use Rattle.fsfs_cli.specs.declared.faults_fault.Fault.TheVariants.{Request, Outside}
-use Rattle.fsfs_cli.specs.declared.request_fault.RequestFault.TheVariants.{NoRev, Mergeinfo}
-use Rattle.fsfs_cli.specs.declared.outside_fault.OutsideFault.TheVariants as outside
+use Rattle.fsfs_script.specs.declared.job_lines.job.Base.{Base}
+use Rattle.fsfs_script.specs.declared.job_lines.job.Base.TheVariants.{Number}
+use Rattle.fsfs_script.specs.declared.job_lines.job.CommitJob.{CommitJob}
+use Rattle.fsfs_script.specs.declared.job_lines.job.Job.{Job}
+use Rattle.fsfs_script.specs.declared.job_lines.job.Job.TheVariants as jobs
+use Rattle.fsfs_cli.specs.declared.faults.fault.Fault.{Fault}
+use Rattle.fsfs_cli.specs.declared.faults.fault.Fault.TheVariants.{Request, Outside}
+use Rattle.fsfs_cli.specs.declared.faults.request_fault.RequestFault.TheVariants.{NoRev, Mergeinfo}
+use Rattle.fsfs_cli.specs.declared.faults.outside_fault.OutsideFault.TheVariants as outside
 use Rattle.fsfs_jobs.specs.Edits.{StopsAt}
 use Rattle.fsfs_jobs.specs.Serial.{base_of}
 use Rattle.fsfs_jobs.specs.declared.answer.JobAnswer.{JobAnswer}
 use Rattle.fsfs_jobs.specs.declared.answer.JobAnswer.TheVariants.{Stopped}
-use Rattle.fsfs_jobs.specs.Editing.{Bars}
+use Rattle.fsfs_jobs.specs.JobEdits.Editing.{Bars}
 use Rattle.fsfs_job_run.specs.TextReads.{IfAnswerFails}
-use Rattle.fsfs_job_run.specs.Jobs.{RunsJob, RunJobs, StuckBehindDoubt}
+use Rattle.fsfs_job_run.specs.Serial.Jobs.{RunsJob, RunJobs, StuckBehindDoubt}
 
 -- Why the outside is told to have failed: the count rose, or the lock is stuck there. The failures of benches are counted apart.
 abbrev pub HasOutsideCause : Type 0 → View → JobAnswer → Type 0

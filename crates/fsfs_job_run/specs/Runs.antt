@@ -10,23 +10,23 @@ use Rattle.fsfs_base.specs.Streams.{Adds}
 use Rattle.fsfs_base.specs.Output.{AddsFront}
 use Rattle.fsfs_stands.specs.Files.{StandsFor}
 use Rattle.fsfs_repo.specs.OpenFaults.{OpensBecause}
-use Rattle.fsfs_base.specs.declared.open_fault.OpenFault.{OpenFault}
+use Rattle.fsfs_base.specs.declared.places.open_fault.OpenFault.{OpenFault}
 use Rattle.fsfs_machine.specs.declared.machine.Recorded.{Recorded}
 use Rattle.fsfs_machine.specs.Machine.{revisions}
 use Rattle.fsfs_turn.specs.Opening.{LeftoversAgree}
 use Rattle.fsfs_turn.specs.Whole.{HasHistory, HasRevision, NamesFrom}
-use Rattle.fsfs_script.specs.declared.job.Job.{Job}
+use Rattle.fsfs_script.specs.declared.job_lines.job.Job.{Job}
 use Rattle.fsfs_script.specs.Errors.{IfReadFault}
 use Rattle.fsfs_script.specs.Whole.{ReadsScript, EndsSource}
 use Rattle.fsfs_script.specs.declared.script_error.ScriptError.{ScriptError}
-use Rattle.fsfs_cli.specs.FaultsFaults.{fault_from_open, fault_from_script}
-use Rattle.fsfs_cli.specs.declared.faults_fault.Fault.{Fault}
-use Rattle.fsfs_cli.specs.declared.faults_fault.Fault.TheVariants.{Outside, Memory}
-use Rattle.fsfs_cli.specs.declared.outside_fault.OutsideFault.TheVariants.{Write}
+use Rattle.fsfs_cli.specs.CommandFaults.{fault_from_open, fault_from_script}
+use Rattle.fsfs_cli.specs.declared.faults.fault.Fault.{Fault}
+use Rattle.fsfs_cli.specs.declared.faults.fault.Fault.TheVariants.{Outside, Memory}
+use Rattle.fsfs_cli.specs.declared.faults.outside_fault.OutsideFault.TheVariants.{Write}
 use Rattle.fsfs_jobs.specs.Lines.{greatest_status, run_text}
 use Rattle.fsfs_jobs.specs.declared.answer.JobAnswer.{JobAnswer}
-use Rattle.fsfs_job_run.specs.Jobs.{StuckBehindDoubt, TellNoDoubt, bench_faults_in}
-use Rattle.fsfs_job_run.specs.Listed.{LeavesListed}
+use Rattle.fsfs_job_run.specs.Serial.Jobs.{StuckBehindDoubt, TellNoDoubt, bench_faults_in}
+use Rattle.fsfs_job_run.specs.Serial.Listed.{LeavesListed}
 use Rattle.fsfs_job_run.specs.Running.{IfAnyFails}
 use Rattle.fsfs_job_run.specs.Histories.{DidScript}
 

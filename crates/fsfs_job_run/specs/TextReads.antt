@@ -9,12 +9,12 @@ use Rattle.fsfs_stands.specs.Texts.{Whole, Refused}
 use Rattle.fsfs_stands.specs.FileTexts.{FileText}
 use Rattle.fsfs_look.specs.declared.look_error.LookError.{LookError}
 use Rattle.fsfs_look.specs.declared.look_error.LookError.TheVariants as errors
-use Rattle.fsfs_base.specs.declared.place.DiskPlace.TheVariants as places
-use Rattle.fsfs_cli.specs.FaultsFaults.{IsFromLook}
-use Rattle.fsfs_cli.specs.declared.faults_fault.Fault.{Fault}
-use Rattle.fsfs_cli.specs.declared.faults_fault.Fault.TheVariants.{Outside, Memory}
-use Rattle.fsfs_cli.specs.declared.outside_fault.OutsideFault.TheVariants as outside
-use Rattle.fsfs_script.specs.declared.job.ReadJob.{ReadJob}
+use Rattle.fsfs_base.specs.declared.places.place.DiskPlace.TheVariants as places
+use Rattle.fsfs_cli.specs.CommandFaults.{IsFromLook}
+use Rattle.fsfs_cli.specs.declared.faults.fault.Fault.{Fault}
+use Rattle.fsfs_cli.specs.declared.faults.fault.Fault.TheVariants.{Outside, Memory}
+use Rattle.fsfs_cli.specs.declared.faults.outside_fault.OutsideFault.TheVariants as outside
+use Rattle.fsfs_script.specs.declared.job_lines.job.ReadJob.{ReadJob}
 use Rattle.fsfs_jobs.specs.Serial.{IsReadOf}
 use Rattle.fsfs_jobs.specs.declared.answer.TextRead.{TextRead}
 use Rattle.fsfs_jobs.specs.declared.answer.JobAnswer.{JobAnswer}

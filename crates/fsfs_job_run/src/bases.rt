@@ -1,8 +1,8 @@
 //! The revision that a job is about.
 ghost use Rattle.std.specs.Prelude.{◌≡◌, ◌≤◌, ◌<◌, ℕ, None, IfOk, IfErr};
 ghost use Rattle.fsfs_tree.specs.Dated.{last_of};
-ghost use Rattle.fsfs_cli.specs.declared.faults_fault.Fault.TheVariants.{Request};
-ghost use Rattle.fsfs_cli.specs.declared.request_fault.RequestFault.TheVariants.{NoRev};
+ghost use Rattle.fsfs_cli.specs.declared.faults.fault.Fault.TheVariants.{Request};
+ghost use Rattle.fsfs_cli.specs.declared.faults.request_fault.RequestFault.TheVariants.{NoRev};
 ghost use Rattle.fsfs_machine.specs.Machine.{revisions};
 ghost use Rattle.fsfs_turn.specs.Views.{View};
 ghost use Rattle.fsfs_jobs.specs.Serial.{base_of};

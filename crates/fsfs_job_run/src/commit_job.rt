@@ -9,12 +9,12 @@ ghost use Rattle.fsfs_turn.specs.Bytes.{bytes_of};
 ghost use Rattle.fsfs_turn.specs.Mountings.{RoseBy};
 ghost use Rattle.fsfs_turn.specs.Views.{View};
 ghost use Rattle.fsfs_repo.specs.BeginLabels.{IsUnlisted};
-ghost use Rattle.fsfs_disk.specs.Txns.{pair_of, txn_label};
+ghost use Rattle.fsfs_disk.specs.Transactions.Txns.{pair_of, txn_label};
 ghost use Rattle.fsfs_repo.specs.TxnStanding.{Stands};
-ghost use Rattle.fsfs_jobs.specs.Editing.{AreEditing, IfBench, IfDisk};
+ghost use Rattle.fsfs_jobs.specs.JobEdits.Editing.{AreEditing, IfBench, IfDisk};
 ghost use Rattle.fsfs_job_run.specs.TextReads.{IfAnswerFails};
-ghost use Rattle.fsfs_job_run.specs.Jobs.{bench_told};
-ghost use Rattle.fsfs_job_run.specs.Listed.{LeavesListed};
+ghost use Rattle.fsfs_job_run.specs.Serial.Jobs.{bench_told};
+ghost use Rattle.fsfs_job_run.specs.Serial.Listed.{LeavesListed};
 ghost use Rattle.fsfs_job_run.specs.Running.{CommitsSo};
 ghost use Rattle.fsfs_jobs.specs.Serial.{base_of as base_in};
 

@@ -9,14 +9,14 @@ ghost use Rattle.fsfs_turn.specs.Mountings.{RoseBy};
 ghost use Rattle.fsfs_turn.specs.Views.{View};
 ghost use Rattle.fsfs_turn.specs.Alone.{BringsNoDoubt};
 ghost use Rattle.fsfs_repo.specs.BeginLabels.{IsUnlisted};
-ghost use Rattle.fsfs_disk.specs.Txns.{pair_of, txn_label};
+ghost use Rattle.fsfs_disk.specs.Transactions.Txns.{pair_of, txn_label};
 ghost use Rattle.fsfs_repo.specs.Meaning.{IsTxnOf};
-ghost use Rattle.fsfs_cli.specs.declared.faults_fault.Fault.TheVariants.{Outside};
+ghost use Rattle.fsfs_cli.specs.declared.faults.fault.Fault.TheVariants.{Outside};
 ghost use Rattle.fsfs_jobs.specs.declared.answer.JobAnswer.TheVariants.{Stopped};
 ghost use Rattle.fsfs_jobs.specs.Properties.{undated_properties};
 ghost use Rattle.fsfs_job_run.specs.Faults.{fault_of_merge, answer_of_bar};
 ghost use Rattle.fsfs_job_run.specs.TextReads.{IfAnswerFails};
-ghost use Rattle.fsfs_job_run.specs.Jobs.{bench_told};
+ghost use Rattle.fsfs_job_run.specs.Serial.Jobs.{bench_told};
 ghost use Rattle.fsfs_job_run.specs.Running.{IsNoRequest, Stays};
 ghost use Rattle.fsfs_job_run.specs.Ending.{EndsSo};
 

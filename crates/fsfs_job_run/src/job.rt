@@ -3,14 +3,14 @@ ghost use Rattle.std.specs.Prelude.{◌≡◌, ◌⊎◌, ◌≤◌, None};
 ghost use Rattle.fsfs_base.specs.Failures.{Rose};
 ghost use Rattle.fsfs_turn.specs.Mountings.{RoseBy};
 ghost use Rattle.fsfs_turn.specs.Views.{View};
-ghost use Rattle.fsfs_repo.specs.Crashes.{CrashesLeave};
+ghost use Rattle.fsfs_repo.specs.Owned.Crashes.{CrashesLeave};
 ghost use Rattle.fsfs_job_run.specs.TextReads.{IfAnswerFails};
-ghost use Rattle.fsfs_job_run.specs.Jobs.{bench_told};
-ghost use Rattle.fsfs_job_run.specs.Listed.{LeavesListed};
+ghost use Rattle.fsfs_job_run.specs.Serial.Jobs.{bench_told};
+ghost use Rattle.fsfs_job_run.specs.Serial.Listed.{LeavesListed};
 ghost use Rattle.fsfs_job_run.specs.Running.{DoesSo, IfCounted, StopsOver};
 
 use crate::commit_job::commit_job;
-use crate::job_run_read_text::read_text;
+use crate::reads::base_text::read_text;
 use fsfs_base::Gate;
 use fsfs_disk::Disk;
 use fsfs_jobs::JobAnswer;

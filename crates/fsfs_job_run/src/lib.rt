@@ -7,36 +7,31 @@
 
 mod bases;
 mod begin_faults;
-mod beside_laws;
 mod commit_job;
 mod ending;
 mod job;
-mod job_gate;
-mod job_reads_reading;
-mod job_run_read_text;
-mod jobs;
-mod laws;
-mod output;
+mod reads;
 mod run;
 mod running;
-mod statuses;
+mod serial;
+mod worker_laws;
 
 pub use bases::numbered;
 pub use begin_faults::of_begin;
-pub use beside_laws::{
-    a_job_alone_is_one_beside_others, lines_of_workers_hold, lines_of_workers_stay, lines_stay,
-    work_goes_on,
-};
 pub use ending::{barred, stopped};
 pub use job::do_job;
-pub use job_gate::JobGate;
-pub use job_reads_reading::read_text;
-pub use jobs::read_job;
-pub use laws::{
+pub use reads::jobs::read_job;
+pub use reads::text::read_text;
+pub use run::run_jobs;
+pub use running::{JobsDone, run_script, tell};
+pub use serial::job_gate::JobGate;
+pub use serial::laws::{
     edited_trees_are_maps, landed_clashes_are_clashes, listed_were_listed, runs_are_serial,
     runs_go_on, runs_grow,
 };
-pub use output::print_run;
-pub use run::run_jobs;
-pub use running::{JobsDone, run_script, tell};
-pub use statuses::greatest_status;
+pub use serial::output::print_run;
+pub use serial::statuses::greatest_status;
+pub use worker_laws::{
+    a_job_alone_is_one_beside_others, lines_of_workers_hold, lines_of_workers_stay, lines_stay,
+    work_goes_on,
+};

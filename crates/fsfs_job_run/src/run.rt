@@ -3,9 +3,9 @@ ghost use Rattle.std.specs.Prelude.{◌≡◌, ◌⊎◌, ◌≤◌, None, lengt
 ghost use Rattle.fsfs_base.specs.Failures.{Rose};
 ghost use Rattle.fsfs_turn.specs.Mountings.{RoseBy};
 ghost use Rattle.fsfs_turn.specs.Views.{View};
-ghost use Rattle.fsfs_repo.specs.Crashes.{CrashesLeave};
-ghost use Rattle.fsfs_job_run.specs.Jobs.{bench_faults_in};
-ghost use Rattle.fsfs_job_run.specs.Listed.{LeavesListed};
+ghost use Rattle.fsfs_repo.specs.Owned.Crashes.{CrashesLeave};
+ghost use Rattle.fsfs_job_run.specs.Serial.Jobs.{bench_faults_in};
+ghost use Rattle.fsfs_job_run.specs.Serial.Listed.{LeavesListed};
 ghost use Rattle.fsfs_job_run.specs.Running.{DoAll, IfAnyFails};
 
 use crate::JobGate;

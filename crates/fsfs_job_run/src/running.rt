@@ -6,8 +6,8 @@ ghost use Rattle.fsfs_machine.specs.Machine.{revisions};
 ghost use Rattle.fsfs_turn.specs.Alone.{are_harmless};
 ghost use Rattle.fsfs_turn.specs.Mountings.{RoseBy};
 ghost use Rattle.fsfs_turn.specs.Views.{View};
-ghost use Rattle.fsfs_job_run.specs.Jobs.{bench_faults_in};
-ghost use Rattle.fsfs_job_run.specs.Listed.{LeavesListed};
+ghost use Rattle.fsfs_job_run.specs.Serial.Jobs.{bench_faults_in};
+ghost use Rattle.fsfs_job_run.specs.Serial.Listed.{LeavesListed};
 ghost use Rattle.fsfs_job_run.specs.Running.{IfAnyFails};
 ghost use Rattle.fsfs_job_run.specs.Runs.{run_scene, PrintsRun, Ran, RunsScript};
 

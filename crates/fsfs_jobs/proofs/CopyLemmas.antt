@@ -9,39 +9,39 @@ use Rattle.fsfs_base.specs.declared.kind.Kind.TheVariants.{Dir}
 use Rattle.fsfs_tree.specs.Nodes.{Node, TreeFunction}
 use Rattle.fsfs_tree.specs.Trees.{IsTree}
 use Rattle.fsfs_tree.specs.Histories.{AreRevisions}
-use Rattle.fsfs_model.specs.Edits.{parent, can_make}
-use Rattle.fsfs_model.specs.Transactions.{Begun}
-use Rattle.fsfs_model.specs.declared.mark.Mark.{Mark}
+use Rattle.fsfs_model.specs.Flat.Edits.{parent, can_make}
+use Rattle.fsfs_model.specs.Flat.Transactions.{Begun}
+use Rattle.fsfs_model.specs.declared.flat.mark.Mark.{Mark}
 use Rattle.fsfs_model.proofs.Legal.{landing_leaves_a_tree}
-use Rattle.fsfs_base.specs.RevNums.{last_rev}
-use Rattle.fsfs_base.specs.declared.txn_name.TxnName.{TxnName}
+use Rattle.fsfs_base.specs.Fields.RevNums.{last_rev}
+use Rattle.fsfs_base.specs.declared.fields.txn_name.TxnName.{TxnName}
 use Rattle.fsfs_tree.specs.Answers.{found_at}
 use Rattle.fsfs_revision.specs.Told.{RevisionBytes}
 use Rattle.fsfs_noderev.specs.declared.node_rev.CopySource.{CopySource}
-use Rattle.fsfs_revision.specs.ByTree.{LacksAt, IsBlockedAt}
+use Rattle.fsfs_revision.specs.Shows.ByTree.{LacksAt, IsBlockedAt}
 use Rattle.fsfs_draft.specs.Own.{Own}
 use Rattle.fsfs_draft.specs.Drafts.{Folder}
 use Rattle.fsfs_draft.specs.Walks.{HasKind}
 use Rattle.fsfs_draft.proofs.OwnEntries.{has_kind}
 use Rattle.fsfs_txn.specs.Spending.{IfStays, IsFailure}
 use Rattle.fsfs_txn.specs.Standing.{Stands, IsFree}
-use Rattle.fsfs_txn.specs.Copying.{IsCopying, MeetsEither}
+use Rattle.fsfs_txn.specs.Edits.Copying.{IsCopying, MeetsEither}
 use Rattle.fsfs_txn.specs.Opening.{IsOpeningPath}
 use Rattle.fsfs_txn.specs.declared.txn_error.TxnError.{TxnError}
-use Rattle.fsfs_txn.specs.declared.copying.Copied.{Copied}
-use Rattle.fsfs_txn.specs.declared.copying.Copied.TheVariants as copies
+use Rattle.fsfs_txn.specs.declared.edits.copying.Copied.{Copied}
+use Rattle.fsfs_txn.specs.declared.edits.copying.Copied.TheVariants as copies
 use Rattle.fsfs_txn.specs.declared.opening.Opened.{Opened}
 use Rattle.fsfs_txn.specs.declared.opening.PathOpened.TheVariants as paths
 use Rattle.fsfs_txn.proofs.Meeting.{is_tree}
-use Rattle.fsfs_script.specs.declared.edit.CopyFrom.{CopyFrom}
-use Rattle.fsfs_script.specs.declared.edit.Edit.TheVariants.{Copy}
-use Rattle.fsfs_cli.specs.declared.faults_fault.Fault.{Fault}
-use Rattle.fsfs_cli.specs.declared.faults_fault.Fault.TheVariants.{Words, Request, Repository, Outside, Memory, Limit}
-use Rattle.fsfs_cli.specs.declared.request_fault.RequestFault.TheVariants.{NoRev}
-use Rattle.fsfs_cli.specs.declared.limit_fault.LimitFault.TheVariants.{TooManyEntries}
+use Rattle.fsfs_script.specs.declared.job_lines.edit.CopyFrom.{CopyFrom}
+use Rattle.fsfs_script.specs.declared.job_lines.edit.Edit.TheVariants.{Copy}
+use Rattle.fsfs_cli.specs.declared.faults.fault.Fault.{Fault}
+use Rattle.fsfs_cli.specs.declared.faults.fault.Fault.TheVariants.{Words, Request, Repository, Outside, Memory, Limit}
+use Rattle.fsfs_cli.specs.declared.faults.request_fault.RequestFault.TheVariants.{NoRev}
+use Rattle.fsfs_cli.specs.declared.faults.limit_fault.LimitFault.TheVariants.{TooManyEntries}
 use Rattle.fsfs_jobs.specs.Edits.{or_else, unfound, no_rev, make_fault, copy_fault, ByTrees, Full}
-use Rattle.fsfs_jobs.specs.Answers.{fault_of_failure, copied_fault, found_nothing, found_file, is_there, counts_mergeinfo, IsOrMemory, Tells}
-use Rattle.fsfs_jobs.specs.Editing.{IfRefused, Bars, IsEditing, IsNoRev, MeetsMergeinfo}
+use Rattle.fsfs_jobs.specs.JobEdits.Answers.{fault_of_failure, copied_fault, found_nothing, found_file, is_there, counts_mergeinfo, IsOrMemory, Tells}
+use Rattle.fsfs_jobs.specs.JobEdits.Editing.{IfRefused, Bars, IsEditing, IsNoRev, MeetsMergeinfo}
 use Rattle.fsfs_jobs.proofs.TellLemmas.{stays_refused, failure_refused, or_memory, failed_as}
 use Rattle.fsfs_jobs.proofs.MakeLemmas.{can_free, free_fits, lacks_make, file_make, there_make, there_found, lacks_unfound, file_unfound, above_length, lacks_in_parent, blocked_make}
 

@@ -7,9 +7,9 @@ use Rattle.fsfs_base.specs.declared.kind.Kind.TheVariants.{File, Dir}
 use Rattle.fsfs_tree.specs.Nodes.{Node, TreeFunction}
 use Rattle.fsfs_tree.specs.Trees.{IsTree}
 use Rattle.fsfs_tree.specs.Histories.{AreRevisions}
-use Rattle.fsfs_model.specs.Edits.{parent}
-use Rattle.fsfs_model.specs.declared.mark.Mark.{Mark}
-use Rattle.fsfs_base.specs.declared.txn_name.TxnName.{TxnName}
+use Rattle.fsfs_model.specs.Flat.Edits.{parent}
+use Rattle.fsfs_model.specs.declared.flat.mark.Mark.{Mark}
+use Rattle.fsfs_base.specs.declared.fields.txn_name.TxnName.{TxnName}
 use Rattle.fsfs_revision.specs.Told.{RevisionBytes}
 use Rattle.fsfs_draft.specs.Own.{Own}
 use Rattle.fsfs_draft.specs.Drafts.{Folder}
@@ -17,22 +17,22 @@ use Rattle.fsfs_tree.specs.Answers.{found_at}
 use Rattle.fsfs_edit.specs.Ways.{IsNoDirectory}
 use Rattle.fsfs_txn.specs.Spending.{IfStays}
 use Rattle.fsfs_txn.specs.Standing.{Stands}
-use Rattle.fsfs_txn.specs.Making.{IsMaking}
-use Rattle.fsfs_txn.specs.Deleting.{IsDeleting}
+use Rattle.fsfs_txn.specs.Edits.Making.{IsMaking}
+use Rattle.fsfs_txn.specs.Edits.Deleting.{IsDeleting}
 use Rattle.fsfs_txn.specs.declared.txn_error.TxnError.{TxnError}
-use Rattle.fsfs_txn.specs.declared.making.Made.{Made}
-use Rattle.fsfs_txn.specs.declared.making.Made.TheVariants as mades
-use Rattle.fsfs_txn.specs.declared.deleting.Deleted.{Deleted}
-use Rattle.fsfs_txn.specs.declared.deleting.Deleted.TheVariants as deletes
+use Rattle.fsfs_txn.specs.declared.edits.making.Made.{Made}
+use Rattle.fsfs_txn.specs.declared.edits.making.Made.TheVariants as mades
+use Rattle.fsfs_txn.specs.declared.edits.deleting.Deleted.{Deleted}
+use Rattle.fsfs_txn.specs.declared.edits.deleting.Deleted.TheVariants as deletes
 use Rattle.fsfs_txn.proofs.Meeting.{is_tree}
-use Rattle.fsfs_script.specs.declared.edit.Edit.TheVariants.{MakeDir, MakeFile, Delete}
-use Rattle.fsfs_cli.specs.declared.faults_fault.Fault.{Fault}
-use Rattle.fsfs_cli.specs.declared.faults_fault.Fault.TheVariants.{Request, Limit}
-use Rattle.fsfs_cli.specs.declared.request_fault.RequestFault.TheVariants.{NotFound, RootFixed}
-use Rattle.fsfs_cli.specs.declared.limit_fault.LimitFault.TheVariants.{TooManyEntries}
+use Rattle.fsfs_script.specs.declared.job_lines.edit.Edit.TheVariants.{MakeDir, MakeFile, Delete}
+use Rattle.fsfs_cli.specs.declared.faults.fault.Fault.{Fault}
+use Rattle.fsfs_cli.specs.declared.faults.fault.Fault.TheVariants.{Request, Limit}
+use Rattle.fsfs_cli.specs.declared.faults.request_fault.RequestFault.TheVariants.{NotFound, RootFixed}
+use Rattle.fsfs_cli.specs.declared.faults.limit_fault.LimitFault.TheVariants.{TooManyEntries}
 use Rattle.fsfs_jobs.specs.Edits.{or_else, unfound, root_fixed, delete_fault, ByTrees, Full}
-use Rattle.fsfs_jobs.specs.Answers.{fault_of_failure, made_fault, deleted_fault, found_nothing, found_file, is_there, counts_mergeinfo, Tells}
-use Rattle.fsfs_jobs.specs.Editing.{Bars, IsEditing}
+use Rattle.fsfs_jobs.specs.JobEdits.Answers.{fault_of_failure, made_fault, deleted_fault, found_nothing, found_file, is_there, counts_mergeinfo, Tells}
+use Rattle.fsfs_jobs.specs.JobEdits.Editing.{Bars, IsEditing}
 use Rattle.fsfs_jobs.proofs.TellLemmas.{stays_refused, or_memory, failed_as}
 use Rattle.fsfs_jobs.proofs.MakeLemmas.{can_free, free_fits, lacks_make, file_make, there_make, there_found, lacks_above_unfound, file_above_unfound, free_unfound, above_length}
 

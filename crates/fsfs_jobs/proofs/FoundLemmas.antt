@@ -10,7 +10,7 @@ use Rattle.fsfs_base.proofs.PathLemmas.{covers-longer, covers-length}
 use Rattle.fsfs_tree.specs.Nodes.{Node, TreeFunction}
 use Rattle.fsfs_tree.specs.Trees.{IsTree}
 use Rattle.fsfs_tree.specs.Answers.{Stands, Lacking, Blocked, through, found_from, found_at}
-use Rattle.fsfs_revision.specs.ByTree.{LacksAt, IsBlockedAt}
+use Rattle.fsfs_revision.specs.Shows.ByTree.{LacksAt, IsBlockedAt}
 
 -- ---- paths
 

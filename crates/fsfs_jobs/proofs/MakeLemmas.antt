@@ -8,19 +8,19 @@ use Rattle.fsfs_base.specs.declared.kind.Kind.{Kind}
 use Rattle.fsfs_base.specs.declared.kind.Kind.TheVariants.{File, Dir}
 use Rattle.fsfs_tree.specs.Nodes.{Node, TreeFunction}
 use Rattle.fsfs_tree.specs.Trees.{IsTree}
-use Rattle.fsfs_model.specs.Edits.{parent, is_dir, is_dir_node, can_make}
+use Rattle.fsfs_model.specs.Flat.Edits.{parent, is_dir, is_dir_node, can_make}
 use Rattle.fsfs_tree.specs.Answers.{Found, Lacking, Blocked, found_at}
 use Rattle.fsfs_draft.specs.Walks.{HasKind}
 use Rattle.fsfs_draft.proofs.OwnEntries.{has_kind}
-use Rattle.fsfs_revision.specs.ByTree.{LacksAt, IsBlockedAt}
+use Rattle.fsfs_revision.specs.Shows.ByTree.{LacksAt, IsBlockedAt}
 use Rattle.fsfs_edit.specs.Ways.{IsNoDirectory}
 use Rattle.fsfs_edit.proofs.Bare.{dir_kind}
 use Rattle.fsfs_txn.specs.Standing.{IsFree}
-use Rattle.fsfs_cli.specs.declared.faults_fault.Fault.{Fault}
-use Rattle.fsfs_cli.specs.declared.faults_fault.Fault.TheVariants.{Request}
-use Rattle.fsfs_cli.specs.declared.request_fault.RequestFault.TheVariants.{NotFound, NotDir}
+use Rattle.fsfs_cli.specs.declared.faults.fault.Fault.{Fault}
+use Rattle.fsfs_cli.specs.declared.faults.fault.Fault.TheVariants.{Request}
+use Rattle.fsfs_cli.specs.declared.faults.request_fault.RequestFault.TheVariants.{NotFound, NotDir}
 use Rattle.fsfs_jobs.specs.Edits.{or_else, unfound, no_dir, taken, make_fault}
-use Rattle.fsfs_jobs.specs.Answers.{found_nothing, found_file, is_there}
+use Rattle.fsfs_jobs.specs.JobEdits.Answers.{found_nothing, found_file, is_there}
 use Rattle.fsfs_jobs.proofs.FoundLemmas.{above_longer, cut_path, stands_found, lacks_found, blocked_found}
 
 -- ---- nodes

@@ -5,34 +5,34 @@ use Rattle.std.specs.Prelude.{Option, Some, None, is_some, if◌then◌else◌, 
 use Rattle.std.specs.Global.{Global}
 use Rattle.fsfs_base.specs.Paths.{Path}
 use Rattle.fsfs_base.specs.declared.kind.Kind.{Kind}
-use Rattle.fsfs_base.specs.declared.txn_name.TxnName.{TxnName}
+use Rattle.fsfs_base.specs.declared.fields.txn_name.TxnName.{TxnName}
 use Rattle.fsfs_tree.specs.Nodes.{TreeFunction}
 use Rattle.fsfs_tree.specs.Trees.{IsTree}
 use Rattle.fsfs_tree.specs.Histories.{AreRevisions}
-use Rattle.fsfs_model.specs.Edits.{kind_of_node, with_node, with_prop, bytes_of, fits_value}
-use Rattle.fsfs_model.specs.declared.mark.Mark.{Mark}
-use Rattle.fsfs_model.specs.declared.mark.What.TheVariants as whats
+use Rattle.fsfs_model.specs.Flat.Edits.{kind_of_node, with_node, with_prop, bytes_of, fits_value}
+use Rattle.fsfs_model.specs.declared.flat.mark.Mark.{Mark}
+use Rattle.fsfs_model.specs.declared.flat.mark.What.TheVariants as whats
 use Rattle.fsfs_revision.specs.Told.{RevisionBytes}
 use Rattle.fsfs_draft.specs.Drafts.{Folder}
 use Rattle.fsfs_draft.specs.Walks.{HasKind}
-use Rattle.fsfs_revision.specs.ByTree.{LacksAt, IsBlockedAt}
-use Rattle.fsfs_txn.specs.Mergeinfo.{Counts}
-use Rattle.fsfs_txn.specs.Properties.{is_mergeinfo, is_barred, IsSettingProp}
+use Rattle.fsfs_revision.specs.Shows.ByTree.{LacksAt, IsBlockedAt}
+use Rattle.fsfs_txn.specs.Edits.Mergeinfo.{Counts}
+use Rattle.fsfs_txn.specs.Edits.Properties.{is_mergeinfo, is_barred, IsSettingProp}
 use Rattle.fsfs_txn.specs.Standing.{Stands}
 use Rattle.fsfs_txn.specs.declared.txn_error.TxnError.{TxnError}
 use Rattle.fsfs_txn.specs.declared.opening.Opened.{Opened}
-use Rattle.fsfs_txn.specs.declared.properties.PropertySet.{PropertySet}
-use Rattle.fsfs_txn.specs.declared.properties.PropertySet.TheVariants as sets
+use Rattle.fsfs_txn.specs.declared.edits.properties.PropertySet.{PropertySet}
+use Rattle.fsfs_txn.specs.declared.edits.properties.PropertySet.TheVariants as sets
 use Rattle.fsfs_txn.proofs.Meeting.{is_tree}
-use Rattle.fsfs_script.specs.declared.edit.SetProp.{SetProp}
-use Rattle.fsfs_script.specs.declared.edit.Edit.TheVariants.{Prop}
-use Rattle.fsfs_cli.specs.declared.faults_fault.Fault.{Fault}
-use Rattle.fsfs_cli.specs.declared.faults_fault.Fault.TheVariants.{Words, Request, Repository, Outside, Memory, Limit}
-use Rattle.fsfs_cli.specs.declared.request_fault.RequestFault.TheVariants.{Mergeinfo}
-use Rattle.fsfs_cli.specs.declared.limit_fault.LimitFault.TheVariants.{PropTooLong}
+use Rattle.fsfs_script.specs.declared.job_lines.edit.SetProp.{SetProp}
+use Rattle.fsfs_script.specs.declared.job_lines.edit.Edit.TheVariants.{Prop}
+use Rattle.fsfs_cli.specs.declared.faults.fault.Fault.{Fault}
+use Rattle.fsfs_cli.specs.declared.faults.fault.Fault.TheVariants.{Words, Request, Repository, Outside, Memory, Limit}
+use Rattle.fsfs_cli.specs.declared.faults.request_fault.RequestFault.TheVariants.{Mergeinfo}
+use Rattle.fsfs_cli.specs.declared.faults.limit_fault.LimitFault.TheVariants.{PropTooLong}
 use Rattle.fsfs_jobs.specs.Edits.{or_else, no_mergeinfo, prop_fault, too_long, ByTrees, Long}
-use Rattle.fsfs_jobs.specs.Answers.{fault_of_left, fault_of_failure, property_fault, found_nothing, found_file, counts_mergeinfo, IsOrMemory, Tells}
-use Rattle.fsfs_jobs.specs.Editing.{IfRefused, Bars, IsEditing, MeetsOnWay, IsSetAt, RefusesProp, OfName, OfCount, OfValue}
+use Rattle.fsfs_jobs.specs.JobEdits.Answers.{fault_of_left, fault_of_failure, property_fault, found_nothing, found_file, counts_mergeinfo, IsOrMemory, Tells}
+use Rattle.fsfs_jobs.specs.JobEdits.Editing.{IfRefused, Bars, IsEditing, MeetsOnWay, IsSetAt, RefusesProp, OfName, OfCount, OfValue}
 use Rattle.fsfs_txn.specs.Spending.{IsFailure}
 use Rattle.fsfs_jobs.proofs.TellLemmas.{left_refused, failure_refused, or_memory, failed_as}
 use Rattle.fsfs_jobs.proofs.MakeLemmas.{there_found, lacks_unfound, file_unfound}

@@ -7,28 +7,28 @@ use Rattle.fsfs_base.specs.declared.failed.Failed.{Failed}
 use Rattle.fsfs_revision.specs.declared.wrong.Wrong.{Wrong}
 use Rattle.fsfs_revision.specs.declared.wrong.Wrong.TheVariants as wrongs
 use Rattle.fsfs_revision.specs.declared.wrong.Refusal.TheVariants as refusals
-use Rattle.fsfs_cli.specs.FaultsFaults.{fault_from_wrong}
-use Rattle.fsfs_cli.specs.declared.faults_fault.Fault.{Fault}
-use Rattle.fsfs_cli.specs.declared.faults_fault.Fault.TheVariants.{Words, Request, Repository, Outside, Memory, Limit}
+use Rattle.fsfs_cli.specs.CommandFaults.{fault_from_wrong}
+use Rattle.fsfs_cli.specs.declared.faults.fault.Fault.{Fault}
+use Rattle.fsfs_cli.specs.declared.faults.fault.Fault.TheVariants.{Words, Request, Repository, Outside, Memory, Limit}
 use Rattle.fsfs_draft.specs.declared.error.EditError.TheVariants as edits
 use Rattle.fsfs_txn.specs.Spending as spending
 use Rattle.fsfs_txn.specs.Spending.{IsSpentAfter}
-use Rattle.fsfs_txn.specs.Texts as txn_texts
+use Rattle.fsfs_txn.specs.Edits.Texts as txn_texts
 use Rattle.fsfs_txn.specs.declared.txn_error.TxnError.{TxnError}
 use Rattle.fsfs_txn.specs.declared.txn_error.TxnError.TheVariants as txns
-use Rattle.fsfs_txn.specs.declared.making.Made.{Made}
-use Rattle.fsfs_txn.specs.declared.making.Made.TheVariants as mades
-use Rattle.fsfs_txn.specs.declared.deleting.Deleted.{Deleted}
-use Rattle.fsfs_txn.specs.declared.deleting.Deleted.TheVariants as deletes
-use Rattle.fsfs_txn.specs.declared.copying.Copied.{Copied}
-use Rattle.fsfs_txn.specs.declared.copying.Copied.TheVariants as copies
-use Rattle.fsfs_txn.specs.declared.texts.TextSet.{TextSet}
-use Rattle.fsfs_txn.specs.declared.texts.TextSet.TheVariants as texts
-use Rattle.fsfs_txn.specs.declared.properties.PropertySet.{PropertySet}
-use Rattle.fsfs_txn.specs.declared.properties.PropertySet.TheVariants as sets
-use Rattle.fsfs_jobs.specs.Answers.{fault_of_failure, fault_of_left, made_fault, deleted_fault, copied_fault, text_fault, property_fault, IsOrMemory, IsTold, Tells}
-use Rattle.fsfs_cli.specs.declared.outside_fault.OutsideFault.TheVariants as outsides
-use Rattle.fsfs_jobs.specs.Editing.{IfRefused, IfDisk, IfBench, HasDiskCause, HasBenchCause}
+use Rattle.fsfs_txn.specs.declared.edits.making.Made.{Made}
+use Rattle.fsfs_txn.specs.declared.edits.making.Made.TheVariants as mades
+use Rattle.fsfs_txn.specs.declared.edits.deleting.Deleted.{Deleted}
+use Rattle.fsfs_txn.specs.declared.edits.deleting.Deleted.TheVariants as deletes
+use Rattle.fsfs_txn.specs.declared.edits.copying.Copied.{Copied}
+use Rattle.fsfs_txn.specs.declared.edits.copying.Copied.TheVariants as copies
+use Rattle.fsfs_txn.specs.declared.edits.texts.TextSet.{TextSet}
+use Rattle.fsfs_txn.specs.declared.edits.texts.TextSet.TheVariants as texts
+use Rattle.fsfs_txn.specs.declared.edits.properties.PropertySet.{PropertySet}
+use Rattle.fsfs_txn.specs.declared.edits.properties.PropertySet.TheVariants as sets
+use Rattle.fsfs_jobs.specs.JobEdits.Answers.{fault_of_failure, fault_of_left, made_fault, deleted_fault, copied_fault, text_fault, property_fault, IsOrMemory, IsTold, Tells}
+use Rattle.fsfs_cli.specs.declared.faults.outside_fault.OutsideFault.TheVariants as outsides
+use Rattle.fsfs_jobs.specs.JobEdits.Editing.{IfRefused, IfDisk, IfBench, HasDiskCause, HasBenchCause}
 
 -- ---- failures are no refusals
 

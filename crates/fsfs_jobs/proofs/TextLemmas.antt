@@ -8,30 +8,30 @@ use Rattle.fsfs_base.specs.Paths.{Path}
 use Rattle.fsfs_base.specs.declared.kind.Kind.{Kind}
 use Rattle.fsfs_base.proofs.PathLemmas.{same_path-refl}
 use Rattle.fsfs_base.specs.declared.kind.Kind.TheVariants.{File, Dir}
-use Rattle.fsfs_base.specs.declared.txn_name.TxnName.{TxnName}
+use Rattle.fsfs_base.specs.declared.fields.txn_name.TxnName.{TxnName}
 use Rattle.fsfs_tree.specs.Nodes.{Node, TreeFunction, empty_node}
-use Rattle.fsfs_model.specs.Edits.{parent, is_dir, with_node, with_text}
-use Rattle.fsfs_model.specs.declared.mark.Mark.{Mark}
-use Rattle.fsfs_model.specs.declared.mark.What.TheVariants as whats
+use Rattle.fsfs_model.specs.Flat.Edits.{parent, is_dir, with_node, with_text}
+use Rattle.fsfs_model.specs.declared.flat.mark.Mark.{Mark}
+use Rattle.fsfs_model.specs.declared.flat.mark.What.TheVariants as whats
 use Rattle.fsfs_revision.specs.Told.{RevisionBytes}
 use Rattle.fsfs_draft.specs.Drafts.{Folder}
 use Rattle.fsfs_draft.specs.Walks.{HasKind}
-use Rattle.fsfs_txn.specs.Mergeinfo.{Counts}
-use Rattle.fsfs_txn.specs.Texts.{IsPuttingText, IsTextPut as IsTxnText, IsTooLong}
+use Rattle.fsfs_txn.specs.Edits.Mergeinfo.{Counts}
+use Rattle.fsfs_txn.specs.Edits.Texts.{IsPuttingText, IsTextPut as IsTxnText, IsTooLong}
 use Rattle.fsfs_txn.specs.Standing.{Stands}
 use Rattle.fsfs_txn.specs.declared.txn_error.TxnError.{TxnError}
 use Rattle.fsfs_txn.specs.declared.opening.Opened.{Opened}
-use Rattle.fsfs_txn.specs.declared.texts.TextSet.{TextSet}
-use Rattle.fsfs_txn.specs.declared.texts.TextSet.TheVariants as texts
-use Rattle.fsfs_script.specs.declared.edit.PutText.{PutText}
-use Rattle.fsfs_script.specs.declared.edit.Edit.TheVariants.{MakeFile, Put}
-use Rattle.fsfs_cli.specs.declared.faults_fault.Fault.{Fault}
-use Rattle.fsfs_cli.specs.declared.faults_fault.Fault.TheVariants.{Request, Limit}
-use Rattle.fsfs_cli.specs.declared.request_fault.RequestFault.TheVariants.{NotFile}
-use Rattle.fsfs_cli.specs.declared.limit_fault.LimitFault.TheVariants.{TextTooLong}
+use Rattle.fsfs_txn.specs.declared.edits.texts.TextSet.{TextSet}
+use Rattle.fsfs_txn.specs.declared.edits.texts.TextSet.TheVariants as texts
+use Rattle.fsfs_script.specs.declared.job_lines.edit.PutText.{PutText}
+use Rattle.fsfs_script.specs.declared.job_lines.edit.Edit.TheVariants.{MakeFile, Put}
+use Rattle.fsfs_cli.specs.declared.faults.fault.Fault.{Fault}
+use Rattle.fsfs_cli.specs.declared.faults.fault.Fault.TheVariants.{Request, Limit}
+use Rattle.fsfs_cli.specs.declared.faults.request_fault.RequestFault.TheVariants.{NotFile}
+use Rattle.fsfs_cli.specs.declared.faults.limit_fault.LimitFault.TheVariants.{TextTooLong}
 use Rattle.fsfs_jobs.specs.Edits.{make_fault, put_fault, too_long, with_file, file_marks, grown_dir, HasSpaceFor, IsFullFor, Allows, ByTrees, Full, Long}
-use Rattle.fsfs_jobs.specs.Answers.{fault_of_left, fault_of_failure, text_fault, counts_mergeinfo, Tells}
-use Rattle.fsfs_jobs.specs.Editing.{IfRefused, Bars, IsEditing, MeetsOnWay, text_mark, IsTextPut, RefusesText, OfDir, OfCounts, OfLength, IsTextAt, RefusesTextOn, IsTextOn}
+use Rattle.fsfs_jobs.specs.JobEdits.Answers.{fault_of_left, fault_of_failure, text_fault, counts_mergeinfo, Tells}
+use Rattle.fsfs_jobs.specs.JobEdits.Editing.{IfRefused, Bars, IsEditing, MeetsOnWay, text_mark, IsTextPut, RefusesText, OfDir, OfCounts, OfLength, IsTextAt, RefusesTextOn, IsTextOn}
 use Rattle.fsfs_jobs.proofs.TellLemmas.{left_refused, or_memory, failed_as}
 use Rattle.fsfs_txn.specs.Spending.{IsFailure}
 use Rattle.fsfs_jobs.proofs.SetLemmas.{refused_more, memory_only, not_opened}

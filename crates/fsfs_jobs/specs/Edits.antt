@@ -3,18 +3,18 @@ use Rattle.std.specs.Prelude.{◌≡◌, ◌⊎◌, ℕ, ◌++◌, Bool, true, f
 use Rattle.fsfs_base.specs.Paths.{Path, is_root, same_name}
 use Rattle.fsfs_base.specs.declared.kind.Kind.TheVariants.{File, Dir}
 use Rattle.fsfs_tree.specs.Nodes.{Node, TreeFunction, empty_node}
-use Rattle.fsfs_model.specs.Edits.{is_dir, kind_of_node, parent, with_node, without, with_copy, with_text, with_prop, fits_value}
-use Rattle.fsfs_model.specs.declared.mark.Mark.{Mark}
-use Rattle.fsfs_model.specs.declared.mark.What.TheVariants as whats
+use Rattle.fsfs_model.specs.Flat.Edits.{is_dir, kind_of_node, parent, with_node, without, with_copy, with_text, with_prop, fits_value}
+use Rattle.fsfs_model.specs.declared.flat.mark.Mark.{Mark}
+use Rattle.fsfs_model.specs.declared.flat.mark.What.TheVariants as whats
 use Rattle.fsfs_tree.specs.Answers.{Found, Stands, Lacking, Blocked, found_at}
 use Rattle.fsfs_draft.specs.Names.{IsFull, HasSpace}
-use Rattle.fsfs_script.specs.declared.edit.Edit.{Edit}
-use Rattle.fsfs_script.specs.declared.edit.Edit.TheVariants.{MakeDir, MakeFile, Delete, Copy, Put, Prop}
-use Rattle.fsfs_script.specs.declared.job.Step.{Step}
-use Rattle.fsfs_cli.specs.declared.faults_fault.Fault.{Fault}
-use Rattle.fsfs_cli.specs.declared.faults_fault.Fault.TheVariants.{Request, Limit}
-use Rattle.fsfs_cli.specs.declared.request_fault.RequestFault.TheVariants.{NotFound, NotDir, NotFile, NoRev, Exists, RootFixed, Mergeinfo}
-use Rattle.fsfs_cli.specs.declared.limit_fault.LimitFault.TheVariants.{TextTooLong, PropTooLong, TooManyEntries}
+use Rattle.fsfs_script.specs.declared.job_lines.edit.Edit.{Edit}
+use Rattle.fsfs_script.specs.declared.job_lines.edit.Edit.TheVariants.{MakeDir, MakeFile, Delete, Copy, Put, Prop}
+use Rattle.fsfs_script.specs.declared.job_lines.job.Step.{Step}
+use Rattle.fsfs_cli.specs.declared.faults.fault.Fault.{Fault}
+use Rattle.fsfs_cli.specs.declared.faults.fault.Fault.TheVariants.{Request, Limit}
+use Rattle.fsfs_cli.specs.declared.faults.request_fault.RequestFault.TheVariants.{NotFound, NotDir, NotFile, NoRev, Exists, RootFixed, Mergeinfo}
+use Rattle.fsfs_cli.specs.declared.faults.limit_fault.LimitFault.TheVariants.{TextTooLong, PropTooLong, TooManyEntries}
 
 -- ---- the tree after an edit, over the trees of the revisions, and the marks that it adds
 

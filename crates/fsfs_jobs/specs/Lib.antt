@@ -3,5 +3,4 @@ pub mod Lines
 pub mod Pieces
 pub mod Properties
 pub mod Serial
-pub mod Answers
-pub mod Editing
+pub mod JobEdits

@@ -5,7 +5,7 @@ use Rattle.std.specs.Cmp.Lexicographic.{slice_cmp}
 use Rattle.std.specs.Ordering.{nat_cmp}
 use Rattle.fsfs_tree.specs.Dated.{date_name}
 use Rattle.fsfs_tree.specs.PropTexts.{author_name, log_name}
-use Rattle.fsfs_script.specs.declared.job.CommitJob.{CommitJob}
+use Rattle.fsfs_script.specs.declared.job_lines.job.CommitJob.{CommitJob}
 
 -- a property of this name, where there is a value
 abbrev pub prop_of : List ℕ → Option (List ℕ) → List (List ℕ × List ℕ)

@@ -5,26 +5,26 @@ use Rattle.md5.specs.Md5.{md5}
 use Rattle.fsfs_base.specs.Paths.{Path}
 use Rattle.fsfs_base.specs.declared.kind.Kind.{Kind}
 use Rattle.fsfs_base.specs.declared.kind.Kind.TheVariants.{File, Dir}
-use Rattle.fsfs_base.specs.RevNums.{last_rev}
+use Rattle.fsfs_base.specs.Fields.RevNums.{last_rev}
 use Rattle.fsfs_tree.specs.Nodes.{Content, Bytes, Closed, TreeFunction}
 use Rattle.fsfs_tree.specs.Revisions.{Revision, tree_of}
 use Rattle.fsfs_tree.specs.Dated.{last_of}
-use Rattle.fsfs_model.specs.Landing.{IsFirstClash}
-use Rattle.fsfs_model.specs.Transactions.{Entry, IsNext}
-use Rattle.fsfs_model.specs.declared.mark.Mark.{Mark}
+use Rattle.fsfs_model.specs.Flat.Landing.{IsFirstClash}
+use Rattle.fsfs_model.specs.Flat.Transactions.{Entry, IsNext}
+use Rattle.fsfs_model.specs.declared.flat.mark.Mark.{Mark}
 use Rattle.fsfs_tree.specs.Answers.{Found, Stands, Lacking, Blocked, found_at}
-use Rattle.fsfs_revision.specs.DamageDamages.{place_of}
-use Rattle.fsfs_script.specs.declared.job.Base.{Base}
-use Rattle.fsfs_script.specs.declared.job.Base.TheVariants.{Youngest, Number}
-use Rattle.fsfs_script.specs.declared.job.CommitJob.{CommitJob}
-use Rattle.fsfs_script.specs.declared.job.ReadJob.{ReadJob}
-use Rattle.fsfs_script.specs.declared.job.Job.{Job}
-use Rattle.fsfs_script.specs.declared.job.Job.TheVariants as jobs
-use Rattle.fsfs_cli.specs.declared.faults_fault.Fault.{Fault}
-use Rattle.fsfs_cli.specs.declared.faults_fault.Fault.TheVariants.{Request, Repository, Limit}
-use Rattle.fsfs_cli.specs.declared.request_fault.RequestFault.TheVariants.{NotFound, NotDir, NotFile, NoRev}
-use Rattle.fsfs_cli.specs.declared.repository_fault.RepositoryFault.TheVariants.{Delta}
-use Rattle.fsfs_cli.specs.declared.limit_fault.LimitFault.TheVariants.{NamesFull, RevsFull}
+use Rattle.fsfs_revision.specs.Damage.Damages.{place_of}
+use Rattle.fsfs_script.specs.declared.job_lines.job.Base.{Base}
+use Rattle.fsfs_script.specs.declared.job_lines.job.Base.TheVariants.{Youngest, Number}
+use Rattle.fsfs_script.specs.declared.job_lines.job.CommitJob.{CommitJob}
+use Rattle.fsfs_script.specs.declared.job_lines.job.ReadJob.{ReadJob}
+use Rattle.fsfs_script.specs.declared.job_lines.job.Job.{Job}
+use Rattle.fsfs_script.specs.declared.job_lines.job.Job.TheVariants as jobs
+use Rattle.fsfs_cli.specs.declared.faults.fault.Fault.{Fault}
+use Rattle.fsfs_cli.specs.declared.faults.fault.Fault.TheVariants.{Request, Repository, Limit}
+use Rattle.fsfs_cli.specs.declared.faults.request_fault.RequestFault.TheVariants.{NotFound, NotDir, NotFile, NoRev}
+use Rattle.fsfs_cli.specs.declared.faults.repository_fault.RepositoryFault.TheVariants.{Delta}
+use Rattle.fsfs_cli.specs.declared.faults.limit_fault.LimitFault.TheVariants.{NamesFull, RevsFull}
 use Rattle.fsfs_jobs.specs.Edits.{Refuses, TakesSteps, StopsAt}
 use Rattle.fsfs_jobs.specs.Properties.{job_properties}
 use Rattle.fsfs_jobs.specs.declared.answer.JobAnswer.{JobAnswer}

@@ -3,20 +3,12 @@
 #![tactic(auto)]
 
 mod answer;
-mod copying;
-mod deleting;
-mod edits;
-mod failures;
-mod job_edits_properties;
+mod job_edits;
 mod line;
-mod making;
 mod output;
 mod properties;
-mod slice_source;
-mod telling;
-mod texts;
 
 pub use answer::{JobAnswer, TextRead};
-pub use edits::{Stopped, do_edit, do_edits};
+pub use job_edits::edits::{Stopped, do_edit, do_edits};
 pub use output::{print_job_line, print_youngest};
 pub use properties::properties_of;

@@ -6,14 +6,14 @@ use Rattle.std.specs.Str.{bytes_eq}
 use Rattle.std.specs.Fmt.{decimal}
 use Rattle.std.proofs.lemmas.List.{append_cancel_left, append-nil}
 use Rattle.std.proofs.Math.Nat.{div-le_self}
-use Rattle.fsfs_base.specs.Numeral.{digit, value_after, IsNumeral}
-use Rattle.fsfs_base.specs.Base36.{base36}
+use Rattle.fsfs_base.specs.Grammar.Numeral.{digit, value_after, IsNumeral}
+use Rattle.fsfs_base.specs.Grammar.Base36.{base36}
 use Rattle.fsfs_base.proofs.Unique.{AreDigits, decimal_numeral, numeral_digits}
 use Rattle.fsfs_base.proofs.Base36Texts.{base36_numeral, b36_same}
-use Rattle.fsfs_base.specs.TxnNames.{txn_text}
+use Rattle.fsfs_base.specs.Fields.TxnNames.{txn_text}
 use Rattle.fsfs_layout.specs.Names.{in_shard, in_pack, with_txn}
 use Rattle.fsfs_layout.specs.Layouts.{shard_of}
-use Rattle.fsfs_base.specs.declared.txn_name.TxnName.{TxnName}
+use Rattle.fsfs_base.specs.declared.fields.txn_name.TxnName.{TxnName}
 use Rattle.fsfs_layout.specs.FileNames.{only_name, file_name as name_of, FitsTxn, FitsFile as Fits, NamesAreApart}
 use Rattle.fsfs_layout.specs.declared.repository_file.RepositoryFile.{RepositoryFile}
 use Rattle.fsfs_layout.specs.declared.repository_file.RepositoryFile.TheVariants as file

@@ -16,8 +16,8 @@ use Rattle.std.proofs.lemmas.Map.Keys.{sorted_tail, IsDistinct-from_sorted}
 use Rattle.std.proofs.lemmas.Map.Entries.{lookup_head, lookup_tail, none_past_head, none_below_head}
 use Rattle.std.proofs.lemmas.Map.Lookups.{map_keys, exact_bytes}
 use Rattle.std.specs.Borrow.{Bor}
-use Rattle.fsfs_layout.specs.Dump.{put, put_all}
-use Rattle.fsfs_layout.specs.HashReading.{views}
+use Rattle.fsfs_layout.specs.Hash.Dump.{put, put_all}
+use Rattle.fsfs_layout.specs.Hash.Reading.{views}
 use Rattle.fsfs_layout.proofs.PutPairs.{pair_of, vec_cmp, pairs_of}
 
 -- ---- one entry more

@@ -2,8 +2,8 @@
 use Rattle.std.proofs.Common.{ℕ, List, [], ◌∷◌, ◌++◌, length, Option, Some, None, refl, ap, arith, inl, inr}
 use Rattle.std.proofs.lemmas.List.{length-append}
 use Rattle.fsfs_base.proofs.Readers.{Reads, ReadsAll, next_all, mapped_reads, mapped_all, either_reads, many_reads, from_steps_all}
-use Rattle.fsfs_layout.specs.Dump.{put_all}
-use Rattle.fsfs_layout.specs.Children.{ChildrenChange, change_all, IsChildren, change_at, children_at}
+use Rattle.fsfs_layout.specs.Hash.Dump.{put_all}
+use Rattle.fsfs_layout.specs.Hash.Children.{ChildrenChange, change_all, IsChildren, change_at, children_at}
 use Rattle.fsfs_layout.proofs.Dumps.{field_reads, entry_reads, entries_reads}
 
 change_reads : (n : ℕ) → Reads n ChildrenChange change_at

@@ -4,11 +4,11 @@ use Rattle.std.specs.Prelude.{codes}
 use Rattle.fsfs_base.proofs.Readers.{Reads, ReadsAll, next_reads, next_all, mapped_reads, either_reads, except_reads, whole_reads, text_reads, maybe_all, all_found, all_again, all_exact, one_front, chosen, ok_is, err_same}
 use Rattle.fsfs_base.proofs.Numerals.{number_reads, no_number, number_some}
 use Rattle.std.proofs.lemmas.Bool.{eqb-false, ne_eqb}
-use Rattle.fsfs_base.specs.Grammar.{Begins, IsFaultAt}
-use Rattle.fsfs_base.specs.Numeral.{IsNumber, number_at}
+use Rattle.fsfs_base.specs.Grammar.Relations.{Begins, IsFaultAt}
+use Rattle.fsfs_base.specs.Grammar.Numeral.{IsNumber, number_at}
 use Rattle.fsfs_layout.proofs.LineBytes.{line_reads}
-use Rattle.fsfs_layout.specs.declared.format_file.Format.{Format}
-use Rattle.fsfs_layout.specs.declared.format_file.Format.TheVariants.{Linear, Sharded, Other}
+use Rattle.fsfs_layout.specs.declared.small_files.format_file.Format.{Format}
+use Rattle.fsfs_layout.specs.declared.small_files.format_file.Format.TheVariants.{Linear, Sharded, Other}
 use Rattle.fsfs_layout.specs.Small.{IsRevLine, IsBase36Line, IsNextIds, IsUuid}
 use Rattle.fsfs_layout.specs.Formats.{IsCount, IsLayout, IsOurFormat, IsOtherFormat, IsFormat}
 use Rattle.fsfs_layout.specs.Reading.{rev_line_at, base36_line_at, uuid_at, next_ids_at, count_at, layout_at, our_format_at, other_at, or_other, format_at}

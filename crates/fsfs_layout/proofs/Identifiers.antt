@@ -5,7 +5,7 @@ use Rattle.std.proofs.lemmas.Bool.{ne_eqb}
 use Rattle.std.proofs.lemmas.Bool.Decides.{nat_tests}
 use Rattle.uuid.specs.Text.{by_index, hex_digit, is_hyphen_place, nibble, digit_place, hyphenated_text, lower}
 use Rattle.uuid.proofs.TextLemmas.{by_index_length}
-use Rattle.fsfs_base.specs.Cuts.{Lacks}
+use Rattle.fsfs_base.specs.Grammar.Cuts.{Lacks}
 
 push_lacks : (text : List ℕ) (b : ℕ) → Lacks 10 text → (b == 10) ≡ false → Lacks 10 (text ++ b ∷ [])
 push_lacks [] b h e = (e, tt)

@@ -1,9 +1,9 @@
 -- Bytes of which none ends a line are read exactly.
 use Rattle.std.proofs.Common.{◌≡◌, ℕ, zero, suc, Bool, true, false, eqb, List, [], ◌∷◌, ◌++◌, length, take, Ok, Err, refl, sym, ap, subst, arith, inl, inr}
 use Rattle.std.proofs.lemmas.List.{take_at}
-use Rattle.fsfs_base.specs.Grammar.{GoesOn, IsBlocked, Stops}
+use Rattle.fsfs_base.specs.Grammar.Relations.{GoesOn, IsBlocked, Stops}
 use Rattle.fsfs_base.proofs.Readers.{Reads, bind_ok, bind_err, pair_same, ok_is, chosen, err_same}
-use Rattle.fsfs_base.specs.Cuts.{Lacks}
+use Rattle.fsfs_base.specs.Grammar.Cuts.{Lacks}
 use Rattle.fsfs_layout.specs.Small.{AreLineBytes}
 use Rattle.fsfs_layout.specs.Reading.{line_rest_at, line_bytes_at}
 

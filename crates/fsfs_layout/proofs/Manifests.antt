@@ -5,9 +5,9 @@ use Rattle.std.specs.List.{AllByRecursion, flat_map}
 use Rattle.std.proofs.lemmas.Bool.{leb-true, le-leb}
 use Rattle.std.proofs.lemmas.List.{append-nil, take_more, take_all}
 use Rattle.std.proofs.lemmas.Grind.{flat_map-append}
-use Rattle.fsfs_base.specs.Grammar.{Then, IsText, Mapped, Appends}
-use Rattle.fsfs_base.specs.Numeral.{IsNumber}
-use Rattle.fsfs_base.specs.Reading.{◌>>=◌, text_at}
+use Rattle.fsfs_base.specs.Grammar.Relations.{Then, IsText, Mapped, Appends}
+use Rattle.fsfs_base.specs.Grammar.Numeral.{IsNumber}
+use Rattle.fsfs_base.specs.Grammar.Reading.{◌>>=◌, text_at}
 use Rattle.fsfs_base.proofs.Readers.{Reads, ReadsAll, next_reads, mapped_reads, same_reads, same_all, text_reads, whole_reads}
 use Rattle.fsfs_base.proofs.Numerals.{numeral_one}
 use Rattle.fsfs_base.proofs.Unique.{numeral_decimal}

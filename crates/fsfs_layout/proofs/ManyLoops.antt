@@ -1,10 +1,10 @@
 -- Changes read one after another to the end, as a loop does, and laid over pairs.
 use Rattle.std.proofs.Common.{◌≡◌, ℕ, suc, ◌-◌, ◌+◌, ◌≤◌, ◌<◌, eqb, true, false, List, [], ◌∷◌, ◌++◌, length, Option, Some, None, Result, Ok, Err, refl, sym, ap, ◌∙◌, append_assoc, arith, inl, inr}
 use Rattle.std.proofs.lemmas.List.{append-nil}
-use Rattle.fsfs_base.specs.Grammar.{Appends, Many}
-use Rattle.fsfs_base.specs.Reading.{◌>>=◌, many_at}
-use Rattle.fsfs_layout.specs.Dump.{Field, Pair, put, put_all}
-use Rattle.fsfs_layout.specs.Children.{ChildrenChange, change, change_all, without, IsChildren}
+use Rattle.fsfs_base.specs.Grammar.Relations.{Appends, Many}
+use Rattle.fsfs_base.specs.Grammar.Reading.{◌>>=◌, many_at}
+use Rattle.fsfs_layout.specs.Hash.Dump.{Field, Pair, put, put_all}
+use Rattle.fsfs_layout.specs.Hash.Children.{ChildrenChange, change, change_all, without, IsChildren}
 
 abbrev pub with_all : {X : Type 0} → List X → Result (List X) ℕ → Result (List X) ℕ
 with_all {X} front read = read >>= λ xs. Ok (front ++ xs)

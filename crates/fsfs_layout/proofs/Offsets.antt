@@ -3,8 +3,8 @@ use Rattle.std.proofs.Common.{◌≡◌, ℕ, zero, suc, ◌+◌, ◌*◌, ◌/�
 use Rattle.std.proofs.lemmas.Bool.{ltb-true, ltb-false, lt-ltb, le-ltb, leb-true, leb-false, le-leb, eqb-true, eqb-false, eq-eqb, ne_eqb, and_parts, and_from, both_ways}
 use Rattle.std.specs.List.{AllByRecursion}
 use Rattle.std.specs.Fmt.{decimal}
-use Rattle.fsfs_base.specs.Grammar.{GoesOn, Begins, IsBlocked, Stops}
-use Rattle.fsfs_base.specs.Numeral.{digit, value_after, IsNumeral, IsNumber, IsRest, number_at}
+use Rattle.fsfs_base.specs.Grammar.Relations.{GoesOn, Begins, IsBlocked, Stops}
+use Rattle.fsfs_base.specs.Grammar.Numeral.{digit, value_after, IsNumeral, IsNumber, IsRest, number_at}
 use Rattle.fsfs_base.proofs.Readers.{Reads, chosen, pair_same, err_same}
 use Rattle.fsfs_base.proofs.Numerals.{value_grows, no_number, number_reads, digit-decimal}
 use Rattle.fsfs_base.proofs.Unique.{decimal_numeral}

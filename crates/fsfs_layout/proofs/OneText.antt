@@ -3,7 +3,7 @@ use Rattle.std.proofs.Common.{◌≡◌, ℕ, List, [], ◌∷◌, ◌++◌, len
 use Rattle.std.specs.Prelude.{codes, decimal}
 use Rattle.std.specs.List.{flat_map}
 use Rattle.fsfs_base.proofs.Unique.{numeral_decimal}
-use Rattle.fsfs_layout.specs.Dump.{Field, Pair, Entries, field_text, pair_text, dump_text}
+use Rattle.fsfs_layout.specs.Hash.Dump.{Field, Pair, Entries, field_text, pair_text, dump_text}
 
 field_one : (letter : ℕ) (text bytes : List ℕ) → Field letter text bytes → text ≡ field_text letter bytes
 field_one letter text bytes w =

@@ -9,7 +9,7 @@ use Rattle.std.proofs.lemmas.List.{append-nil}
 use Rattle.std.specs.Global.{Vec}
 use Rattle.std.specs.BTreeMap.{BTreeMap}
 use Rattle.std.specs.declared.cmp.Ordering.TheVariants.{Less, Greater}
-use Rattle.fsfs_layout.specs.Dump.{Ascending, put, put_all}
+use Rattle.fsfs_layout.specs.Hash.Dump.{Ascending, put, put_all}
 
 abbrev pub pair_of : Vec ℕ × Vec ℕ → List ℕ × List ℕ
 pair_of e = (e.0.items, e.1.items)

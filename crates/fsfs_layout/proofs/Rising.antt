@@ -7,7 +7,7 @@ use Rattle.std.specs.Ordering.{nat_cmp, is_gt}
 use Rattle.std.specs.Cmp.{tied_itself}
 use Rattle.std.specs.Cmp.Lexicographic.{slice_cmp, nat_list_cmp_total}
 use Rattle.std.proofs.lemmas.Bool.{true≢false}
-use Rattle.fsfs_layout.specs.Dump.{Ascending}
+use Rattle.fsfs_layout.specs.Hash.Dump.{Ascending}
 
 abbrev Pair : Type 0
 Pair = List ℕ × List ℕ

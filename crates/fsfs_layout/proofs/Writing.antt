@@ -5,12 +5,12 @@ use Rattle.std.specs.Fmt.{decimal}
 use Rattle.std.specs.Prelude.{◌≢◌}
 use Rattle.std.proofs.lemmas.Bool.{ne_eqb}
 use Rattle.std.proofs.lemmas.List.{append-nil}
-use Rattle.fsfs_base.specs.Grammar.{Appends, begins}
-use Rattle.fsfs_base.specs.Numeral.{digit, IsNumeral, IsNumber, value_after}
+use Rattle.fsfs_base.specs.Grammar.Relations.{Appends, begins}
+use Rattle.fsfs_base.specs.Grammar.Numeral.{digit, IsNumeral, IsNumber, value_after}
 use Rattle.fsfs_base.proofs.Unique.{numeral_decimal}
-use Rattle.fsfs_layout.specs.declared.format_file.Format.{Format}
-use Rattle.fsfs_layout.specs.declared.format_file.Format.TheVariants.{Linear, Sharded, Other}
-use Rattle.fsfs_base.specs.Cuts.{Lacks}
+use Rattle.fsfs_layout.specs.declared.small_files.format_file.Format.{Format}
+use Rattle.fsfs_layout.specs.declared.small_files.format_file.Format.TheVariants.{Linear, Sharded, Other}
+use Rattle.fsfs_base.specs.Grammar.Cuts.{Lacks}
 use Rattle.fsfs_layout.specs.Small.{IsUuid}
 use Rattle.fsfs_layout.specs.Formats.{IsCount, IsLayout, IsFormat}
 

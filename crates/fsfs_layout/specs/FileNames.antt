@@ -1,7 +1,7 @@
 -- The names of all the files and folders of a repository, and that no two of them have one name.
 use Rattle.std.specs.Prelude.{◌≡◌, ◌<◌, ◌≤◌, ◌^◌, ℕ, List, ◌++◌, codes}
 use Rattle.std.specs.Fmt.{decimal}
-use Rattle.fsfs_base.specs.declared.txn_name.TxnName.{TxnName}
+use Rattle.fsfs_base.specs.declared.fields.txn_name.TxnName.{TxnName}
 use Rattle.fsfs_base.specs.declared.small_fault.SmallFile.{SmallFile}
 use Rattle.fsfs_base.specs.declared.small_fault.SmallFile.TheVariants as small
 use Rattle.fsfs_layout.specs.Names.{in_shard, in_pack, with_txn}

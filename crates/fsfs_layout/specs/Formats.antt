@@ -1,9 +1,9 @@
 -- What `db/format` says.
 use Rattle.std.specs.Prelude.{◌≡◌, ◌≢◌, ◌≤◌, ℕ, List, [], ◌∷◌, ◌++◌, ◌⊎◌, codes, decimal}
-use Rattle.fsfs_base.specs.Grammar.{Then, IsText, Mapped, Either, Maybe, Except, Begins}
-use Rattle.fsfs_base.specs.Numeral.{IsNumber}
-use Rattle.fsfs_layout.specs.declared.format_file.Format.{Format}
-use Rattle.fsfs_layout.specs.declared.format_file.Format.TheVariants.{Linear, Sharded, Other}
+use Rattle.fsfs_base.specs.Grammar.Relations.{Then, IsText, Mapped, Either, Maybe, Except, Begins}
+use Rattle.fsfs_base.specs.Grammar.Numeral.{IsNumber}
+use Rattle.fsfs_layout.specs.declared.small_files.format_file.Format.{Format}
+use Rattle.fsfs_layout.specs.declared.small_files.format_file.Format.TheVariants.{Linear, Sharded, Other}
 
 -- a number from 1, and the end of the line
 abbrev pub IsCount : List ℕ → ℕ → Type 0

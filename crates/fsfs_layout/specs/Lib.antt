@@ -8,7 +8,4 @@ pub mod Manifest
 pub mod FileNames
 pub mod CreatedFiles
 pub mod Opening
-pub mod Dump
-pub mod Children
-pub mod HashReading
-pub mod Fault
+pub mod Hash

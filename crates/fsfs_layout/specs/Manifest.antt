@@ -4,8 +4,8 @@ use Rattle.std.specs.List.{AllByRecursion, flat_map}
 use Rattle.std.specs.Fmt.{decimal}
 use Rattle.fsfs_base.specs.declared.small_fault.SmallFile.TheVariants.{Manifest}
 use Rattle.fsfs_layout.specs.Small.{IsFaultOf}
-use Rattle.fsfs_layout.specs.declared.manifest_file.ManifestError.{ManifestError}
-use Rattle.fsfs_layout.specs.declared.manifest_file.ManifestError.TheVariants as errors
+use Rattle.fsfs_layout.specs.declared.small_files.manifest_file.ManifestError.{ManifestError}
+use Rattle.fsfs_layout.specs.declared.small_files.manifest_file.ManifestError.TheVariants as errors
 
 -- `<offset>\n`
 abbrev pub offset_line : ℕ → List ℕ

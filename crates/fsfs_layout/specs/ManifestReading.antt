@@ -1,7 +1,7 @@
 -- Reading a manifest from left to right. A number's front is refused as soon as no number from `low` to `limit` begins with it.
 use Rattle.std.specs.Prelude.{ℕ, zero, suc, ◌+◌, ◌-◌, ◌*◌, List, [], ◌∷◌, length, Bool, true, false, Result, Ok, Err, nat_lt, nat_le, ◌==◌, ◌&&◌, if◌then◌else◌}
-use Rattle.fsfs_base.specs.Reading.{◌>>=◌, text_at, whole}
-use Rattle.fsfs_base.specs.Numeral.{digit}
+use Rattle.fsfs_base.specs.Grammar.Reading.{◌>>=◌, text_at, whole}
+use Rattle.fsfs_base.specs.Grammar.Numeral.{digit}
 
 -- whether one of the numbers from least to greatest, or one with up to so many digits behind one of them, is from low to limit
 unfoldable pub reaches_at : (limit digits low least greatest : ℕ) → Bool

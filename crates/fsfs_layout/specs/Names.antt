@@ -1,8 +1,8 @@
 -- The names of a repository's files, from its folder on.
 use Rattle.std.specs.Prelude.{ℕ, List, ◌∷◌, ◌++◌, codes}
 use Rattle.std.specs.Fmt.{decimal}
-use Rattle.fsfs_base.specs.TxnNames.{txn_text}
-use Rattle.fsfs_base.specs.declared.txn_name.TxnName.{TxnName}
+use Rattle.fsfs_base.specs.Fields.TxnNames.{txn_text}
+use Rattle.fsfs_base.specs.declared.fields.txn_name.TxnName.{TxnName}
 use Rattle.fsfs_layout.specs.Layouts.{shard_of}
 use Rattle.fsfs_layout.specs.declared.layout.Layout.{Layout}
 

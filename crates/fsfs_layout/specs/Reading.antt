@@ -1,11 +1,11 @@
 -- Reading the small files from left to right.
 use Rattle.std.specs.Prelude.{ℕ, zero, suc, List, [], ◌∷◌, length, take, Result, Ok, Err, ◌==◌, if◌then◌else◌, codes}
-use Rattle.fsfs_base.specs.Grammar.{begins}
-use Rattle.fsfs_base.specs.Reading.{◌>>=◌, text_at, whole}
-use Rattle.fsfs_base.specs.Numeral.{number_at}
-use Rattle.fsfs_base.specs.RevNums.{rev_ended_at}
-use Rattle.fsfs_layout.specs.declared.format_file.Format.{Format}
-use Rattle.fsfs_layout.specs.declared.format_file.Format.TheVariants.{Linear, Sharded, Other}
+use Rattle.fsfs_base.specs.Grammar.Relations.{begins}
+use Rattle.fsfs_base.specs.Grammar.Reading.{◌>>=◌, text_at, whole}
+use Rattle.fsfs_base.specs.Grammar.Numeral.{number_at}
+use Rattle.fsfs_base.specs.Fields.RevNums.{rev_ended_at}
+use Rattle.fsfs_layout.specs.declared.small_files.format_file.Format.{Format}
+use Rattle.fsfs_layout.specs.declared.small_files.format_file.Format.TheVariants.{Linear, Sharded, Other}
 
 abbrev pub rev_line_at : List ℕ → Result ℕ ℕ
 rev_line_at bytes = whole (rev_ended_at 10 bytes)

@@ -1,12 +1,12 @@
 -- The small files.
 use Rattle.std.specs.Prelude.{◌≡◌, ◌≢◌, ℕ, List, [], ◌∷◌, length, ◌⊎◌}
-use Rattle.fsfs_base.specs.Grammar.{Then, IsText, Mapped, IsFaultAt}
-use Rattle.fsfs_base.specs.Numeral.{IsNumber}
-use Rattle.fsfs_base.specs.RevNums.{IsRevEnded}
+use Rattle.fsfs_base.specs.Grammar.Relations.{Then, IsText, Mapped, IsFaultAt}
+use Rattle.fsfs_base.specs.Grammar.Numeral.{IsNumber}
+use Rattle.fsfs_base.specs.Fields.RevNums.{IsRevEnded}
 use Rattle.fsfs_base.specs.declared.small_fault.SmallFile.{SmallFile}
 use Rattle.fsfs_base.specs.declared.small_fault.SmallFile.TheVariants.{MinUnpackedRev}
 use Rattle.fsfs_base.specs.declared.small_fault.SmallFault.{SmallFault}
-use Rattle.fsfs_base.specs.Cuts.{Lacks}
+use Rattle.fsfs_base.specs.Grammar.Cuts.{Lacks}
 use Rattle.fsfs_layout.specs.Layouts.{place_in_shard}
 use Rattle.fsfs_layout.specs.declared.layout.Layout.{Layout}
 

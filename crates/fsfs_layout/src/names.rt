@@ -1,7 +1,7 @@
 // The texts of names of files and folders that have a number, a revision or a transaction in them.
 ghost use Rattle.std.specs.Prelude.{◌≡◌, ◌≤◌, ◌+◌, ◌++◌, codes, length};
 ghost use Rattle.std.specs.Fmt.{decimal};
-ghost use Rattle.fsfs_base.specs.TxnNames.{txn_text};
+ghost use Rattle.fsfs_base.specs.Fields.TxnNames.{txn_text};
 ghost use Rattle.fsfs_layout.specs.Names.{in_shard, in_pack, with_txn};
 
 use crate::layout::Layout;

@@ -1,7 +1,7 @@
 //! What the small files of a repository say together.
 
 use crate::layout::Layout;
-use crate::uuid_file::Uuid;
+use crate::small_files::uuid_file::Uuid;
 use fsfs_base::{B36, RevNum};
 
 /// What the small files of a repository say.

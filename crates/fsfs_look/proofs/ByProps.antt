@@ -2,19 +2,19 @@
 use Rattle.std.proofs.Common.{◌≡◌, ◌∙◌, ℕ, ℤ, List, ◌++◌, Option, Some, None, refl, sym, ap, subst, inl, inr}
 use Rattle.std.specs.Prelude.{Ok, codes}
 use Rattle.jiff_core.specs.declared.civil.datetime.DateTime.{DateTime}
-use Rattle.fsfs_base.specs.Dates.{IsDateText}
+use Rattle.fsfs_base.specs.Fields.Dates.{IsDateText}
 use Rattle.fsfs_base.proofs.DateReadings.{numbers_of, shown_as, numbers_again}
 use Rattle.fsfs_tree.specs.PropTexts.{date_line}
 use Rattle.fsfs_tree.specs.ShownDates.{printed_date, printed_numbers}
 use Rattle.fsfs_tree.specs.Dated.{date_name}
 use Rattle.fsfs_revision.specs.Told.{RevisionBytes}
-use Rattle.fsfs_look.specs.RevProps.{Pairs, RevPropsOf}
-use Rattle.fsfs_look.specs.ShownDates.{shown_date}
+use Rattle.fsfs_look.specs.Revprops.Files.{Pairs, RevPropsOf}
+use Rattle.fsfs_look.specs.Revprops.Dates.{shown_date}
 use Rattle.fsfs_stands.specs.Texts.{Whole}
 use Rattle.fsfs_stands.specs.ByTree.{IsOf}
 use Rattle.fsfs_stands.proofs.WholeTexts.{of_agree}
-use Rattle.fsfs_look.specs.PropTexts.{value_of, author_name, log_name, value_line, IsDateLine, info_lines}
-use Rattle.fsfs_look.specs.Laws.{ShowsProps, AuthorsAreByProps, LogsAreByProps, DatesAreByProps, InfosAreByProps}
+use Rattle.fsfs_look.specs.Revprops.Texts.{value_of, author_name, log_name, value_line, IsDateLine, info_lines}
+use Rattle.fsfs_look.specs.Revprops.Laws.{ShowsProps, AuthorsAreByProps, LogsAreByProps, DatesAreByProps, InfosAreByProps}
 use Rattle.fsfs_look.proofs.OneText.{authors_one, logs_one, dates_one, infos_one}
 
 -- a date in the form of stored dates has a line

@@ -11,12 +11,12 @@ use Rattle.fsfs_base.proofs.StreamLemmas.{adds_then}
 use Rattle.fsfs_noderev.specs.declared.rep.Rep.{Rep}
 use Rattle.fsfs_noderev.specs.declared.rep.Contents.TheVariants as contents
 use Rattle.fsfs_noderev.specs.declared.node_rev.NodeRev.{NodeRev}
-use Rattle.fsfs_revision.specs.Faults.{IsRefusedFor}
-use Rattle.fsfs_revision.specs.Frames.{rev_of, text_of, IsWhole, IsFaultOf}
+use Rattle.fsfs_revision.specs.Rep.Faults.{IsRefusedFor}
+use Rattle.fsfs_revision.specs.Rep.Frames.{rev_of, text_of, IsWhole, IsFaultOf}
 use Rattle.fsfs_revision.specs.declared.wrong.ReadError.{ReadError}
 use Rattle.fsfs_revision.specs.declared.wrong.ReadError.TheVariants as reads
-use Rattle.fsfs_revision.specs.Readings.{Answers}
-use Rattle.fsfs_revision.specs.ShowsReading.{RepAt, TextOf, MetAt, Stands}
+use Rattle.fsfs_revision.specs.Damage.Readings.{Answers}
+use Rattle.fsfs_revision.specs.Shows.Reading.{RepAt, TextOf, MetAt, Stands}
 use Rattle.fsfs_revision.proofs.OneRep.{rep_at_one}
 use Rattle.fsfs_dag.proofs.Reps.{rep_wrong, contents_some, contents_none}
 use Rattle.fsfs_look.specs.declared.look_error.LookError.{LookError}

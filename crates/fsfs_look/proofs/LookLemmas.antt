@@ -2,26 +2,26 @@
 use Rattle.std.proofs.Common.{◌≡◌, ◌∙◌, ℕ, List, [], ◌++◌, refl, sym, ap, subst, append_assoc, inl, inr}
 use Rattle.std.specs.Prelude.{Option, Some, None, Result, Ok, Err, OnOk, OnErr, IfErr, codes}
 use Rattle.jiff_core.specs.declared.civil.datetime.DateTime.{DateTime}
-use Rattle.fsfs_base.specs.Dates.{IsDateText}
+use Rattle.fsfs_base.specs.Fields.Dates.{IsDateText}
 use Rattle.fsfs_revision.specs.declared.damage.DamageKind.TheVariants as what
-use Rattle.fsfs_revision.specs.DamageDamages.{place_of, damaged}
-use Rattle.fsfs_look.specs.ShownDates.{shown_date}
+use Rattle.fsfs_revision.specs.Damage.Damages.{place_of, damaged}
+use Rattle.fsfs_look.specs.Revprops.Dates.{shown_date}
 use Rattle.fsfs_base.specs.Streams.{Adds}
 use Rattle.fsfs_base.specs.Output.{AddsFront}
 use Rattle.fsfs_base.proofs.StreamLemmas.{adds_then}
 use Rattle.fsfs_revision.specs.declared.wrong.Wrong.{Wrong}
 use Rattle.fsfs_revision.specs.declared.wrong.ReadError.{ReadError}
 use Rattle.fsfs_revision.specs.declared.wrong.ReadError.TheVariants as reads
-use Rattle.fsfs_revision.specs.Readings.{AndThen, Answers}
+use Rattle.fsfs_revision.specs.Damage.Readings.{AndThen, Answers}
 use Rattle.fsfs_revision.specs.Told.{RevisionBytes}
-use Rattle.fsfs_look.specs.RevProps.{Pairs, RevPropsOf}
+use Rattle.fsfs_look.specs.Revprops.Files.{Pairs, RevPropsOf}
 use Rattle.fsfs_stands.specs.Texts.{Whole, Stopped}
 use Rattle.fsfs_look.specs.declared.look_error.LookError.{LookError}
 use Rattle.fsfs_look.specs.declared.look_error.LookError.TheVariants as errors
 use Rattle.fsfs_look.specs.Errors.{of_read}
 use Rattle.fsfs_look.specs.Written.{Writes}
 use Rattle.fsfs_look.proofs.ProgressLemmas.{adds_nothing}
-use Rattle.fsfs_look.specs.PropTexts.{DateLine, ReadText, PropText}
+use Rattle.fsfs_look.specs.Revprops.Texts.{DateLine, ReadText, PropText}
 
 -- ---- two parts
 

@@ -6,7 +6,7 @@ use Rattle.fsfs_base.specs.Streams.{Adds}
 use Rattle.fsfs_base.proofs.StreamLemmas.{adds_then}
 use Rattle.fsfs_tree.specs.Answers.{last_name}
 use Rattle.fsfs_noderev.specs.declared.node_rev.NodeRev.{NodeRev}
-use Rattle.fsfs_revision.specs.ShowsReading.{MetAt, Met, Stands, Lacking, Blocked}
+use Rattle.fsfs_revision.specs.Shows.Reading.{MetAt, Met, Stands, Lacking, Blocked}
 use Rattle.fsfs_look.specs.declared.look_error.LookError.{LookError}
 use Rattle.fsfs_look.specs.declared.look_error.LookError.TheVariants as errors
 use Rattle.fsfs_stands.specs.declared.look_fault.LookFault.TheVariants as faults

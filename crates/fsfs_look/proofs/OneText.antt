@@ -3,23 +3,23 @@ use Rattle.std.proofs.Common.{◌≡◌, ◌∙◌, ℕ, List, ◌++◌, Option,
 use Rattle.std.specs.Prelude.{Result, Ok, Err, codes}
 use Rattle.std.proofs.lemmas.Option.{same_Some}
 use Rattle.jiff_core.specs.declared.civil.datetime.DateTime.{DateTime}
-use Rattle.fsfs_base.specs.Dates.{IsDateText}
+use Rattle.fsfs_base.specs.Fields.Dates.{IsDateText}
 use Rattle.fsfs_base.proofs.DateReadings.{numbers_of, shown_as, numbers_again, has_numbers, same_parts}
 use Rattle.fsfs_tree.specs.Dated.{date_name}
-use Rattle.fsfs_layout.specs.Dump.{IsDump}
+use Rattle.fsfs_layout.specs.Hash.Dump.{IsDump}
 use Rattle.fsfs_revision.specs.declared.wrong.Wrong.{Wrong}
-use Rattle.fsfs_revision.specs.Checks.{AllPass}
-use Rattle.fsfs_revision.specs.Readings.{AndThen, HasOneAnswer}
+use Rattle.fsfs_revision.specs.Damage.Checks.{AllPass}
+use Rattle.fsfs_revision.specs.Damage.Readings.{AndThen, HasOneAnswer}
 use Rattle.fsfs_revision.proofs.OneAnswer.{ok_same, ok_no_err, err_same, and_then_one, judged_one}
 use Rattle.fsfs_revision.specs.Told.{RevisionBytes, BytesOf}
 use Rattle.fsfs_revision.proofs.OneRep.{dump_one}
 use Rattle.fsfs_revision.proofs.OneStep.{bytes_one}
-use Rattle.fsfs_look.specs.RevProps.{Pairs, file_checks, RevPropsIn, RevPropsOf}
-use Rattle.fsfs_look.specs.ShownDates.{shown_date}
+use Rattle.fsfs_look.specs.Revprops.Files.{Pairs, file_checks, RevPropsIn, RevPropsOf}
+use Rattle.fsfs_look.specs.Revprops.Dates.{shown_date}
 use Rattle.fsfs_stands.specs.Agreeing.{HasOneText}
 use Rattle.fsfs_stands.proofs.OneText.{stopped_first, stopped_second, wrong_same}
-use Rattle.fsfs_look.specs.PropTexts.{value_of, author_name, log_name, value_line, IsDateLine, info_lines, date_checks, DateLine, ReadText, PropText, AuthorText, DateText, LogText, InfoText}
-use Rattle.fsfs_look.specs.Laws.{HaveOneText}
+use Rattle.fsfs_look.specs.Revprops.Texts.{value_of, author_name, log_name, value_line, IsDateLine, info_lines, date_checks, DateLine, ReadText, PropText, AuthorText, DateText, LogText, InfoText}
+use Rattle.fsfs_look.specs.Revprops.Laws.{HaveOneText}
 
 -- ---- dates
 

@@ -3,7 +3,7 @@ use Rattle.std.proofs.Common.{◌≡◌, ℕ, ◌+◌, ◌-◌, ◌^◌, ◌≤�
 use Rattle.std.specs.Prelude.{codes, min}
 use Rattle.std.proofs.lemmas.List.{length-take, length-drop}
 use Rattle.fsfs_noderev.specs.declared.rep.Rep.{Rep}
-use Rattle.fsfs_revision.specs.Frames.{text_of, IsWhole}
+use Rattle.fsfs_revision.specs.Rep.Frames.{text_of, IsWhole}
 use Rattle.fsfs_revision.proofs.HeaderLemmas.{stands_fits}
 use Rattle.fsfs_revision.proofs.ReadingLemmas.{piece_read}
 

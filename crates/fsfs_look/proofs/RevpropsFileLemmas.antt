@@ -6,9 +6,9 @@ use Rattle.std.proofs.lemmas.List.{take-take, take_all, length-take, length-drop
 use Rattle.fsfs_revision.specs.declared.wrong.Refusal.{Refusal}
 use Rattle.fsfs_revision.specs.declared.wrong.ReadError.{ReadError}
 use Rattle.fsfs_revision.specs.declared.wrong.ReadError.TheVariants as errors
-use Rattle.fsfs_revision.specs.Readings.{IfWrong, Answers}
+use Rattle.fsfs_revision.specs.Damage.Readings.{IfWrong, Answers}
 use Rattle.fsfs_revision.specs.Told.{RevisionBytes, BytesOf}
-use Rattle.fsfs_revision.specs.Faults.{IsRefusedFor}
+use Rattle.fsfs_revision.specs.Rep.Faults.{IsRefusedFor}
 
 -- the bytes so far are the first of the file, and a piece was read behind them
 module _ (file items old piece : List ℕ) (offset count : ℕ) (front : items ≡ take (length items) file) (at : offset ≡ length items) (read : take count piece ≡ take (length old) (drop offset file)) where

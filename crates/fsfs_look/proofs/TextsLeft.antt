@@ -6,7 +6,7 @@ use Rattle.fsfs_base.specs.declared.kind.Kind.TheVariants.{File, Dir}
 use Rattle.fsfs_revision.specs.Told.{RevisionBytes}
 use Rattle.fsfs_noderev.specs.declared.node_rev.NodeRev.{NodeRev}
 use Rattle.fsfs_revision.specs.declared.wrong.Wrong.{Wrong}
-use Rattle.fsfs_revision.specs.ShowsReading.{DirEntry, EntriesOf, OfEntry}
+use Rattle.fsfs_revision.specs.Shows.Reading.{DirEntry, EntriesOf, OfEntry}
 use Rattle.fsfs_dag.specs.TreeWalks.{Left, at_level, Enters}
 use Rattle.fsfs_stands.specs.declared.look_fault.LookFault.TheVariants as faults
 use Rattle.fsfs_revision.specs.declared.wrong.ReadError.{ReadError}

@@ -3,7 +3,7 @@ use Rattle.std.specs.Prelude.{ℕ, Result, Ok, Err}
 use Rattle.fsfs_base.specs.Paths.{Path}
 use Rattle.fsfs_revision.specs.Told.{RevisionBytes}
 use Rattle.fsfs_dag.specs.declared.node.PlacedNode.{PlacedNode}
-use Rattle.fsfs_revision.specs.ShowsReading.{Stands, Lacking, Blocked, MetAt}
+use Rattle.fsfs_revision.specs.Shows.Reading.{Stands, Lacking, Blocked, MetAt}
 use Rattle.fsfs_look.specs.declared.look_error.LookError.{LookError}
 use Rattle.fsfs_look.specs.declared.look_error.LookError.TheVariants as errors
 use Rattle.fsfs_stands.specs.declared.look_fault.LookFault.{LookFault}

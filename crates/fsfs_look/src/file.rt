@@ -5,9 +5,9 @@ ghost use Rattle.fsfs_revision.specs.declared.damage.RepWhat.TheVariants as repw
 ghost use Rattle.fsfs_revision.specs.declared.wrong.ReadError.TheVariants.{Wrong};
 ghost use Rattle.fsfs_revision.specs.declared.wrong.Refusal.{Refusal};
 ghost use Rattle.fsfs_revision.specs.Told.{RevisionBytes, Knows, Keeps};
-ghost use Rattle.fsfs_revision.specs.Causes.{HasCause};
-ghost use Rattle.fsfs_revision.specs.Faults.{IsRefusedFor};
-ghost use Rattle.fsfs_revision.specs.Frames.{rev_of, text_of, HasMd5, IsWhole, IsFaultOf, bad_rep};
+ghost use Rattle.fsfs_revision.specs.Damage.Causes.{HasCause};
+ghost use Rattle.fsfs_revision.specs.Rep.Faults.{IsRefusedFor};
+ghost use Rattle.fsfs_revision.specs.Rep.Frames.{rev_of, text_of, HasMd5, IsWhole, IsFaultOf, bad_rep};
 ghost use Rattle.fsfs_stands.specs.FileTexts.{FileText, IsWholeText};
 ghost use Rattle.fsfs_look.specs.Errors.{of_read, IsWrong};
 ghost use Rattle.fsfs_look.specs.Written.{Writes, HasDiskCause, HasSinkCause};

@@ -9,24 +9,20 @@
 #![tactic(auto)]
 
 mod file;
-mod laws;
 mod lines;
 mod look_error;
-mod looks;
 mod path;
 mod piece;
-mod prop_looks_lines;
-mod reading;
-mod shown_date;
+mod revprops;
 mod tree;
 
 pub use file::{cat, check_rep};
-pub use laws::{prop_texts_are_by_the_properties, prop_texts_are_one};
 pub use lines::put_spaces;
 pub use look_error::LookError;
-pub use looks::{author, date, info, log};
 pub use path::found_at;
 pub use piece::{write_full, write_last, write_piece};
-pub use reading::rev_props;
-pub use shown_date::put_date;
+pub use revprops::date::put_date;
+pub use revprops::laws::{prop_texts_are_by_the_properties, prop_texts_are_one};
+pub use revprops::looks::{author, date, info, log};
+pub use revprops::reading::rev_props;
 pub use tree::tree_text;

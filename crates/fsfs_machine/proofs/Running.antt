@@ -1,7 +1,7 @@
 -- Each run keeps it.
 use Rattle.std.proofs.Common.{◌≡◌, ℕ, suc, zero, List, [], ◌∷◌, ◌++◌, length, ⊎_elim, refl, sym, ap, subst, ◌∙◌, arith, append_assoc, append-nil}
 use Rattle.std.specs.Prelude.{Some, None, slice_get}
-use Rattle.fsfs_model.specs.Transactions.{Entry, IsLegal}
+use Rattle.fsfs_model.specs.Flat.Transactions.{Entry, IsLegal}
 use Rattle.fsfs_machine.specs.declared.machine.Recorded.{Recorded}
 use Rattle.fsfs_machine.specs.declared.machine.Outcome.{Outcome}
 use Rattle.fsfs_machine.specs.declared.machine.Step.{Step}

@@ -3,14 +3,14 @@ use Rattle.std.proofs.Common.{◌≡◌, ◌<◌, ◌≤◌, ◌+◌, ◌-◌, �
 use Rattle.std.proofs.lemmas.Bool.{and_parts, both_ways}
 use Rattle.std.specs.Prelude.{Option, Some, None, slice_get, nat_lt, nat_le, max, not, ◌&&◌}
 use Rattle.std.specs.FinMap.{FinMap, get}
-use Rattle.fsfs_model.specs.declared.edit.Edit.{Edit}
+use Rattle.fsfs_model.specs.declared.flat.edit.Edit.{Edit}
 use Rattle.fsfs_base.specs.Paths.{Path, path_cmp}
 use Rattle.fsfs_tree.specs.Nodes.{Node}
-use Rattle.fsfs_model.specs.Edits.{accepts, applied, mark_of, within_limits}
-use Rattle.fsfs_model.specs.Landing.{land, NoClash}
+use Rattle.fsfs_model.specs.Flat.Edits.{accepts, applied, mark_of, within_limits}
+use Rattle.fsfs_model.specs.Flat.Landing.{land, NoClash}
 use Rattle.fsfs_tree.specs.Revisions.{Revision, tree_of}
 use Rattle.fsfs_tree.specs.Histories.{IsHistory}
-use Rattle.fsfs_model.specs.Transactions.{Entry, IsTransaction, Edited, Landed, IsEntry, IsNext}
+use Rattle.fsfs_model.specs.Flat.Transactions.{Entry, IsTransaction, Edited, Landed, IsEntry, IsNext}
 use Rattle.fsfs_tree.specs.Dated.{last_of}
 use Rattle.fsfs_machine.specs.declared.contents.FileName.TheVariants.{Counter, Floor, Rev, Props}
 use Rattle.fsfs_machine.specs.declared.contents.Contents.{Contents}
@@ -19,11 +19,11 @@ use Rattle.fsfs_machine.specs.declared.contents.NameChange.{NameChange}
 use Rattle.fsfs_machine.specs.declared.machine.Recorded.{Recorded}
 use Rattle.fsfs_machine.specs.declared.machine.Txn.{Txn}
 use Rattle.fsfs_machine.specs.declared.machine.Coming.{Coming}
-use Rattle.fsfs_base.specs.declared.place.DiskPlace.{DiskPlace}
-use Rattle.fsfs_base.specs.declared.place.DiskPlace.TheVariants.{Read, Begin, Commit}
-use Rattle.fsfs_base.specs.declared.place.BeginPlace.TheVariants as begin
-use Rattle.fsfs_base.specs.declared.place.CommitPlace.TheVariants.{PutRev}
-use Rattle.fsfs_base.specs.declared.place.DiskPlace.TheVariants as place
+use Rattle.fsfs_base.specs.declared.places.place.DiskPlace.{DiskPlace}
+use Rattle.fsfs_base.specs.declared.places.place.DiskPlace.TheVariants.{Read, Begin, Commit}
+use Rattle.fsfs_base.specs.declared.places.place.BeginPlace.TheVariants as begin
+use Rattle.fsfs_base.specs.declared.places.place.CommitPlace.TheVariants.{PutRev}
+use Rattle.fsfs_base.specs.declared.places.place.DiskPlace.TheVariants as place
 use Rattle.fsfs_machine.specs.declared.machine.Drawn.{Drawn}
 use Rattle.fsfs_machine.specs.declared.machine.Pass.{Pass}
 use Rattle.fsfs_machine.specs.declared.machine.Section.{Section}

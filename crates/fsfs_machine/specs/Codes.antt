@@ -4,13 +4,13 @@ use Rattle.std.proofs.Common.{inl, inr, refl}
 use Rattle.std.specs.Coded.{Coded, code_by, coded×, coded⊎, coded_ℕ, coded_list, coded_option, coded_bool}
 use Rattle.std.specs.FinMap as map
 use Rattle.fsfs_base.specs.declared.kind.Kind.{Kind}
-use Rattle.fsfs_model.specs.declared.mark.Mark.{Mark}
-use Rattle.fsfs_model.specs.declared.mark.What.{What}
-use Rattle.fsfs_model.specs.declared.mark.What.TheVariants.{Make, Gone, Text, Prop}
+use Rattle.fsfs_model.specs.declared.flat.mark.Mark.{Mark}
+use Rattle.fsfs_model.specs.declared.flat.mark.What.{What}
+use Rattle.fsfs_model.specs.declared.flat.mark.What.TheVariants.{Make, Gone, Text, Prop}
 use Rattle.fsfs_base.specs.Paths.{Path, path_cmp}
 use Rattle.fsfs_tree.specs.Nodes.{Node}
 use Rattle.fsfs_tree.specs.Codes.{coded_kind, coded_path, coded_node}
-use Rattle.fsfs_model.specs.Transactions.{Entry}
+use Rattle.fsfs_model.specs.Flat.Transactions.{Entry}
 
 abbrev pub parts_of : What → Option (Option (ℕ × Path)) ⊎ Bool
 parts_of (Make source) = inl (Some source)

@@ -41,7 +41,7 @@ pub struct Marks {
 
 impl Model for Marks {
     ghost use Rattle.std.specs.Prelude.{List};
-    ghost use Rattle.fsfs_model.specs.declared.mark.Mark.{Mark};
+    ghost use Rattle.fsfs_model.specs.declared.flat.mark.Mark.{Mark};
 
     ghost Value = { List Mark };
 
@@ -102,7 +102,7 @@ pub struct Entry {
 }
 
 impl Model for Entry {
-    ghost use Rattle.fsfs_model.specs.Transactions.{Entry};
+    ghost use Rattle.fsfs_model.specs.Flat.Transactions.{Entry};
     ghost use Rattle.fsfs_machine.specs.Codes.{coded_entry};
 
     ghost Value = { Entry };
@@ -191,7 +191,7 @@ pub struct Places {
 
 impl Model for Places {
     ghost use Rattle.std.specs.Prelude.{List};
-    ghost use Rattle.fsfs_base.specs.declared.place.DiskPlace.{DiskPlace};
+    ghost use Rattle.fsfs_base.specs.declared.places.place.DiskPlace.{DiskPlace};
 
     ghost Value = { List DiskPlace };
 

@@ -1,7 +1,7 @@
 -- Whether nothing stands at paths below one, a path at a time.
 use Rattle.std.proofs.Common.{◌≡◌, ℕ, List, [], ◌∷◌, ◌++◌, true, false, ⊎_elim, sym, ap, subst, ◌∙◌}
-use Rattle.fsfs_folders.specs.Paths.{has_path}
-use Rattle.fsfs_folders.specs.CallRecord.{Standing}
+use Rattle.fsfs_folders.specs.System.Paths.{has_path}
+use Rattle.fsfs_folders.specs.System.CallRecord.{Standing}
 use Rattle.fsfs_memcalls.specs.Emptiness.{IsClearAt}
 use Rattle.fsfs_memcalls.proofs.ListLemmas.{in_more}
 

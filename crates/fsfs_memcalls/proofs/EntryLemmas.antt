@@ -6,8 +6,8 @@ use Rattle.std.proofs.lemmas.Str.Pattern.{NoCharPasses-char, drop_at_char}
 use Rattle.std.specs.Prelude.{◌||◌, ◌==◌, not, nat_le}
 use Rattle.std.specs.Str.{NoCharPasses}
 use Rattle.std.specs.Str.Pattern.{HasCharAt}
-use Rattle.fsfs_folders.specs.Paths.{has_slash}
-use Rattle.fsfs_folders.specs.Listing.{is_entry}
+use Rattle.fsfs_folders.specs.System.Paths.{has_slash}
+use Rattle.fsfs_folders.specs.System.Listing.{is_entry}
 use Rattle.fsfs_folders.proofs.PathLemmas.{slash_within, lacks_slash}
 use Rattle.fsfs_memcalls.specs.Entries.{IsElsewhere, IsPartBelow, IsNoEntry, IsEntryAt}
 

@@ -5,11 +5,11 @@ use Rattle.std.proofs.lemmas.Option.{none-some}
 use Rattle.std.specs.Prelude.{◌||◌, ◌==◌, if◌then◌else◌, drop, Option, Some, None, option_map}
 use Rattle.fsfs_base.specs.Files.{NamedFile, same_text}
 use Rattle.fsfs_base.proofs.FileLemmas.{same_is}
-use Rattle.fsfs_folders.specs.Paths.{has_path}
-use Rattle.fsfs_folders.specs.CallRecord.{Call, Named, Append, SyncFile, FailSync, SyncFolder, Firmed, Beginning, Standing, first_number, first_bytes, file_count, renamed_by, names_after, is_reachable}
+use Rattle.fsfs_folders.specs.System.Paths.{has_path}
+use Rattle.fsfs_folders.specs.System.CallRecord.{Call, Named, Append, SyncFile, FailSync, SyncFolder, Firmed, Beginning, Standing, first_number, first_bytes, file_count, renamed_by, names_after, is_reachable}
 use Rattle.fsfs_folders.proofs.PathLemmas.{or_right}
 use Rattle.fsfs_folders.specs.SameText.{text_cases}
-use Rattle.fsfs_folders.specs.Named.{file_paths}
+use Rattle.fsfs_folders.specs.System.Named.{file_paths}
 use Rattle.fsfs_folders.proofs.NameLemmas.{first_within, comes_from}
 use Rattle.fsfs_folders.proofs.NamedLemmas.{first_named}
 use Rattle.fsfs_memcalls.specs.Places.{places_in, paths_of}

@@ -3,8 +3,8 @@ use Rattle.std.proofs.Common.{◌≡◌, ℕ, List, [], ◌∷◌, length, take,
 use Rattle.std.proofs.lemmas.Bool.{cases_lt}
 use Rattle.std.proofs.lemmas.List.{append-nil, take_all}
 use Rattle.std.specs.Prelude.{◌||◌, drop}
-use Rattle.fsfs_folders.specs.CallRecord.{NameCall, Call, Named, Append, SyncFile, FailSync, SyncFolder, Firmed, Beginning, CallRecord, Contents, Standing, file_count, renamed_by, names_after, contents_now}
-use Rattle.fsfs_folders.specs.Remains.{AreNamesLeft, AreBytesLeft, IsLeft, are_synced, folders_of}
+use Rattle.fsfs_folders.specs.System.CallRecord.{NameCall, Call, Named, Append, SyncFile, FailSync, SyncFolder, Firmed, Beginning, CallRecord, Contents, Standing, file_count, renamed_by, names_after, contents_now}
+use Rattle.fsfs_folders.specs.System.Remains.{AreNamesLeft, AreBytesLeft, IsLeft, are_synced, folders_of}
 use Rattle.fsfs_memcalls.specs.Left.{first_pick, kept_by, chosen, left_names, left_bytes, picked_names, picked_bytes}
 
 named_left : (first : Beginning) (synced : List (List ℕ)) (change : NameCall) (calls : List Call) (pick : Bool) (was : Standing) → AreNamesLeft first synced calls was

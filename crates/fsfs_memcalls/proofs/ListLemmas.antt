@@ -2,9 +2,9 @@
 use Rattle.std.proofs.Common.{◌≡◌, ◌⊎◌, ℕ, List, [], ◌∷◌, ◌++◌, Bool, true, false, inl, inr, ⊎_elim, refl, sym, ap, subst, ◌∙◌}
 use Rattle.std.proofs.lemmas.Bool.{and_parts, and_from, or_cases, or_parts}
 use Rattle.std.specs.Prelude.{◌||◌, not, is_some, Option, Some, None}
-use Rattle.fsfs_folders.specs.Paths.{has_path, within}
-use Rattle.fsfs_folders.specs.CallRecord.{Beginning, Call, names_after}
-use Rattle.fsfs_folders.specs.Listing.{IsListOf, is_entry, are_apart}
+use Rattle.fsfs_folders.specs.System.Paths.{has_path, within}
+use Rattle.fsfs_folders.specs.System.CallRecord.{Beginning, Call, names_after}
+use Rattle.fsfs_folders.specs.System.Listing.{IsListOf, is_entry, are_apart}
 use Rattle.fsfs_folders.proofs.PathLemmas.{or_right, same_itself}
 use Rattle.fsfs_memcalls.specs.Entries.{IsNoEntry, IsEntryAt, IsListSoFar, Lists}
 use Rattle.fsfs_memcalls.specs.Places.{paths_of}

@@ -1,8 +1,8 @@
 -- A part in which nothing stands yet.
 use Rattle.std.proofs.Common.{◌≡◌, List, ℕ, [], ◌∷◌, Bool, true, false, refl, sym, subst}
 use Rattle.std.specs.Prelude.{Option, None, if◌then◌else◌, Result, Ok, Err, IfOk}
-use Rattle.fsfs_folders.specs.CallRecord.{CallRecord, Contents}
-use Rattle.fsfs_folders.specs.Listing.{is_entry}
+use Rattle.fsfs_folders.specs.System.CallRecord.{CallRecord, Contents}
+use Rattle.fsfs_folders.specs.System.Listing.{is_entry}
 use Rattle.fsfs_folders.specs.BenchFiles.{HoldsNothing}
 use Rattle.fsfs_memcalls.specs.Recorded.{of_folders}
 

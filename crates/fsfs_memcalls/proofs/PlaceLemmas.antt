@@ -3,10 +3,10 @@ use Rattle.std.proofs.Common.{◌≡◌, ◌⊎◌, ℕ, List, [], ◌∷◌, �
 use Rattle.std.proofs.lemmas.Bool.{or_cases, and_parts, cases_Bool}
 use Rattle.std.specs.Prelude.{◌||◌, not, Option, Some, None}
 use Rattle.fsfs_base.specs.Files.{same_text}
-use Rattle.fsfs_folders.specs.Paths.{has_path, is_below}
-use Rattle.fsfs_folders.specs.CallRecord.{NameCall, MakeFolder, DropFolder, Create, Take, Rename, Remove, Call, Named, Append, SyncFile, FailSync, SyncFolder, Firmed, Beginning, Standing, file_count, renamed_by, names_after, IsEmptyAt}
+use Rattle.fsfs_folders.specs.System.Paths.{has_path, is_below}
+use Rattle.fsfs_folders.specs.System.CallRecord.{NameCall, MakeFolder, DropFolder, Create, Take, Rename, Remove, Call, Named, Append, SyncFile, FailSync, SyncFolder, Firmed, Beginning, Standing, file_count, renamed_by, names_after, IsEmptyAt}
 use Rattle.fsfs_folders.proofs.PathLemmas.{or_right, has_head, has_tail}
-use Rattle.fsfs_folders.specs.Named.{file_paths}
+use Rattle.fsfs_folders.specs.System.Named.{file_paths}
 use Rattle.fsfs_folders.proofs.NameLemmas.{comes_from, Comes}
 use Rattle.fsfs_folders.proofs.NamedLemmas.{first_named}
 use Rattle.fsfs_memcalls.specs.Places.{place_of, with_place, places_in, paths_of}

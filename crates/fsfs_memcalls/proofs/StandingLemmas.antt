@@ -1,7 +1,7 @@
 -- What is asked of the newest call, and what of the calls before it.
 use Rattle.std.proofs.Common.{◌≡◌, ℕ, List, [], ◌∷◌, ◌++◌, take, drop, Bool, true, false, cond, refl, sym, ap, ◌∙◌, ⊎_elim}
 use Rattle.std.specs.Prelude.{◌&&◌, ◌==◌, if◌then◌else◌}
-use Rattle.fsfs_folders.specs.CallRecord.{are_there}
+use Rattle.fsfs_folders.specs.System.CallRecord.{are_there}
 use Rattle.fsfs_folders.proofs.PathLemmas.{same_itself}
 use Rattle.fsfs_folders.specs.SameText.{text_cases}
 use Rattle.fsfs_base.specs.Files.{same_text}

@@ -1,7 +1,7 @@
 -- The name that a path has next below a folder.
 use Rattle.std.specs.Prelude.{◌≡◌, ℕ, List, [], ◌∷◌, ◌++◌, Bool, true, false}
-use Rattle.fsfs_folders.specs.Paths.{has_path, has_slash, within}
-use Rattle.fsfs_folders.specs.Listing.{is_entry, are_apart}
+use Rattle.fsfs_folders.specs.System.Paths.{has_path, has_slash, within}
+use Rattle.fsfs_folders.specs.System.Listing.{is_entry, are_apart}
 
 -- the path is that of no name without a slash in the folder
 abbrev pub IsElsewhere : List ℕ → List ℕ → Type 0

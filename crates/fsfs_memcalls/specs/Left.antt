@@ -1,8 +1,8 @@
 -- What a crash leaves of the calls in memory, as it is picked.
 use Rattle.std.specs.Prelude.{◌≡◌, ℕ, List, [], ◌∷◌, take, drop, Bool, true, false, cond, ◌||◌, ◌&&◌, Option, Some, None, option_map}
 use Rattle.fsfs_base.specs.Files.{NamedFile}
-use Rattle.fsfs_folders.specs.CallRecord.{Beginning, CallRecord, Call, Named, Append, SyncFile, FailSync, SyncFolder, Firmed, Standing, Contents, first_names, file_count, renamed_by, names_after, contents_after, names_now, contents_now, is_reachable}
-use Rattle.fsfs_folders.specs.Remains.{are_synced, folders_of}
+use Rattle.fsfs_folders.specs.System.CallRecord.{Beginning, CallRecord, Call, Named, Append, SyncFile, FailSync, SyncFolder, Firmed, Standing, Contents, first_names, file_count, renamed_by, names_after, contents_after, names_now, contents_now, is_reachable}
+use Rattle.fsfs_folders.specs.System.Remains.{are_synced, folders_of}
 
 -- the first of the picks; behind them nothing is picked
 abbrev pub first_pick : List Bool → Bool

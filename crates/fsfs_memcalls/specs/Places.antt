@@ -1,7 +1,7 @@
 -- The paths at which something may stand after some calls.
 use Rattle.std.specs.Prelude.{ℕ, List, [], ◌∷◌, ◌++◌, Option, Some, None}
-use Rattle.fsfs_folders.specs.CallRecord.{Beginning, Call, Named, Append, SyncFile, FailSync, SyncFolder, Firmed, MakeFolder, DropFolder, Create, Take, Rename, Remove}
-use Rattle.fsfs_folders.specs.Named.{file_paths}
+use Rattle.fsfs_folders.specs.System.CallRecord.{Beginning, Call, Named, Append, SyncFile, FailSync, SyncFolder, Firmed, MakeFolder, DropFolder, Create, Take, Rename, Remove}
+use Rattle.fsfs_folders.specs.System.Named.{file_paths}
 
 -- where a call makes something stand
 abbrev pub place_of : Call → Option (List ℕ)

@@ -1,6 +1,6 @@
 -- The record that the calls in memory tell.
 use Rattle.std.specs.Prelude.{ℕ, List, [], drop}
-use Rattle.fsfs_folders.specs.CallRecord.{Beginning, Call, CallRecord}
+use Rattle.fsfs_folders.specs.System.CallRecord.{Beginning, Call, CallRecord}
 use Rattle.fsfs_memcalls.specs.Told.{beginning_of, calls_of}
 use Rattle.fsfs_memcalls.specs.declared.calls.MemCalls.{MemCalls}
 

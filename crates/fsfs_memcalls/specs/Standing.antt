@@ -1,7 +1,7 @@
 -- What a listing is of.
 use Rattle.std.specs.Prelude.{ℕ, List, Bool}
-use Rattle.fsfs_folders.specs.CallRecord.{Standing}
-use Rattle.fsfs_folders.specs.Listing.{has_file}
+use Rattle.fsfs_folders.specs.System.CallRecord.{Standing}
+use Rattle.fsfs_folders.specs.System.Listing.{has_file}
 use Rattle.fsfs_memcalls.specs.declared.listing.Kind.{Kind}
 use Rattle.fsfs_memcalls.specs.declared.listing.Kind.TheVariants.{Folder, File}
 

@@ -1,8 +1,8 @@
 -- What the calls in memory keep, as the record that they tell.
 use Rattle.std.specs.Prelude.{List, map}
 use Rattle.fsfs_base.specs.Files.{NamedFile}
-use Rattle.fsfs_folders.specs.CallRecord as system
-use Rattle.fsfs_folders.specs.CallRecord.{Beginning, CallRecord, Call, NameCall, Contents}
+use Rattle.fsfs_folders.specs.System.CallRecord as system
+use Rattle.fsfs_folders.specs.System.CallRecord.{Beginning, CallRecord, Call, NameCall, Contents}
 use Rattle.fsfs_memcalls.specs.declared.made.MemFile.{MemFile}
 use Rattle.fsfs_memcalls.specs.declared.made.MemBeginning.{MemBeginning}
 use Rattle.fsfs_memcalls.specs.declared.made.MemContents.{MemContents}

@@ -1,9 +1,9 @@
 // The calls of the system, made in memory.
 ghost use Rattle.std.specs.Prelude.{◌≡◌, ◌⊎◌, ◌≤◌, ◌<◌, ◌-◌, ◌^◌, [], ◌∷◌, ◌++◌, ℕ, List, true, false, min, length, take, drop, OnOk, OnErr, IfOk, IsErrOf};
-ghost use Rattle.fsfs_folders.specs.Paths.{has_path};
-ghost use Rattle.fsfs_folders.specs.CallRecord.{file_count, add_call, new_number, names_now, contents_now, is_reachable, IsEmptyAt};
-ghost use Rattle.fsfs_folders.specs.Listing.{IsListOf};
-ghost use Rattle.fsfs_folders.specs.Remains.{IsLeft};
+ghost use Rattle.fsfs_folders.specs.System.Paths.{has_path};
+ghost use Rattle.fsfs_folders.specs.System.CallRecord.{file_count, add_call, new_number, names_now, contents_now, is_reachable, IsEmptyAt};
+ghost use Rattle.fsfs_folders.specs.System.Listing.{IsListOf};
+ghost use Rattle.fsfs_folders.specs.System.Remains.{IsLeft};
 ghost use Rattle.fsfs_memcalls.specs.Told.{beginning_of, calls_of, call_of, contents_of};
 ghost use Rattle.fsfs_memcalls.specs.Standing.{stands_as};
 
@@ -335,7 +335,7 @@ fn copy_from(bytes: &[u8], offset: u64, buffer: &mut [u8]) -> usize
 
 impl Calls for MemCalls {
     ghost use Rattle.std.specs.Prelude.{Some, refl};
-    ghost use Rattle.fsfs_folders.specs.Paths.{has_path};
+    ghost use Rattle.fsfs_folders.specs.System.Paths.{has_path};
     ghost use Rattle.fsfs_memcalls.specs.Recorded.{record_of};
 
     type File = MemOpenFile;

@@ -1,8 +1,8 @@
 // What a crash leaves of the calls that were made.
 ghost use Rattle.std.specs.Prelude.{◌≡◌, ◌<◌, ◌^◌, ◌++◌, ℕ, map, drop, cond, unwrap_or, Some, None, IfOk, OnOk, MatchOption};
-ghost use Rattle.fsfs_folders.specs.Paths.{has_path};
-ghost use Rattle.fsfs_folders.specs.CallRecord.{Standing, file_count, renamed_by, names_after, contents_after, is_reachable};
-ghost use Rattle.fsfs_folders.specs.Remains.{are_synced, folders_of};
+ghost use Rattle.fsfs_folders.specs.System.Paths.{has_path};
+ghost use Rattle.fsfs_folders.specs.System.CallRecord.{Standing, file_count, renamed_by, names_after, contents_after, is_reachable};
+ghost use Rattle.fsfs_folders.specs.System.Remains.{are_synced, folders_of};
 ghost use Rattle.fsfs_memcalls.specs.Told.{file_of, beginning_of, call_of, calls_of, change_of};
 ghost use Rattle.fsfs_memcalls.specs.Recorded.{of_beginning, record_at};
 ghost use Rattle.fsfs_memcalls.specs.Left.{first_pick, is_kept as is_kept_call, synced_with, kept_by, left_names, left_bytes, bytes_of, picked_names, picked_bytes, is_found as is_found_folder, bytes_found, IsFound, paths_such, files_such};

@@ -1,7 +1,7 @@
 // Whether nothing stands below a path.
 ghost use Rattle.std.specs.Prelude.{◌≡◌, ◌<◌, ◌^◌, true, false, None, List, ℕ};
-ghost use Rattle.fsfs_folders.specs.Paths.{is_below, has_path};
-ghost use Rattle.fsfs_folders.specs.CallRecord.{file_count, names_after, IsEmptyAt};
+ghost use Rattle.fsfs_folders.specs.System.Paths.{is_below, has_path};
+ghost use Rattle.fsfs_folders.specs.System.CallRecord.{file_count, names_after, IsEmptyAt};
 ghost use Rattle.fsfs_memcalls.specs.Told.{beginning_of, calls_of};
 ghost use Rattle.fsfs_memcalls.specs.Emptiness.{IsClearAt};
 ghost use Rattle.fsfs_memcalls.specs.Places.{paths_of};

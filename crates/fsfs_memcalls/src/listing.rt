@@ -1,8 +1,8 @@
 // The names next below a folder.
 ghost use Rattle.std.specs.Prelude.{◌≡◌, ◌≢◌, ◌⊎◌, ◌<◌, ◌^◌, [], ◌∷◌, ◌++◌, false, IfOk, OnOk, MatchBool, MatchOption};
-ghost use Rattle.fsfs_folders.specs.Paths.{has_path, has_slash};
-ghost use Rattle.fsfs_folders.specs.CallRecord.{file_count, names_after};
-ghost use Rattle.fsfs_folders.specs.Listing.{IsListOf};
+ghost use Rattle.fsfs_folders.specs.System.Paths.{has_path, has_slash};
+ghost use Rattle.fsfs_folders.specs.System.CallRecord.{file_count, names_after};
+ghost use Rattle.fsfs_folders.specs.System.Listing.{IsListOf};
 ghost use Rattle.fsfs_memcalls.specs.Told.{beginning_of, calls_of};
 ghost use Rattle.fsfs_memcalls.specs.Standing.{stands_as};
 ghost use Rattle.fsfs_memcalls.specs.Entries.{IsElsewhere, IsPartBelow, IsNoEntry, IsEntryAt, Lists};

@@ -1,6 +1,6 @@
 // The calls that were made, and the files that they met, kept in memory.
 ghost use Rattle.std.specs.Prelude.{◌≡◌, ◌++◌, IfOk, OnOk};
-ghost use Rattle.fsfs_folders.specs.CallRecord.{no_contents, more_bytes, made_firm, made_lost};
+ghost use Rattle.fsfs_folders.specs.System.CallRecord.{no_contents, more_bytes, made_firm, made_lost};
 ghost use Rattle.fsfs_memcalls.specs.Told.{contents_of};
 ghost use Rattle.fsfs_memcalls.specs.Left.{left_bytes};
 

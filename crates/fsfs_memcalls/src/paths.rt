@@ -2,7 +2,7 @@
 ghost use Rattle.std.specs.Prelude.{◌≡◌, ◌++◌, map, OnOk, IfOk, MatchOption, Some, None};
 ghost use Rattle.fsfs_memcalls.specs.Told.{file_of, beginning_of, call_of, calls_of};
 ghost use Rattle.fsfs_memcalls.specs.Places.{place_of, places_in, paths_of};
-ghost use Rattle.fsfs_folders.specs.Named.{file_paths};
+ghost use Rattle.fsfs_folders.specs.System.Named.{file_paths};
 
 use crate::made::{MemBeginning, MemCall, MemChange, MemFile};
 use fsfs_folders::Path;

@@ -1,7 +1,7 @@
 // What stands after the calls that were made, the newest first.
 ghost use Rattle.std.specs.Prelude.{◌≡◌, ◌<◌, ◌^◌, ◌↔◌, [], map, IfOk, IsTrue};
-ghost use Rattle.fsfs_folders.specs.Paths.{has_path};
-ghost use Rattle.fsfs_folders.specs.CallRecord.{first_number, first_bytes, file_count, names_after, contents_after, is_reachable};
+ghost use Rattle.fsfs_folders.specs.System.Paths.{has_path};
+ghost use Rattle.fsfs_folders.specs.System.CallRecord.{first_number, first_bytes, file_count, names_after, contents_after, is_reachable};
 ghost use Rattle.fsfs_memcalls.specs.Told.{file_of, beginning_of, calls_of, contents_of};
 ghost use Rattle.fsfs_base.specs.Files.{same_text};
 

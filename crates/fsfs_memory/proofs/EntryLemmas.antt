@@ -14,7 +14,7 @@ use Rattle.std.specs.FinMap.Entries.{below_all}
 use Rattle.std.specs.FinMap.{find, is_sorted, entries, from_sorted, get, insert, remove, get-insert, get-remove, get-from_entries, get-from_sorted, entries-from_sorted}
 use Rattle.fsfs_base.specs.Files.{Files}
 use Rattle.fsfs_base.proofs.FileLemmas.{same_files}
-use Rattle.fsfs_memory.specs.MemFiles.{named_files, files_by, content_at}
+use Rattle.fsfs_memory.specs.Memdisk.MemFiles.{named_files, files_by, content_at}
 use Rattle.fsfs_base.proofs.TwoTests.{both_hold}
 
 read_either : {X : Type 0} (read : X → List ℕ) (b : Bool) (x : X) (o : Option X) → cond b (Some (read x)) (option_map read o) ≡ option_map read (cond b (Some x) o)

@@ -11,9 +11,9 @@ use Rattle.std.specs.declared.cmp.Ordering.TheVariants.{Less, Equal, Greater}
 use Rattle.std.specs.FinMap.{get, insert, remove, get-insert, get-remove, slice_cmp-IsAntisymmetric, nat_cmp-IsAntisymmetric}
 use Rattle.fsfs_base.specs.Files.{Files}
 use Rattle.fsfs_base.proofs.FileLemmas.{at_same, at_other, same_files}
-use Rattle.fsfs_memory.specs.MemFiles.{content_at}
-use Rattle.fsfs_memory.specs.BenchFiles.{bench_bytes, firm_of, held_files, held_firm}
-use Rattle.fsfs_memory.specs.declared.bench_files.BenchFile.{BenchFile}
+use Rattle.fsfs_memory.specs.Memdisk.MemFiles.{content_at}
+use Rattle.fsfs_memory.specs.Memdisk.BenchFiles.{bench_bytes, firm_of, held_files, held_firm}
+use Rattle.fsfs_memory.specs.declared.memdisk.bench_files.BenchFile.{BenchFile}
 use Rattle.fsfs_memory.proofs.EntryLemmas.{get-files_by, insert-remove_same}
 
 -- the entries after a change of one name

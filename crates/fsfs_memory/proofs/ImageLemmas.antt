@@ -6,8 +6,8 @@ use Rattle.std.specs.Prelude.{◌||◌}
 use Rattle.fsfs_base.specs.Files.{Files}
 use Rattle.fsfs_disk.specs.Labels.{Label, has_label, same_label, AreLeft}
 use Rattle.fsfs_disk.specs.Trace.{NameChange, Operation, Put, Adopt, Rename, Remove, FirmNames, KeepLabel, DropLabel, Done, Attempted, IsImage, ImageAfter, files_after, changed}
-use Rattle.fsfs_memory.specs.PickedImage.{is_picked, left_after, picked_image, picked_labels}
-use Rattle.fsfs_memory.specs.Stored.{operation_by}
+use Rattle.fsfs_memory.specs.Memdisk.PickedImage.{is_picked, left_after, picked_image, picked_labels}
+use Rattle.fsfs_memory.specs.Memdisk.Stored.{operation_by}
 
 left_is_image : (picked : Bool) (change : NameChange) (now : Files) (Before : Files → Type 0) (left : Files) → Before left → ImageAfter change now Before (left_after picked change now left)
 left_is_image true (Put name bytes) now Before left is = inr (left, is, refl)

@@ -6,8 +6,8 @@ use Rattle.std.specs.Option.{ForSome}
 use Rattle.std.specs.Str.{bytes_eq}
 use Rattle.std.proofs.lemmas.Bool.{false_from_ne_true}
 use Rattle.std.proofs.lemmas.Slice.Eq.{bytes_eq-Decides}
-use Rattle.fsfs_memory.specs.MemDisk.{disk_in}
-use Rattle.fsfs_memory.specs.declared.disk.MemDisk.{MemDisk}
+use Rattle.fsfs_memory.specs.Memdisk.MemDisk.{disk_in}
+use Rattle.fsfs_memory.specs.declared.memdisk.disk.MemDisk.{MemDisk}
 
 -- what stands at each path
 abbrev pub Places : Type 0

@@ -8,7 +8,7 @@ use Rattle.fsfs_disk.specs.Short.{IsShortChange}
 use Rattle.fsfs_disk.specs.Trace.{NameChange, Operation, IsImage, files_after, labels_after, relabelled}
 use Rattle.fsfs_disk.proofs.CrashLemmas.{files_are_image}
 use Rattle.fsfs_disk.proofs.ShortLemmas.{short_image}
-use Rattle.fsfs_memory.specs.Stored.{operation_by}
+use Rattle.fsfs_memory.specs.Memdisk.Stored.{operation_by}
 
 -- each image is short
 abbrev pub AreShort : Files → List Operation → Type 0

@@ -1,9 +1,3 @@
-pub mod MemFiles
-pub mod BenchFiles
-pub mod Stored
-pub mod PickedImage
-pub mod MemBench
-pub mod MemDisk
-pub mod MemHost
+pub mod Memdisk
 pub mod Streams
 pub mod Patience

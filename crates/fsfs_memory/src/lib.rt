@@ -8,29 +8,21 @@
 //! Sample revisions for tests, and books of them.
 #![tactic(auto)]
 
-mod bench;
-mod bench_files;
-mod copying;
-mod crash;
-mod disk;
 mod escapes;
-mod files;
 mod gate;
-mod host;
-mod labels;
+mod memdisk;
 mod numbers;
-mod operations;
 mod putting;
 mod revisions;
 mod streams;
 mod transcript;
 mod words;
 
-pub use bench::MemBench;
-pub use disk::MemDisk;
 pub use escapes::{EscapeError, bytes_of};
 pub use gate::HoldGate;
-pub use host::MemHost;
+pub use memdisk::bench::MemBench;
+pub use memdisk::disk::MemDisk;
+pub use memdisk::host::MemHost;
 pub use numbers::{ListError, numbers_of, picks_of};
 pub use putting::{file_of, put_file};
 pub use revisions::{

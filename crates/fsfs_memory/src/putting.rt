@@ -1,6 +1,6 @@
 // Files that a line of an example puts on a disk in memory.
-use crate::disk::MemDisk;
 use crate::escapes::bytes_of;
+use crate::memdisk::disk::MemDisk;
 use crate::transcript::Transcript;
 use crate::words::cut;
 use fsfs_base::{Failed, Name};

@@ -3,24 +3,24 @@ use Rattle.std.proofs.Common.{◌≡◌, ℕ, Ok, Err}
 use Rattle.std.specs.declared.vec.Vec.{Vec}
 use Rattle.std.specs.declared.alloc.Global.{Global}
 use Rattle.fsfs_base.specs.Paths.{Path}
-use Rattle.fsfs_base.specs.declared.txn_name.TxnName.{TxnName}
+use Rattle.fsfs_base.specs.declared.fields.txn_name.TxnName.{TxnName}
 use Rattle.fsfs_revision.specs.declared.wrong.ReadError.{ReadError}
 use Rattle.fsfs_revision.specs.declared.wrong.ReadError.TheVariants as reads
-use Rattle.fsfs_revision.specs.Readings.{Answers}
+use Rattle.fsfs_revision.specs.Damage.Readings.{Answers}
 use Rattle.fsfs_revision.specs.Told.{RevisionBytes}
 use Rattle.fsfs_draft.specs.Drafts.{Folder}
 use Rattle.fsfs_draft.specs.Causes.{IfDisk}
 use Rattle.fsfs_draft.specs.Errors.{IfMemory, IsWant, IfStays, of_own, of_read}
-use Rattle.fsfs_draft.specs.declared.own.OwnError.{OwnError}
-use Rattle.fsfs_draft.specs.declared.own.OwnError.TheVariants as owns
+use Rattle.fsfs_draft.specs.declared.txn_noderevs.OwnError.{OwnError}
+use Rattle.fsfs_draft.specs.declared.txn_noderevs.OwnError.TheVariants as owns
 use Rattle.fsfs_draft.specs.declared.error.EditError.{EditError}
 use Rattle.fsfs_draft.specs.declared.error.EditError.TheVariants as errors
-use Rattle.fsfs_merge.specs.declared.merged.MergedDir.{MergedDir}
-use Rattle.fsfs_merge.specs.declared.walk.Merge.{Merge}
-use Rattle.fsfs_merge.specs.declared.walk.Merge.TheVariants as merges
-use Rattle.fsfs_merge.specs.Merges.{MergeOf}
-use Rattle.fsfs_merge.specs.Points.{Point}
-use Rattle.fsfs_merge.specs.Turning.{IsFailure}
+use Rattle.fsfs_merge.specs.declared.clash.merged.MergedDir.{MergedDir}
+use Rattle.fsfs_merge.specs.declared.clash.walk.Merge.{Merge}
+use Rattle.fsfs_merge.specs.declared.clash.walk.Merge.TheVariants as merges
+use Rattle.fsfs_merge.specs.Clash.Merges.{MergeOf}
+use Rattle.fsfs_merge.specs.Clash.Points.{Point}
+use Rattle.fsfs_merge.specs.Clash.Turning.{IsFailure}
 use Rattle.fsfs_merge.specs.Relinked.{AreHere, IsUnwritten}
 use Rattle.fsfs_merge.specs.Landings.{TellsMerge}
 

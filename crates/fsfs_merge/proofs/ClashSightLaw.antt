@@ -4,19 +4,19 @@ use Rattle.std.specs.Prelude.{nat_le}
 use mathlib.Core.Bool.{false≢true}
 use Rattle.std.proofs.lemmas.Bool.{and_from, and_parts, leb-true, le-leb, not-true}
 use Rattle.std.proofs.lemmas.Option.{same_Some}
-use Rattle.fsfs_model.specs.Edits.{is_dir}
+use Rattle.fsfs_model.specs.Flat.Edits.{is_dir}
 use Rattle.fsfs_noderev.specs.declared.node_id.NodeId.{NodeId}
 use Rattle.fsfs_noderev.specs.declared.node_id.Part.{Part}
 use Rattle.fsfs_noderev.specs.declared.rep.Contents.{Contents}
 use Rattle.fsfs_noderev.specs.declared.node_rev.NodeRev.{NodeRev}
-use Rattle.fsfs_revision.specs.Chains.{copy_root_of}
+use Rattle.fsfs_revision.specs.Shows.Chains.{copy_root_of}
 use Rattle.fsfs_dag.specs.Same.{same_part, same_id}
 use Rattle.fsfs_dag.proofs.IdLemmas.{id_self, id_true, part_self, part_true}
 use Rattle.fsfs_draft.specs.OwnSides.{is_own_copy}
 use Rattle.fsfs_draft.proofs.OwnEntries.{is_dir_kind}
 use Rattle.fsfs_merge.specs.MergeLaws.{BothGoOn, IsSight}
-use Rattle.fsfs_merge.specs.Same.{same_contents}
-use Rattle.fsfs_merge.specs.Sights.{same_ids, go_on, go_on_in, have_same_props, same_props_in, sight}
+use Rattle.fsfs_merge.specs.Clash.Same.{same_contents}
+use Rattle.fsfs_merge.specs.Clash.Sights.{same_ids, go_on, go_on_in, have_same_props, same_props_in, sight}
 use Rattle.fsfs_merge.proofs.SameLaw.{contents_true, contents_self}
 
 -- ---- the base's id

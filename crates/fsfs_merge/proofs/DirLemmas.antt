@@ -3,16 +3,16 @@ use Rattle.std.proofs.Common.{◌≡◌, ℕ, Bool, true, false, ◌&&◌, Optio
 use Rattle.std.specs.Prelude.{if◌then◌else◌, nat_le, not}
 use Rattle.std.proofs.lemmas.Bool.{and_parts}
 use Rattle.fsfs_base.specs.declared.kind.Kind.TheVariants.{Dir}
-use Rattle.fsfs_model.specs.Edits.{is_dir}
+use Rattle.fsfs_model.specs.Flat.Edits.{is_dir}
 use Rattle.fsfs_noderev.specs.declared.node_rev.NodeRev.{NodeRev}
-use Rattle.fsfs_revision.specs.Chains.{copy_root_of}
+use Rattle.fsfs_revision.specs.Shows.Chains.{copy_root_of}
 use Rattle.fsfs_dag.specs.Same.{same_part}
 use Rattle.fsfs_draft.specs.OwnSides.{is_own_copy}
 use Rattle.fsfs_draft.proofs.OwnEntries.{is_dir_kind}
-use Rattle.fsfs_merge.specs.declared.turn.Dirs.{Dirs}
-use Rattle.fsfs_merge.specs.Dirs.{dirs_in}
-use Rattle.fsfs_merge.specs.Sights.{go_on, have_same_props, go_on_in, same_props_in}
-use Rattle.fsfs_merge.specs.Threes.{three_of}
+use Rattle.fsfs_merge.specs.declared.clash.turn.Dirs.{Dirs}
+use Rattle.fsfs_merge.specs.Clash.Dirs.{dirs_in}
+use Rattle.fsfs_merge.specs.Clash.Sights.{go_on, have_same_props, go_on_in, same_props_in}
+use Rattle.fsfs_merge.specs.Clash.Threes.{three_of}
 
 pub record AreDirs (x y v : Option NodeRev) (d : Dirs) : Type 0 where
   pub base : NodeRev

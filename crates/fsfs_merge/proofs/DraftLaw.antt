@@ -7,24 +7,24 @@ use Rattle.std.proofs.lemmas.Option.{same_Some}
 use Rattle.fsfs_base.specs.Paths.{Path}
 use Rattle.fsfs_base.specs.declared.kind.Kind.TheVariants.{Dir}
 use Rattle.fsfs_tree.specs.Nodes.{TreeFunction}
-use Rattle.fsfs_base.specs.declared.txn_name.TxnName.{TxnName}
+use Rattle.fsfs_base.specs.declared.fields.txn_name.TxnName.{TxnName}
 use Rattle.fsfs_revision.specs.declared.wrong.Wrong.{Wrong}
 use Rattle.fsfs_revision.specs.declared.wrong.ReadError.{ReadError}
 use Rattle.fsfs_revision.specs.declared.wrong.ReadError.TheVariants as errors
-use Rattle.fsfs_revision.specs.Readings.{HasOneAnswer, Answers}
+use Rattle.fsfs_revision.specs.Damage.Readings.{HasOneAnswer, Answers}
 use Rattle.fsfs_revision.proofs.OneAnswer.{ok_no_err}
 use Rattle.fsfs_revision.specs.Told.{RevisionBytes}
 use Rattle.fsfs_noderev.specs.declared.node_id.NodeId.{NodeId}
 use Rattle.fsfs_noderev.specs.declared.node_rev.NodeRev.{NodeRev}
-use Rattle.fsfs_revision.specs.ShowsReading.{RootOf, StandsAt}
+use Rattle.fsfs_revision.specs.Shows.Reading.{RootOf, StandsAt}
 use Rattle.fsfs_revision.proofs.OneNode.{root_of_one}
 use Rattle.fsfs_revision.proofs.OneWalk.{of_id_one, stands_same}
 use Rattle.fsfs_revision.proofs.TreeLaw.{root_home}
-use Rattle.fsfs_revision.specs.Trees.{ShowTrees}
+use Rattle.fsfs_revision.specs.Ancestry.Trees.{ShowTrees}
 use Rattle.fsfs_revision.proofs.Earlier.{root_there, stands_of_id}
-use Rattle.fsfs_model.specs.declared.mark.Mark.{Mark}
-use Rattle.fsfs_model.specs.Landing.{NoClash, IsFirstClash}
-use Rattle.fsfs_model.specs.Transactions.{IsTransaction}
+use Rattle.fsfs_model.specs.declared.flat.mark.Mark.{Mark}
+use Rattle.fsfs_model.specs.Flat.Landing.{NoClash, IsFirstClash}
+use Rattle.fsfs_model.specs.Flat.Transactions.{IsTransaction}
 use Rattle.fsfs_draft.specs.Own.{Own}
 use Rattle.fsfs_draft.specs.Drafts.{Kept, Folder}
 use Rattle.fsfs_draft.specs.OwnSides.{NodesAt}
@@ -40,18 +40,18 @@ use Rattle.fsfs_merge.specs.MergeLaws.{IsMerge}
 use Rattle.fsfs_merge.proofs.MergeLaw.{merging_is_by_ids}
 use Rattle.fsfs_merge.proofs.LandedWholeLaw.{merges_take_and_leave}
 use Rattle.fsfs_draft.specs.Walks.{IsRootId}
-use Rattle.fsfs_merge.specs.declared.turn.Halt.{Halt}
-use Rattle.fsfs_merge.specs.declared.turn.Halt.TheVariants as halts
-use Rattle.fsfs_merge.specs.declared.merged.MergedDir.{MergedDir}
-use Rattle.fsfs_merge.specs.declared.walk.Merge.{Merge}
-use Rattle.fsfs_merge.specs.declared.walk.Merge.TheVariants as found_merges
-use Rattle.fsfs_merge.specs.Merges.{MergeFrom, MergeRooted, MergeOf, LeadOn, FindsMerge}
-use Rattle.fsfs_merge.specs.Plans.{ArePlan}
-use Rattle.fsfs_merge.specs.Points.{Point, sights_of, sight_with, has_same, goes_down, IsSeenFrom}
-use Rattle.fsfs_merge.specs.Readings.{kept_in, NodeOfKept, NodeOf}
-use Rattle.fsfs_merge.specs.Sights.{same_ids, go_on_in, same_props_in, sights}
-use Rattle.fsfs_merge.specs.Threes.{node_target}
-use Rattle.fsfs_merge.specs.ClashWalks.{root_target}
+use Rattle.fsfs_merge.specs.declared.clash.turn.Halt.{Halt}
+use Rattle.fsfs_merge.specs.declared.clash.turn.Halt.TheVariants as halts
+use Rattle.fsfs_merge.specs.declared.clash.merged.MergedDir.{MergedDir}
+use Rattle.fsfs_merge.specs.declared.clash.walk.Merge.{Merge}
+use Rattle.fsfs_merge.specs.declared.clash.walk.Merge.TheVariants as found_merges
+use Rattle.fsfs_merge.specs.Clash.Merges.{MergeFrom, MergeRooted, MergeOf, LeadOn, FindsMerge}
+use Rattle.fsfs_merge.specs.Clash.Plans.{ArePlan}
+use Rattle.fsfs_merge.specs.Clash.Points.{Point, sights_of, sight_with, has_same, goes_down, IsSeenFrom}
+use Rattle.fsfs_merge.specs.Clash.Readings.{kept_in, NodeOfKept, NodeOf}
+use Rattle.fsfs_merge.specs.Clash.Sights.{same_ids, go_on_in, same_props_in, sights}
+use Rattle.fsfs_merge.specs.Clash.Threes.{node_target}
+use Rattle.fsfs_merge.specs.Clash.Walks.{root_target}
 use Rattle.fsfs_merge.proofs.DraftSeen.{halt_of, see_of, seen}
 use Rattle.fsfs_merge.proofs.FinerLaw.{IsShorter, no_stop, first_stop}
 use Rattle.fsfs_merge.proofs.NodesOf.{nodes_of, are_nodes}

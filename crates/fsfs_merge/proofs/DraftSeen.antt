@@ -8,22 +8,22 @@ use Rattle.fsfs_revision.proofs.OneAnswer.{ok_same, ok_no_err}
 use Rattle.fsfs_revision.specs.Told.{RevisionBytes}
 use Rattle.fsfs_noderev.specs.declared.node_id.NodeId.{NodeId}
 use Rattle.fsfs_noderev.specs.declared.node_rev.NodeRev.{NodeRev}
-use Rattle.fsfs_revision.specs.ShowsReading.{DirEntry, OfId, offset_of, StandsAt}
+use Rattle.fsfs_revision.specs.Shows.Reading.{DirEntry, OfId, offset_of, StandsAt}
 use Rattle.fsfs_revision.proofs.OneWalk.{of_id_one}
 use Rattle.fsfs_draft.specs.Drafts.{Folder}
 use Rattle.fsfs_draft.specs.OwnSides.{NodesAt}
 use Rattle.fsfs_draft.proofs.Hanging.{Hangs}
-use Rattle.fsfs_merge.specs.declared.facts.Facts.{Facts}
-use Rattle.fsfs_merge.specs.declared.turn.Dirs.{Dirs}
-use Rattle.fsfs_merge.specs.declared.turn.Halt.{Halt}
-use Rattle.fsfs_merge.specs.declared.turn.Halt.TheVariants as halts
-use Rattle.fsfs_merge.specs.Dirs.{dirs_in}
-use Rattle.fsfs_merge.specs.declared.merged.Link.{Link}
-use Rattle.fsfs_merge.specs.Lists.{Lists, target_named, three_named, link_of}
-use Rattle.fsfs_merge.specs.Points.{Point, IsReadAs, IsSeen}
-use Rattle.fsfs_merge.specs.Readings.{NodeOf, FactsOf, ListOf, ListsOf, IfMerged, TurnAt, LookAt, IsIn, AreDirsIn}
-use Rattle.fsfs_merge.specs.Sights.{facts_of, merge_with, go_on_in, same_props_in}
-use Rattle.fsfs_merge.specs.Threes.{three_of, node_target}
+use Rattle.fsfs_merge.specs.declared.clash.facts.Facts.{Facts}
+use Rattle.fsfs_merge.specs.declared.clash.turn.Dirs.{Dirs}
+use Rattle.fsfs_merge.specs.declared.clash.turn.Halt.{Halt}
+use Rattle.fsfs_merge.specs.declared.clash.turn.Halt.TheVariants as halts
+use Rattle.fsfs_merge.specs.Clash.Dirs.{dirs_in}
+use Rattle.fsfs_merge.specs.declared.clash.merged.Link.{Link}
+use Rattle.fsfs_merge.specs.Clash.Lists.{Lists, target_named, three_named, link_of}
+use Rattle.fsfs_merge.specs.Clash.Points.{Point, IsReadAs, IsSeen}
+use Rattle.fsfs_merge.specs.Clash.Readings.{NodeOf, FactsOf, ListOf, ListsOf, IfMerged, TurnAt, LookAt, IsIn, AreDirsIn}
+use Rattle.fsfs_merge.specs.Clash.Sights.{facts_of, merge_with, go_on_in, same_props_in}
+use Rattle.fsfs_merge.specs.Clash.Threes.{three_of, node_target}
 use Rattle.fsfs_merge.proofs.DirLemmas.{AreDirs, are_dirs, no_dirs}
 use Rattle.fsfs_merge.proofs.SideSeen.{names_of, IsOwnRead}
 

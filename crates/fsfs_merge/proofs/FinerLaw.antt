@@ -4,12 +4,12 @@ use Rattle.std.specs.declared.cmp.Ordering.{Ordering}
 use Rattle.std.specs.declared.cmp.Ordering.TheVariants.{Less, Equal, Greater}
 use Rattle.std.proofs.lemmas.Bool.{and_from, and_parts, both_ways}
 use Rattle.fsfs_base.specs.Paths.{PathName, Path, path_cmp}
-use Rattle.fsfs_model.specs.Landing.{reached}
+use Rattle.fsfs_model.specs.Flat.Landing.{reached}
 use Rattle.fsfs_merge.specs.declared.sight.Sight.{Sight}
 use Rattle.fsfs_merge.specs.Walks.{merges, is_stopped, down, clashes_by_ids}
 use Rattle.fsfs_merge.specs.FirstStops.{NoStop, FirstStop}
 use Rattle.fsfs_merge.proofs.FirstStopLaw.{walks_find_the_first}
-use Rattle.fsfs_merge.specs.UnderWay.{NotAfter}
+use Rattle.fsfs_merge.specs.Clash.UnderWay.{NotAfter}
 use Rattle.fsfs_merge.proofs.Orders.{not_after}
 
 -- s stops where r does, and goes down where r does and doesn't stop

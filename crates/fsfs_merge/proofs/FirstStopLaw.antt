@@ -7,7 +7,7 @@ use Rattle.std.specs.declared.cmp.Ordering.TheVariants.{Less, Equal, Greater}
 use Rattle.std.specs.Cmp.Lexicographic.{texts_ties, nat_list_cmp_total}
 use mathlib.Core.Bool.{false≢true}
 use Rattle.fsfs_base.specs.Paths.{PathName, Path, name_cmp, path_cmp, same_name, path_cmp_total}
-use Rattle.fsfs_model.specs.Landing.{reached}
+use Rattle.fsfs_model.specs.Flat.Landing.{reached}
 use Rattle.fsfs_base.proofs.PathLemmas.{same_name-is, same_name-refl}
 use Rattle.fsfs_merge.specs.Walks.{Sight, merges, is_stopped, down, clashes_by_ids}
 use Rattle.fsfs_merge.specs.FirstStops.{NoStop, FirstStop, Rise, Entries, End, Clear, Found, AreAllNames, WalksFindTheFirst}

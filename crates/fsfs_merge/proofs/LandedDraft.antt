@@ -6,17 +6,17 @@ use mathlib.Core.Bool.{false≢true}
 use Rattle.fsfs_base.specs.Paths.{PathName, Path, covers}
 use Rattle.fsfs_tree.specs.Nodes.{Node, TreeFunction}
 use Rattle.fsfs_base.specs.declared.kind.Kind.TheVariants.{Dir}
-use Rattle.fsfs_model.specs.declared.mark.Mark.{Mark}
-use Rattle.fsfs_model.specs.Marks.{effects}
-use Rattle.fsfs_model.specs.Landing.{held_by_head, goes_on, reached, touched_by_head, NoClash}
+use Rattle.fsfs_model.specs.declared.flat.mark.Mark.{Mark}
+use Rattle.fsfs_model.specs.Flat.Marks.{effects}
+use Rattle.fsfs_model.specs.Flat.Landing.{held_by_head, goes_on, reached, touched_by_head, NoClash}
 use Rattle.fsfs_revision.specs.Told.{RevisionBytes}
 use Rattle.fsfs_noderev.specs.Ids.{part_value}
 use Rattle.fsfs_noderev.specs.declared.rep.Contents.TheVariants as contents
 use Rattle.fsfs_noderev.specs.declared.node_rev.CopySource.{CopySource}
 use Rattle.fsfs_noderev.specs.declared.node_rev.NodeRev.{NodeRev}
-use Rattle.fsfs_revision.specs.ShowsReading.{ChildOf, StandsAt}
-use Rattle.fsfs_revision.specs.Chains.{own_rev, IsPred, copy_root_of}
-use Rattle.fsfs_revision.specs.IdRules.{IsBehind}
+use Rattle.fsfs_revision.specs.Shows.Reading.{ChildOf, StandsAt}
+use Rattle.fsfs_revision.specs.Shows.Chains.{own_rev, IsPred, copy_root_of}
+use Rattle.fsfs_revision.specs.Shows.IdRules.{IsBehind}
 use Rattle.fsfs_revision.proofs.OneWalk.{stands_same}
 use Rattle.fsfs_base.proofs.PathLemmas.{covers-refl, covers-trans, covers-antisym, covers-longer, covers_front}
 use Rattle.fsfs_model.proofs.MergeWalk.{goes_base, goes_gone, reached_above}

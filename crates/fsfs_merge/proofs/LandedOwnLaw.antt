@@ -6,18 +6,18 @@ use Rattle.fsfs_base.specs.Paths.{PathName, Path}
 use Rattle.fsfs_tree.specs.Nodes.{TreeFunction}
 use Rattle.fsfs_base.specs.declared.kind.Kind.{Kind}
 use Rattle.fsfs_base.specs.declared.kind.Kind.TheVariants.{Dir}
-use Rattle.fsfs_model.specs.declared.mark.Mark.{Mark}
-use Rattle.fsfs_model.specs.Marks.{effects}
-use Rattle.fsfs_model.specs.Landing.{NoClash}
-use Rattle.fsfs_base.specs.declared.txn_name.TxnName.{TxnName}
+use Rattle.fsfs_model.specs.declared.flat.mark.Mark.{Mark}
+use Rattle.fsfs_model.specs.Flat.Marks.{effects}
+use Rattle.fsfs_model.specs.Flat.Landing.{NoClash}
+use Rattle.fsfs_base.specs.declared.fields.txn_name.TxnName.{TxnName}
 use Rattle.fsfs_revision.specs.Told.{RevisionBytes}
 use Rattle.fsfs_noderev.specs.declared.rep.Contents.TheVariants as contents
 use Rattle.fsfs_noderev.specs.declared.node_id.NodeId.{NodeId}
 use Rattle.fsfs_noderev.specs.declared.node_rev.CopySource.{CopySource}
 use Rattle.fsfs_noderev.specs.declared.node_rev.NodeRev.{NodeRev}
-use Rattle.fsfs_revision.specs.ShowsReading.{DirEntry, named, ChildOf, StandsAt}
+use Rattle.fsfs_revision.specs.Shows.Reading.{DirEntry, named, ChildOf, StandsAt}
 use Rattle.fsfs_revision.proofs.Walks.{child_stands}
-use Rattle.fsfs_revision.specs.Chains.{IsPred}
+use Rattle.fsfs_revision.specs.Shows.Chains.{IsPred}
 use Rattle.fsfs_base.proofs.PathLemmas.{covers-trans, covers-longer}
 use Rattle.fsfs_model.proofs.MergeWalk.{goes_gone}
 use Rattle.fsfs_revision.proofs.Earlier.{stands_of_id, pred_same}

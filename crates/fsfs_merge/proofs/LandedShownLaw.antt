@@ -7,17 +7,17 @@ use Rattle.fsfs_base.specs.Paths.{PathName, Path, covers}
 use Rattle.fsfs_tree.specs.Nodes.{Node, TreeFunction, Content, Bytes}
 use Rattle.fsfs_base.specs.declared.kind.Kind.{Kind}
 use Rattle.fsfs_base.specs.declared.kind.Kind.TheVariants.{File, Dir}
-use Rattle.fsfs_model.specs.declared.mark.Mark.{Mark}
-use Rattle.fsfs_model.specs.declared.mark.Effects.{Effects}
-use Rattle.fsfs_model.specs.Marks.{effects}
-use Rattle.fsfs_model.specs.Landing.{held_by_own, held_by_head, chosen, numbered, numbered_some, land, NoClash, reached}
-use Rattle.fsfs_base.specs.declared.txn_name.TxnName.{TxnName}
+use Rattle.fsfs_model.specs.declared.flat.mark.Mark.{Mark}
+use Rattle.fsfs_model.specs.declared.flat.mark.Effects.{Effects}
+use Rattle.fsfs_model.specs.Flat.Marks.{effects}
+use Rattle.fsfs_model.specs.Flat.Landing.{held_by_own, held_by_head, chosen, numbered, numbered_some, land, NoClash, reached}
+use Rattle.fsfs_base.specs.declared.fields.txn_name.TxnName.{TxnName}
 use Rattle.fsfs_revision.specs.Told.{RevisionBytes}
 use Rattle.fsfs_noderev.specs.declared.node_id.NodeId.{NodeId}
 use Rattle.fsfs_noderev.specs.declared.node_rev.CopySource.{CopySource}
 use Rattle.fsfs_noderev.specs.declared.node_rev.NodeRev.{NodeRev}
-use Rattle.fsfs_revision.specs.ShowsReading.{DirEntry, StandsAt}
-use Rattle.fsfs_revision.specs.Shown.{IsTextOf}
+use Rattle.fsfs_revision.specs.Shows.Reading.{DirEntry, StandsAt}
+use Rattle.fsfs_revision.specs.Shows.Shown.{IsTextOf}
 use Rattle.fsfs_base.proofs.PathLemmas.{same_name-is, covers-trans, covers-either, covers-longer}
 use Rattle.fsfs_model.proofs.MergeWalk.{goes_gone, reached_above}
 use Rattle.fsfs_draft.specs.Own.{OwnNode, Own, has_entry, draft_tree, shared_from, shared_under, shared_at}
@@ -190,7 +190,7 @@ module _ (look : RevisionBytes) (top : ℕ) (tree : ℕ → TreeFunction) (b h k
   through (Some from) o S q e h = absurd cc
 
   fixed : (c e : Option CopySource) (o u : Option NodeId) (S T : TreeFunction) (q : Path) → c ≡ e → (is_some c ≡ true) ⊎ ((is_some o ≡ false) × (is_some u ≡ false)) → shared_from tree c o S q ≡ shared_from tree e u T q
-  fixed (Some from) (Some other) o u S T q e h = let same : from ≡ other = cc in ap (λ (z : CopySource). Rattle.fsfs_model.specs.Edits.copied_node z.rev (z.path ++ q) (tree z.rev (z.path ++ q))) same
+  fixed (Some from) (Some other) o u S T q e h = let same : from ≡ other = cc in ap (λ (z : CopySource). Rattle.fsfs_model.specs.Flat.Edits.copied_node z.rev (z.path ++ q) (tree z.rev (z.path ++ q))) same
   fixed None None None None S T q e h = refl
   fixed None (Some x) o u S T q e h = absurd cc
   fixed (Some x) None o u S T q e h = absurd cc

@@ -1,6 +1,6 @@
 -- A merge takes a whole draft, and leaves one.
 use Rattle.std.proofs.Common.{suc, List, sym, subst, arith}
-use Rattle.fsfs_noderev.specs.declared.item.ChangeItem.{ChangeItem}
+use Rattle.fsfs_noderev.specs.declared.changes.item.ChangeItem.{ChangeItem}
 use Rattle.fsfs_draft.specs.Drafts.{AreItemsOf}
 use Rattle.fsfs_draft.proofs.WholeLaw.{drafts_are_handed}
 use Rattle.fsfs_merge.specs.LandedOwn.{landed_own}

@@ -9,19 +9,19 @@ use Rattle.std.specs.String.{string_bytes}
 use Rattle.std.specs.declared.string.String.{String}
 use Rattle.std.specs.declared.alloc.Global.{Global}
 use Rattle.fsfs_base.specs.Paths.{PathName, Path, same_name}
-use Rattle.fsfs_revision.specs.ShowsReading.{named}
+use Rattle.fsfs_revision.specs.Shows.Reading.{named}
 use Rattle.fsfs_revision.specs.declared.damage.RevOffset.{RevOffset}
 use Rattle.fsfs_dag.specs.declared.directory.DirEntry.{DirEntry as PlacedEntry}
 use Rattle.fsfs_dag.specs.Views.{entry_value, entry_values, AreBefore}
 use Rattle.fsfs_revision.specs.Nodes.{place_before}
-use Rattle.fsfs_merge.specs.declared.three.Target.{Target}
-use Rattle.fsfs_merge.specs.declared.three.Three.{Three}
-use Rattle.fsfs_merge.specs.declared.three.Which.{Which}
-use Rattle.fsfs_merge.specs.declared.entries.Sides.{Sides}
-use Rattle.fsfs_merge.specs.declared.walk.Pending.{Pending}
-use Rattle.fsfs_merge.specs.Lists.{three_in}
-use Rattle.fsfs_merge.specs.Threes.{entry_target, is_of}
-use Rattle.fsfs_merge.specs.ClashWalks.{pending, if_changed, changed}
+use Rattle.fsfs_merge.specs.declared.clash.three.Target.{Target}
+use Rattle.fsfs_merge.specs.declared.clash.three.Three.{Three}
+use Rattle.fsfs_merge.specs.declared.clash.three.Which.{Which}
+use Rattle.fsfs_merge.specs.declared.clash.entries.Sides.{Sides}
+use Rattle.fsfs_merge.specs.declared.clash.walk.Pending.{Pending}
+use Rattle.fsfs_merge.specs.Clash.Lists.{three_in}
+use Rattle.fsfs_merge.specs.Clash.Threes.{entry_target, is_of}
+use Rattle.fsfs_merge.specs.Clash.Walks.{pending, if_changed, changed}
 
 abbrev pub Named : Type 0
 Named = String Global × Target

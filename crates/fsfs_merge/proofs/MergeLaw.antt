@@ -3,14 +3,14 @@ use Rattle.fsfs_revision.proofs.Revisions.{shown_revisions}
 use Rattle.std.proofs.Common.{◌≡◌, ◌≤◌, ◌⊎◌, ℕ, not, Bool, true, false, ◌&&◌, List, refl, sym, ap, subst, ◌∙◌, inl, inr, Option, Some, None, arith}
 use Rattle.std.specs.Prelude.{is_some, if◌then◌else◌, min, ◌+◌, ◌-◌, ◌^◌}
 use mathlib.Core.Bool.{false≢true}
-use Rattle.fsfs_model.specs.Edits.{is_dir_node}
+use Rattle.fsfs_model.specs.Flat.Edits.{is_dir_node}
 use Rattle.fsfs_base.specs.Paths.{Path, covers, is_above}
 use Rattle.fsfs_tree.specs.Nodes.{Node, TreeFunction}
-use Rattle.fsfs_model.specs.declared.mark.What.TheVariants.{Gone}
-use Rattle.fsfs_model.specs.declared.mark.Mark.{Mark}
-use Rattle.fsfs_model.specs.declared.mark.Effects.{Effects}
-use Rattle.fsfs_model.specs.Marks.{effects, is_make}
-use Rattle.fsfs_model.specs.Landing.{touched_by_head, props_changed_by_head, goes_on, clashes_at, reached, NoClash, land}
+use Rattle.fsfs_model.specs.declared.flat.mark.What.TheVariants.{Gone}
+use Rattle.fsfs_model.specs.declared.flat.mark.Mark.{Mark}
+use Rattle.fsfs_model.specs.declared.flat.mark.Effects.{Effects}
+use Rattle.fsfs_model.specs.Flat.Marks.{effects, is_make}
+use Rattle.fsfs_model.specs.Flat.Landing.{touched_by_head, props_changed_by_head, goes_on, clashes_at, reached, NoClash, land}
 use Rattle.fsfs_revision.specs.Told.{RevisionBytes}
 use Rattle.fsfs_noderev.specs.declared.rep.Contents.TheVariants as contents
 use Rattle.fsfs_noderev.specs.declared.node_rev.NodeRev.{NodeRev}
@@ -89,7 +89,7 @@ taken b d a s t see agree m clear = elim (cases_Bool (is_some a)) [
 
 module _ (look : RevisionBytes) (top : ℕ) (tree : ℕ → TreeFunction) (b h : ℕ) (t : TreeFunction) (marks : List Mark) (base head own : NodesAt) (see : Path → Sight)
     (is : IsMerge look top tree b h t marks base head own see) where
-  pub clash_by_ids : (p : Path) → Rattle.fsfs_merge.specs.Walks.clashes_by_ids see p ≡ Rattle.fsfs_model.specs.Landing.is_clash b (tree b) (tree h) t marks p
+  pub clash_by_ids : (p : Path) → Rattle.fsfs_merge.specs.Walks.clashes_by_ids see p ≡ Rattle.fsfs_model.specs.Flat.Landing.is_clash b (tree b) (tree h) t marks p
   clash_by_ids = same_clash tree top b h t marks see (shown_revisions look top tree is.shows) is.transaction is.order is.within (λ p r. agrees look top tree b h t marks base head own see is p r)
 
   module _ (n : ℕ) (clear : NoClash b (tree b) (tree h) t marks) where
@@ -148,7 +148,7 @@ module _ (look : RevisionBytes) (top : ℕ) (tree : ℕ → TreeFunction) (b h :
           | inr apart ↦ absurd (both_ways _ (above g.0.path (and_from _ _ g.3 (ap not apart))) (Rattle.fsfs_model.proofs.MergeWalk.gone_from marks g.0 g.0.path g.1 g.2 (covers-refl g.0.path)))
         ]
       where
-        not_make : (k : Rattle.fsfs_model.specs.declared.mark.What.What) → k ≡ Gone → is_make k ≡ true → ⊥
+        not_make : (k : Rattle.fsfs_model.specs.declared.flat.mark.What.What) → k ≡ Gone → is_make k ≡ true → ⊥
         not_make k e f = false≢true (sym (ap is_make e) ∙ f)
 
     -- ---- the draft over the head

@@ -3,19 +3,19 @@ use Rattle.std.proofs.Common.{◌≡◌, ◌≤◌, ◌⊎◌, ℕ, not, Bool, t
 use Rattle.std.specs.Prelude.{is_some, if◌then◌else◌, nat_lt}
 use Rattle.std.proofs.lemmas.Bool.Decides.{nat_tests}
 use mathlib.Core.Bool.{false≢true}
-use Rattle.fsfs_model.specs.Edits.{is_dir, is_dir_node}
+use Rattle.fsfs_model.specs.Flat.Edits.{is_dir, is_dir_node}
 use Rattle.fsfs_base.specs.Paths.{Path, covers}
 use Rattle.fsfs_tree.specs.Nodes.{Node, TreeFunction}
 use Rattle.fsfs_base.specs.declared.kind.Kind.{Kind}
 use Rattle.fsfs_base.specs.declared.kind.Kind.TheVariants.{File, Dir}
-use Rattle.fsfs_model.specs.declared.mark.What.{What}
-use Rattle.fsfs_model.specs.declared.mark.What.TheVariants.{Make, Gone, Text, Prop}
-use Rattle.fsfs_model.specs.declared.mark.Mark.{Mark}
-use Rattle.fsfs_model.specs.declared.mark.Effects.{Effects}
-use Rattle.fsfs_model.specs.Marks.{effects, outer, changes_props, is_rewritten}
-use Rattle.fsfs_model.specs.Landing.{held_by_own, held_by_head, touched_by_head, props_changed_by_head, goes_on, reached, NoClash, chosen, numbered_some, land}
+use Rattle.fsfs_model.specs.declared.flat.mark.What.{What}
+use Rattle.fsfs_model.specs.declared.flat.mark.What.TheVariants.{Make, Gone, Text, Prop}
+use Rattle.fsfs_model.specs.declared.flat.mark.Mark.{Mark}
+use Rattle.fsfs_model.specs.declared.flat.mark.Effects.{Effects}
+use Rattle.fsfs_model.specs.Flat.Marks.{effects, outer, changes_props, is_rewritten}
+use Rattle.fsfs_model.specs.Flat.Landing.{held_by_own, held_by_head, touched_by_head, props_changed_by_head, goes_on, reached, NoClash, chosen, numbered_some, land}
 use Rattle.fsfs_tree.specs.Histories.{AreRevisions}
-use Rattle.fsfs_model.specs.Transactions.{IsTransaction}
+use Rattle.fsfs_model.specs.Flat.Transactions.{IsTransaction}
 use Rattle.fsfs_model.proofs.Tests.{found, found_in, other_false}
 use Rattle.fsfs_base.proofs.PathLemmas.{covers-refl, same_name-is}
 use Rattle.fsfs_base.proofs.ResultLemmas.{none_of}

@@ -11,17 +11,17 @@ use Rattle.std.specs.declared.alloc.Global.{Global}
 use Rattle.std.proofs.lemmas.Bool.{cases_Bool}
 use Rattle.fsfs_base.specs.Paths.{PathName, same_name}
 use Rattle.fsfs_base.proofs.PathLemmas.{same_name-is, same_name-refl, same_name-symm}
-use Rattle.fsfs_revision.specs.ShowsReading.{DirEntry, named}
+use Rattle.fsfs_revision.specs.Shows.Reading.{DirEntry, named}
 use Rattle.fsfs_dag.specs.declared.directory.DirEntry.{DirEntry as PlacedEntry}
 use Rattle.fsfs_dag.specs.Views.{entry_value, entry_values}
-use Rattle.fsfs_merge.specs.declared.three.Side.{Side}
-use Rattle.fsfs_merge.specs.declared.three.Side.TheVariants.{Head, Own}
-use Rattle.fsfs_merge.specs.declared.three.Target.{Target}
-use Rattle.fsfs_merge.specs.declared.three.Three.{Three}
-use Rattle.fsfs_merge.specs.declared.entries.Sides.{Sides}
-use Rattle.fsfs_merge.specs.Lists.{target_in, target_named, three_in}
-use Rattle.fsfs_merge.specs.Merging.{target_entry, if_merged, merged_of}
-use Rattle.fsfs_merge.specs.Threes.{entry_target, is_taken, takes_head, merged_target}
+use Rattle.fsfs_merge.specs.declared.clash.three.Side.{Side}
+use Rattle.fsfs_merge.specs.declared.clash.three.Side.TheVariants.{Head, Own}
+use Rattle.fsfs_merge.specs.declared.clash.three.Target.{Target}
+use Rattle.fsfs_merge.specs.declared.clash.three.Three.{Three}
+use Rattle.fsfs_merge.specs.declared.clash.entries.Sides.{Sides}
+use Rattle.fsfs_merge.specs.Clash.Lists.{target_in, target_named, three_in}
+use Rattle.fsfs_merge.specs.Clash.Merging.{target_entry, if_merged, merged_of}
+use Rattle.fsfs_merge.specs.Clash.Threes.{entry_target, is_taken, takes_head, merged_target}
 use Rattle.fsfs_merge.proofs.ListLemmas.{Named}
 
 -- ---- of two lists the first that has the name

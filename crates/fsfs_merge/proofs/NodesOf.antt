@@ -7,7 +7,7 @@ use Rattle.fsfs_base.specs.Paths.{Path}
 use Rattle.fsfs_tree.specs.Nodes.{TreeFunction}
 use Rattle.fsfs_revision.specs.Told.{RevisionBytes}
 use Rattle.fsfs_noderev.specs.declared.node_rev.NodeRev.{NodeRev}
-use Rattle.fsfs_revision.specs.ShowsReading.{Met, Stands, Lacking, Blocked, MetAt, StandsAt}
+use Rattle.fsfs_revision.specs.Shows.Reading.{Met, Stands, Lacking, Blocked, MetAt, StandsAt}
 use Rattle.fsfs_revision.proofs.OneWalk.{met_same}
 use Rattle.fsfs_draft.specs.Drafts.{ShowTrees}
 use Rattle.fsfs_draft.specs.OwnSides.{NodesAt}

@@ -15,25 +15,25 @@ use Rattle.std.proofs.lemmas.Bool.{and_from, and_parts, both_ways, cases_Bool, o
 use mathlib.Core.Bool.{false≢true}
 use Rattle.fsfs_base.specs.Paths.{PathName, Path, path_cmp, covers, same_name}
 use Rattle.fsfs_base.proofs.PathLemmas.{same_name-is, covers-longer, split_at}
-use Rattle.fsfs_model.specs.Landing.{reached}
+use Rattle.fsfs_model.specs.Flat.Landing.{reached}
 use Rattle.fsfs_merge.specs.declared.sight.Sight.{Sight}
 use Rattle.fsfs_merge.specs.Walks.{merges, is_stopped, down, clashes_by_ids}
 use Rattle.fsfs_merge.specs.FirstStops.{NoStop}
 use Rattle.fsfs_merge.proofs.FirstStopLaw.{walks_find_the_first}
-use Rattle.fsfs_merge.specs.declared.three.Target.{Target}
-use Rattle.fsfs_merge.specs.declared.three.Three.{Three}
-use Rattle.fsfs_merge.specs.declared.three.Which.{Which}
-use Rattle.fsfs_merge.specs.declared.three.Which.TheVariants.{Changed, Made}
-use Rattle.fsfs_merge.specs.declared.entries.Entries.{Entries}
-use Rattle.fsfs_merge.specs.declared.entries.Sides.{Sides}
-use Rattle.fsfs_merge.specs.declared.walk.Pending.{Pending}
-use Rattle.fsfs_merge.specs.declared.walk.Found.{Found}
-use Rattle.fsfs_merge.specs.Lists.{target_in, names_in, three_in}
-use Rattle.fsfs_merge.specs.Points.{Point, sights_of, goes_down}
-use Rattle.fsfs_merge.specs.Threes.{changed_in, is_changed, made_in, is_made, is_of}
-use Rattle.fsfs_merge.specs.UnderWay.{IsPending, ArePending, NotAfter, AreFoundOrLeft, IsHalt, IsFirst}
-use Rattle.fsfs_merge.specs.ClashWalks.{pending, if_changed, changed, least, opened}
-use Rattle.fsfs_merge.specs.declared.turn.Halt.{Halt}
+use Rattle.fsfs_merge.specs.declared.clash.three.Target.{Target}
+use Rattle.fsfs_merge.specs.declared.clash.three.Three.{Three}
+use Rattle.fsfs_merge.specs.declared.clash.three.Which.{Which}
+use Rattle.fsfs_merge.specs.declared.clash.three.Which.TheVariants.{Changed, Made}
+use Rattle.fsfs_merge.specs.declared.clash.entries.Entries.{Entries}
+use Rattle.fsfs_merge.specs.declared.clash.entries.Sides.{Sides}
+use Rattle.fsfs_merge.specs.declared.clash.walk.Pending.{Pending}
+use Rattle.fsfs_merge.specs.declared.clash.walk.Found.{Found}
+use Rattle.fsfs_merge.specs.Clash.Lists.{target_in, names_in, three_in}
+use Rattle.fsfs_merge.specs.Clash.Points.{Point, sights_of, goes_down}
+use Rattle.fsfs_merge.specs.Clash.Threes.{changed_in, is_changed, made_in, is_made, is_of}
+use Rattle.fsfs_merge.specs.Clash.UnderWay.{IsPending, ArePending, NotAfter, AreFoundOrLeft, IsHalt, IsFirst}
+use Rattle.fsfs_merge.specs.Clash.Walks.{pending, if_changed, changed, least, opened}
+use Rattle.fsfs_merge.specs.declared.clash.turn.Halt.{Halt}
 use Rattle.fsfs_merge.proofs.Turns.{unchanged}
 use Rattle.fsfs_merge.proofs.Orders.{least_new, least_old, least_is}
 

@@ -5,9 +5,9 @@ use Rattle.std.specs.Ordering.{is_lt, ordering_reverse}
 use Rattle.std.specs.declared.cmp.Ordering.{Ordering}
 use Rattle.std.specs.declared.cmp.Ordering.TheVariants.{Less, Equal, Greater}
 use Rattle.fsfs_base.specs.Paths.{Path, path_cmp, path_cmp_total}
-use Rattle.fsfs_merge.specs.declared.walk.Found.{Found}
-use Rattle.fsfs_merge.specs.UnderWay.{NotAfter}
-use Rattle.fsfs_merge.specs.ClashWalks.{least}
+use Rattle.fsfs_merge.specs.declared.clash.walk.Found.{Found}
+use Rattle.fsfs_merge.specs.Clash.UnderWay.{NotAfter}
+use Rattle.fsfs_merge.specs.Clash.Walks.{least}
 
 -- a path that is not after a second, where the second is not after q, is not after q
 pub not_after : (a c q : Path) (o : Ordering) → path_cmp a c ≡ o → (o ≡ Less → ⊥) → NotAfter a q → NotAfter c q

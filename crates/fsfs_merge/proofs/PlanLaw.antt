@@ -6,9 +6,9 @@ use mathlib.Core.Bool.{false≢true}
 use Rattle.std.proofs.lemmas.Bool.{and_from, and_parts}
 use Rattle.std.proofs.lemmas.Option.{same_Some}
 use Rattle.fsfs_base.specs.Paths.{PathName, Path}
-use Rattle.fsfs_model.specs.Landing.{reached}
+use Rattle.fsfs_model.specs.Flat.Landing.{reached}
 use Rattle.fsfs_noderev.specs.declared.node_rev.NodeRev.{NodeRev}
-use Rattle.fsfs_revision.specs.ShowsReading.{DirEntry, named}
+use Rattle.fsfs_revision.specs.Shows.Reading.{DirEntry, named}
 use Rattle.fsfs_dag.specs.Views.{entry_values}
 use Rattle.fsfs_draft.specs.OwnSides.{NodesAt}
 use Rattle.fsfs_draft.specs.Tied.{IsListed}
@@ -17,14 +17,14 @@ use Rattle.fsfs_merge.specs.Walks.{merges, is_stopped, stays, down, is_own}
 use Rattle.fsfs_merge.specs.FirstStops.{NoStop}
 use Rattle.fsfs_merge.specs.MergeLaws.{is_merged, relinked, landed_nodes}
 use Rattle.fsfs_merge.proofs.MergedLaw.{own_here}
-use Rattle.fsfs_merge.specs.declared.merged.MergedDir.{MergedDir}
-use Rattle.fsfs_merge.specs.declared.three.Target.{Target}
-use Rattle.fsfs_merge.specs.declared.turn.Halt.TheVariants as halts
-use Rattle.fsfs_merge.specs.Lists.{link_of, target_named}
-use Rattle.fsfs_merge.specs.Plans.{IsMergedDir, ArePlan, IsPlanned, ArePlanned}
-use Rattle.fsfs_merge.specs.Points.{Point, sights_of, goes_down}
-use Rattle.fsfs_merge.specs.Sights.{same_ids, go_on_in, same_props_in, sight, sights}
-use Rattle.fsfs_merge.specs.Threes.{entry_target, node_target, has_id, takes_in, takes_head, three_of, merged_target}
+use Rattle.fsfs_merge.specs.declared.clash.merged.MergedDir.{MergedDir}
+use Rattle.fsfs_merge.specs.declared.clash.three.Target.{Target}
+use Rattle.fsfs_merge.specs.declared.clash.turn.Halt.TheVariants as halts
+use Rattle.fsfs_merge.specs.Clash.Lists.{link_of, target_named}
+use Rattle.fsfs_merge.specs.Clash.Plans.{IsMergedDir, ArePlan, IsPlanned, ArePlanned}
+use Rattle.fsfs_merge.specs.Clash.Points.{Point, sights_of, goes_down}
+use Rattle.fsfs_merge.specs.Clash.Sights.{same_ids, go_on_in, same_props_in, sight, sights}
+use Rattle.fsfs_merge.specs.Clash.Threes.{entry_target, node_target, has_id, takes_in, takes_head, three_of, merged_target}
 use Rattle.fsfs_merge.proofs.DraftSeen.{halt_of, link_in, see_of}
 use Rattle.fsfs_merge.proofs.FinerLaw.{IsShorter, reached_too}
 use Rattle.fsfs_merge.proofs.Opening.{reached_push}

@@ -8,18 +8,18 @@ use Rattle.std.proofs.lemmas.Option.{same_Some}
 use Rattle.fsfs_base.specs.Paths.{PathName, Path, covers}
 use Rattle.fsfs_base.proofs.PathLemmas.{split_at}
 use Rattle.fsfs_tree.specs.Nodes.{TreeFunction}
-use Rattle.fsfs_model.specs.declared.mark.Mark.{Mark}
-use Rattle.fsfs_model.specs.Landing.{reached, NoClash, land}
-use Rattle.fsfs_model.specs.Transactions.{IsTransaction}
-use Rattle.fsfs_base.specs.declared.txn_name.TxnName.{TxnName}
+use Rattle.fsfs_model.specs.declared.flat.mark.Mark.{Mark}
+use Rattle.fsfs_model.specs.Flat.Landing.{reached, NoClash, land}
+use Rattle.fsfs_model.specs.Flat.Transactions.{IsTransaction}
+use Rattle.fsfs_base.specs.declared.fields.txn_name.TxnName.{TxnName}
 use Rattle.fsfs_revision.specs.Told.{RevisionBytes}
-use Rattle.fsfs_noderev.specs.declared.item.ChangeItem.{ChangeItem}
+use Rattle.fsfs_noderev.specs.declared.changes.item.ChangeItem.{ChangeItem}
 use Rattle.fsfs_noderev.specs.Ids.{PartValue, part_value}
 use Rattle.fsfs_noderev.specs.declared.rep.Contents.TheVariants as contents
 use Rattle.fsfs_noderev.specs.declared.node_id.NodeId.{NodeId}
 use Rattle.fsfs_noderev.specs.declared.node_rev.NodeRev.{NodeRev}
-use Rattle.fsfs_revision.specs.ShowsReading.{DirEntry, named}
-use Rattle.fsfs_revision.specs.Trees.{ShowTrees}
+use Rattle.fsfs_revision.specs.Shows.Reading.{DirEntry, named}
+use Rattle.fsfs_revision.specs.Ancestry.Trees.{ShowTrees}
 use Rattle.fsfs_draft.specs.Own.{OwnNode, Own}
 use Rattle.fsfs_draft.specs.Drafts.{Kept, Folder, kept_of, IsBelow, AreItemsOf}
 use Rattle.fsfs_draft.specs.Edits.{IsDraftAfter}
@@ -47,11 +47,11 @@ use Rattle.fsfs_merge.proofs.LandedDraft.{Merged as MergedAt, merged}
 use Rattle.fsfs_merge.proofs.LandedOwnLaw.{LinkedOwn, Link as IsLinked, Kept as IsStill, own_now, landed_is_a_draft}
 use Rattle.fsfs_merge.proofs.LandedShownLaw.{landings_are_shown}
 use Rattle.fsfs_merge.proofs.LandedWholeLaw.{merges_take_and_leave}
-use Rattle.fsfs_merge.specs.declared.merged.Link.{Link}
-use Rattle.fsfs_merge.specs.declared.merged.MergedDir.{MergedDir}
-use Rattle.fsfs_merge.specs.Lists.{link_of}
-use Rattle.fsfs_merge.specs.Plans.{OneIs, IsPlanned, ArePlanned}
-use Rattle.fsfs_merge.specs.Sights.{sights}
+use Rattle.fsfs_merge.specs.declared.clash.merged.Link.{Link}
+use Rattle.fsfs_merge.specs.declared.clash.merged.MergedDir.{MergedDir}
+use Rattle.fsfs_merge.specs.Clash.Lists.{link_of}
+use Rattle.fsfs_merge.specs.Clash.Plans.{OneIs, IsPlanned, ArePlanned}
+use Rattle.fsfs_merge.specs.Clash.Sights.{sights}
 use Rattle.fsfs_merge.proofs.Planning.{one_as}
 use Rattle.fsfs_merge.proofs.ClashSightLaw.{sight_is}
 use Rattle.fsfs_merge.specs.Relinked.{relinked_kept, IsOfKey, IsWritten, Merged, Same, AreRelinked, AreHere}

@@ -6,21 +6,21 @@ use mathlib.Core.Bool.{false≢true}
 use Rattle.std.proofs.lemmas.Bool.{and_parts, both_ways}
 use Rattle.fsfs_base.specs.Paths.{PathName, Path, covers}
 use Rattle.fsfs_base.proofs.PathLemmas.{covers-longer, split_at}
-use Rattle.fsfs_model.specs.Landing.{reached}
+use Rattle.fsfs_model.specs.Flat.Landing.{reached}
 use Rattle.fsfs_merge.specs.declared.sight.Sight.{Sight}
 use Rattle.fsfs_merge.specs.Walks.{merges, down}
-use Rattle.fsfs_merge.specs.declared.three.Target.{Target}
-use Rattle.fsfs_merge.specs.declared.three.Which.TheVariants.{Changed, Made}
-use Rattle.fsfs_merge.specs.declared.entries.Sides.{Sides}
-use Rattle.fsfs_merge.specs.declared.merged.MergedDir.{MergedDir}
-use Rattle.fsfs_merge.specs.declared.turn.Halt.{Halt}
-use Rattle.fsfs_merge.specs.declared.walk.Pending.{Pending}
-use Rattle.fsfs_merge.specs.Lists.{names_in, three_in}
-use Rattle.fsfs_merge.specs.Plans.{OneIs, IsMergedDir}
-use Rattle.fsfs_merge.specs.Points.{Point, has_same, sight_with, sights_of, goes_down, IsMet}
-use Rattle.fsfs_merge.specs.Threes.{changed_in, is_changed}
-use Rattle.fsfs_merge.specs.UnderWay.{IsPlanning}
-use Rattle.fsfs_merge.specs.ClashWalks.{changed, opened}
+use Rattle.fsfs_merge.specs.declared.clash.three.Target.{Target}
+use Rattle.fsfs_merge.specs.declared.clash.three.Which.TheVariants.{Changed, Made}
+use Rattle.fsfs_merge.specs.declared.clash.entries.Sides.{Sides}
+use Rattle.fsfs_merge.specs.declared.clash.merged.MergedDir.{MergedDir}
+use Rattle.fsfs_merge.specs.declared.clash.turn.Halt.{Halt}
+use Rattle.fsfs_merge.specs.declared.clash.walk.Pending.{Pending}
+use Rattle.fsfs_merge.specs.Clash.Lists.{names_in, three_in}
+use Rattle.fsfs_merge.specs.Clash.Plans.{OneIs, IsMergedDir}
+use Rattle.fsfs_merge.specs.Clash.Points.{Point, has_same, sight_with, sights_of, goes_down, IsMet}
+use Rattle.fsfs_merge.specs.Clash.Threes.{changed_in, is_changed}
+use Rattle.fsfs_merge.specs.Clash.UnderWay.{IsPlanning}
+use Rattle.fsfs_merge.specs.Clash.Walks.{changed, opened}
 use Rattle.fsfs_merge.proofs.Turns.{unchanged}
 use Rattle.fsfs_merge.proofs.Opening.{any_left, any_parts, any_one, any_opened, all_append}
 

@@ -9,15 +9,15 @@ use Rattle.fsfs_revision.specs.declared.damage.RevOffset.{RevOffset}
 use Rattle.fsfs_revision.specs.declared.wrong.Wrong.{Wrong}
 use Rattle.fsfs_revision.specs.declared.wrong.ReadError.{ReadError}
 use Rattle.fsfs_revision.specs.declared.wrong.ReadError.TheVariants as errors
-use Rattle.fsfs_revision.specs.Causes.{HasCause}
-use Rattle.fsfs_revision.specs.Readings.{AndThen, Answers}
+use Rattle.fsfs_revision.specs.Damage.Causes.{HasCause}
+use Rattle.fsfs_revision.specs.Damage.Readings.{AndThen, Answers}
 use Rattle.fsfs_revision.proofs.Answering.{stops, goes_on, answers_as}
 use Rattle.fsfs_revision.specs.Told.{RevisionBytes}
-use Rattle.fsfs_model.specs.Edits.{is_dir}
+use Rattle.fsfs_model.specs.Flat.Edits.{is_dir}
 use Rattle.fsfs_noderev.specs.declared.node_id.NodeId.{NodeId}
 use Rattle.fsfs_noderev.specs.declared.node_rev.NodeRev.{NodeRev}
-use Rattle.fsfs_revision.specs.Chains.{copy_root_of}
-use Rattle.fsfs_revision.specs.ShowsReading.{DirEntry as EntryValue, EntriesOf, OfId, offset_of}
+use Rattle.fsfs_revision.specs.Shows.Chains.{copy_root_of}
+use Rattle.fsfs_revision.specs.Shows.Reading.{DirEntry as EntryValue, EntriesOf, OfId, offset_of}
 use Rattle.fsfs_dag.specs.declared.directory.DirEntry.{DirEntry}
 use Rattle.fsfs_dag.specs.declared.node.PlacedNode.{PlacedNode}
 use Rattle.fsfs_dag.specs.Same.{same_part}
@@ -26,15 +26,15 @@ use Rattle.fsfs_dag.proofs.PairLemmas.{entries_seen}
 use Rattle.fsfs_draft.specs.Drafts.{Kept, Folder}
 use Rattle.fsfs_draft.specs.Entries.{OfIdEntries, OfKept}
 use Rattle.fsfs_draft.proofs.OwnEntries.{is_dir_kind}
-use Rattle.fsfs_merge.specs.declared.facts.Facts.{Facts}
-use Rattle.fsfs_merge.specs.declared.three.Target.{Target}
-use Rattle.fsfs_merge.specs.declared.turn.Dirs.{Dirs}
-use Rattle.fsfs_merge.specs.declared.turn.Listing.{Listing}
-use Rattle.fsfs_merge.specs.Dirs.{dirs_of}
-use Rattle.fsfs_merge.specs.Lists.{Lists, link_of}
-use Rattle.fsfs_merge.specs.Readings.{kept_in, NodeOfKept, FactsBy, FactsOf, ListOfKept, ListOf, ListsOf, IfMerged, TurnAt}
-use Rattle.fsfs_merge.specs.Sights.{facts_of, go_with, have_props_of, merge_with}
-use Rattle.fsfs_merge.specs.Turning.{lists_value, IsFailure, IsTurn, turned, IsHome, IsTurnIn}
+use Rattle.fsfs_merge.specs.declared.clash.facts.Facts.{Facts}
+use Rattle.fsfs_merge.specs.declared.clash.three.Target.{Target}
+use Rattle.fsfs_merge.specs.declared.clash.turn.Dirs.{Dirs}
+use Rattle.fsfs_merge.specs.declared.clash.turn.Listing.{Listing}
+use Rattle.fsfs_merge.specs.Clash.Dirs.{dirs_of}
+use Rattle.fsfs_merge.specs.Clash.Lists.{Lists, link_of}
+use Rattle.fsfs_merge.specs.Clash.Readings.{kept_in, NodeOfKept, FactsBy, FactsOf, ListOfKept, ListOf, ListsOf, IfMerged, TurnAt}
+use Rattle.fsfs_merge.specs.Clash.Sights.{facts_of, go_with, have_props_of, merge_with}
+use Rattle.fsfs_merge.specs.Clash.Turning.{lists_value, IsFailure, IsTurn, turned, IsHome, IsTurnIn}
 
 -- ---- the transaction's side
 

@@ -5,21 +5,21 @@ use Rattle.std.specs.Prelude.{Ok, Option, Some, nat_lt, if◌then◌else◌}
 use Rattle.std.proofs.lemmas.Bool.Decides.{nat_tests}
 use Rattle.fsfs_base.specs.Paths.{PathName, Path, covers}
 use Rattle.fsfs_tree.specs.Nodes.{Node, TreeFunction}
-use Rattle.fsfs_model.specs.declared.mark.Mark.{Mark}
-use Rattle.fsfs_model.specs.Marks.{effects}
-use Rattle.fsfs_model.specs.Landing.{held_by_head}
+use Rattle.fsfs_model.specs.declared.flat.mark.Mark.{Mark}
+use Rattle.fsfs_model.specs.Flat.Marks.{effects}
+use Rattle.fsfs_model.specs.Flat.Landing.{held_by_head}
 use Rattle.fsfs_revision.specs.Told.{RevisionBytes}
 use Rattle.fsfs_noderev.specs.declared.node_rev.NodeRev.{NodeRev}
-use Rattle.fsfs_revision.specs.ShowsReading.{Met, Stands, Lacking, Blocked, MetAt, StandsAt}
-use Rattle.fsfs_revision.specs.Chains.{own_rev, copy_root_of}
-use Rattle.fsfs_revision.specs.Shown.{IsShownAs}
-use Rattle.fsfs_revision.specs.IdRules.{IsBehind}
-use Rattle.fsfs_revision.specs.IdRules as rules
+use Rattle.fsfs_revision.specs.Shows.Reading.{Met, Stands, Lacking, Blocked, MetAt, StandsAt}
+use Rattle.fsfs_revision.specs.Shows.Chains.{own_rev, copy_root_of}
+use Rattle.fsfs_revision.specs.Shows.Shown.{IsShownAs}
+use Rattle.fsfs_revision.specs.Shows.IdRules.{IsBehind}
+use Rattle.fsfs_revision.specs.Shows.IdRules as rules
 use Rattle.fsfs_revision.proofs.OneWalk.{stands_same}
 use Rattle.fsfs_revision.proofs.TreeLaw.{stands_home, child_home, root_le}
 use Rattle.fsfs_base.proofs.PathLemmas.{covers-longer}
 use Rattle.fsfs_model.proofs.Later.{later}
-use Rattle.fsfs_revision.specs.Trees.{ShowTrees}
+use Rattle.fsfs_revision.specs.Ancestry.Trees.{ShowTrees}
 use Rattle.fsfs_revision.proofs.Standing.{for_each}
 use Rattle.fsfs_revision.proofs.Earlier.{stands_of_id, pred_same}
 use Rattle.fsfs_draft.proofs.Coming.{IsFresh, Comes, Same, Next, Fresh, comes}

@@ -11,7 +11,7 @@ use Rattle.fsfs_noderev.specs.declared.rep.Contents.TheVariants as contents
 use Rattle.fsfs_noderev.specs.Reps.{unique_value}
 use Rattle.fsfs_noderev.proofs.Same.{rep_same}
 use Rattle.fsfs_dag.proofs.IdLemmas.{equal, itself}
-use Rattle.fsfs_merge.specs.Same.{same_rev, same_unique, same_rep, same_contents}
+use Rattle.fsfs_merge.specs.Clash.Same.{same_rev, same_unique, same_rep, same_contents}
 
 -- ---- representations
 

@@ -5,14 +5,14 @@ use Rattle.fsfs_base.specs.Paths.{PathName, Path}
 use Rattle.fsfs_base.specs.declared.kind.Kind.{Kind}
 use Rattle.fsfs_base.specs.declared.kind.Kind.TheVariants.{Dir}
 use Rattle.fsfs_tree.specs.Nodes.{Node, TreeFunction}
-use Rattle.fsfs_base.specs.declared.txn_name.TxnName.{TxnName}
+use Rattle.fsfs_base.specs.declared.fields.txn_name.TxnName.{TxnName}
 use Rattle.fsfs_base.proofs.ResultLemmas.{none_of}
 use Rattle.fsfs_revision.specs.declared.wrong.Wrong.{Wrong}
 use Rattle.fsfs_revision.proofs.OneAnswer.{ok_same, ok_no_err}
 use Rattle.fsfs_revision.specs.Told.{RevisionBytes}
 use Rattle.fsfs_noderev.specs.declared.node_id.Place.{Place}
 use Rattle.fsfs_noderev.specs.declared.node_rev.NodeRev.{NodeRev}
-use Rattle.fsfs_revision.specs.ShowsReading.{DirEntry, named, EntriesOf, OfId, offset_of}
+use Rattle.fsfs_revision.specs.Shows.Reading.{DirEntry, named, EntriesOf, OfId, offset_of}
 use Rattle.fsfs_revision.proofs.OneWalk.{of_id_one}
 use Rattle.fsfs_draft.specs.Own.{OwnNode, Own, has_entry, draft_tree}
 use Rattle.fsfs_draft.specs.OwnSides.{NodesAt, in_txn}
@@ -26,9 +26,9 @@ use Rattle.fsfs_draft.proofs.HangLaw as hanging
 use Rattle.fsfs_draft.proofs.Placing as placing
 use Rattle.fsfs_draft.specs.Entries.{OfKind, OfKept}
 use Rattle.fsfs_draft.proofs.OwnEntries.{pred_within, entries_here, entries_never, lacks_node}
-use Rattle.fsfs_merge.specs.Lists.{target_named}
-use Rattle.fsfs_merge.specs.Readings.{kept_in, NodeOfKept, NodeOf, ListOfKept, ListOf, IsKeptIn, IsIn}
-use Rattle.fsfs_merge.specs.Threes.{entry_target, node_target}
+use Rattle.fsfs_merge.specs.Clash.Lists.{target_named}
+use Rattle.fsfs_merge.specs.Clash.Readings.{kept_in, NodeOfKept, NodeOf, ListOfKept, ListOf, IsKeptIn, IsIn}
+use Rattle.fsfs_merge.specs.Clash.Threes.{entry_target, node_target}
 
 -- an entry leads to a node-revision
 leads : (o : Option DirEntry) (n : Option NodeRev) (e : DirEntry) (u : NodeRev) → o ≡ Some e → n ≡ Some u → e.id ≡ u.id → e.kind ≡ u.kind → option_map entry_target o ≡ option_map node_target n

@@ -5,11 +5,11 @@ use Rattle.std.proofs.lemmas.Bool.Decides.{nat_tests}
 use mathlib.Core.Bool.{false≢true}
 use Rattle.fsfs_base.specs.Paths.{Path, covers}
 use Rattle.fsfs_tree.specs.Nodes.{Node, TreeFunction}
-use Rattle.fsfs_model.specs.declared.mark.Mark.{Mark}
-use Rattle.fsfs_model.specs.Marks.{effects}
-use Rattle.fsfs_model.specs.Landing.{held_by_own, held_by_head, touched_by_head, goes_on, clashes_at, reached, NoClash}
+use Rattle.fsfs_model.specs.declared.flat.mark.Mark.{Mark}
+use Rattle.fsfs_model.specs.Flat.Marks.{effects}
+use Rattle.fsfs_model.specs.Flat.Landing.{held_by_own, held_by_head, touched_by_head, goes_on, clashes_at, reached, NoClash}
 use Rattle.fsfs_tree.specs.Histories.{AreRevisions}
-use Rattle.fsfs_model.specs.Transactions.{IsTransaction, Begun}
+use Rattle.fsfs_model.specs.Flat.Transactions.{IsTransaction, Begun}
 use Rattle.fsfs_model.proofs.Bases.{IsLater}
 use Rattle.fsfs_model.proofs.Later.{later}
 use Rattle.fsfs_model.proofs.MergeWalk.{Premises, go, touched_up, untouched}

@@ -5,13 +5,13 @@ use Rattle.std.specs.Prelude.{◌↔◌, ◌≢◌, Ok, is_some, if◌then◌els
 use Rattle.std.specs.Cmp.{both_ways as same_tests}
 use Rattle.std.proofs.lemmas.Bool.{and_parts, and_from, both_ways, cases_Bool, false_from_ne_true}
 use mathlib.Core.Bool.{false≢true}
-use Rattle.fsfs_model.specs.Edits.{is_dir, is_dir_node}
+use Rattle.fsfs_model.specs.Flat.Edits.{is_dir, is_dir_node}
 use Rattle.fsfs_base.specs.Paths.{Path, is_above}
 use Rattle.fsfs_tree.specs.Nodes.{Node, TreeFunction}
 use Rattle.fsfs_base.specs.declared.kind.Kind.TheVariants.{Dir}
-use Rattle.fsfs_model.specs.declared.mark.Mark.{Mark}
-use Rattle.fsfs_model.specs.Marks.{effects, outer, changes_props}
-use Rattle.fsfs_model.specs.Landing.{held_by_head, touched_by_head, props_changed_by_head, goes_on, reached}
+use Rattle.fsfs_model.specs.declared.flat.mark.Mark.{Mark}
+use Rattle.fsfs_model.specs.Flat.Marks.{effects, outer, changes_props}
+use Rattle.fsfs_model.specs.Flat.Landing.{held_by_head, touched_by_head, props_changed_by_head, goes_on, reached}
 use Rattle.fsfs_revision.specs.Told.{RevisionBytes}
 use Rattle.fsfs_noderev.specs.declared.node_id.Place.{Place}
 use Rattle.fsfs_noderev.specs.declared.node_id.Place.TheVariants as places
@@ -19,8 +19,8 @@ use Rattle.fsfs_noderev.specs.declared.node_id.NodeId.{NodeId}
 use Rattle.fsfs_noderev.specs.declared.rep.Contents.{Contents}
 use Rattle.fsfs_noderev.specs.declared.rep.Contents.TheVariants as contents
 use Rattle.fsfs_noderev.specs.declared.node_rev.NodeRev.{NodeRev}
-use Rattle.fsfs_revision.specs.ShowsReading.{Met, Stands, Lacking, Blocked, MetAt, StandsAt}
-use Rattle.fsfs_revision.specs.Shown.{IsShown, IsShownAs, Shows}
+use Rattle.fsfs_revision.specs.Shows.Reading.{Met, Stands, Lacking, Blocked, MetAt, StandsAt}
+use Rattle.fsfs_revision.specs.Shows.Shown.{IsShown, IsShownAs, Shows}
 use Rattle.fsfs_model.proofs.Tests.{found}
 use Rattle.fsfs_model.proofs.MergeWalk.{goes_gone, reached_above, quiet, touched_below}
 use Rattle.fsfs_draft.specs.HeadLaws.{IsHeldAbove, AgreeAt}

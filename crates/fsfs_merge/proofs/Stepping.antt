@@ -2,13 +2,13 @@
 use Rattle.std.proofs.Common.{◌≡◌, ◌∙◌, ◌≤◌, ℕ, true, false, List, [], ◌∷◌, ◌++◌, refl, sym, ap, subst, Option, Some, None, Ok, Err, inl, inr}
 use Rattle.std.specs.Prelude.{is_some, Result, IfErr}
 use Rattle.fsfs_base.specs.Paths.{PathName, Path}
-use Rattle.fsfs_base.specs.declared.txn_name.TxnName.{TxnName}
+use Rattle.fsfs_base.specs.declared.fields.txn_name.TxnName.{TxnName}
 use Rattle.fsfs_revision.specs.declared.wrong.Wrong.{Wrong}
 use Rattle.fsfs_revision.specs.declared.wrong.ReadError.{ReadError}
 use Rattle.fsfs_revision.specs.declared.wrong.ReadError.TheVariants as errors
 use Rattle.fsfs_base.specs.Counts.{Rose}
-use Rattle.fsfs_revision.specs.Causes.{IfDisk, HasCause}
-use Rattle.fsfs_revision.specs.Readings.{Answers}
+use Rattle.fsfs_revision.specs.Damage.Causes.{IfDisk, HasCause}
+use Rattle.fsfs_revision.specs.Damage.Readings.{Answers}
 use Rattle.fsfs_revision.specs.Told.{RevisionBytes}
 use Rattle.fsfs_noderev.specs.declared.node_id.NodeId.{NodeId}
 use Rattle.fsfs_noderev.specs.declared.node_rev.NodeRev.{NodeRev}
@@ -19,31 +19,31 @@ use Rattle.fsfs_draft.specs.Drafts.{Folder}
 use Rattle.fsfs_merge.specs.FirstStops.{NoStop, FirstStop}
 use Rattle.fsfs_merge.proofs.FirstStopLaw.{walks_find_the_first}
 use Rattle.fsfs_draft.specs.Walks.{IsRootId}
-use Rattle.fsfs_merge.specs.declared.three.Target.{Target}
-use Rattle.fsfs_merge.specs.declared.three.Three.{Three}
-use Rattle.fsfs_merge.specs.declared.turn.Dirs.{Dirs}
-use Rattle.fsfs_merge.specs.declared.turn.Listing.{Listing}
-use Rattle.fsfs_merge.specs.declared.turn.Halt.{Halt}
-use Rattle.fsfs_merge.specs.declared.turn.Halt.TheVariants as halts
-use Rattle.fsfs_merge.specs.declared.turn.Turn.TheVariants as turns
-use Rattle.fsfs_merge.specs.declared.walk.Pending.{Pending}
-use Rattle.fsfs_merge.specs.declared.walk.Found.{Found}
-use Rattle.fsfs_merge.specs.declared.walk.Progress.{Progress}
-use Rattle.fsfs_merge.specs.declared.walk.Merge.{Merge}
-use Rattle.fsfs_merge.specs.declared.merged.Link.{Link}
-use Rattle.fsfs_merge.specs.declared.merged.MergedDir.{MergedDir}
-use Rattle.fsfs_merge.specs.declared.walk.Roots.{Roots}
-use Rattle.fsfs_merge.specs.Dirs.{dirs_of, dirs_in}
-use Rattle.fsfs_merge.specs.Lists.{Lists, three_in}
-use Rattle.fsfs_merge.specs.Readings.{LookAt, AreDirsIn}
-use Rattle.fsfs_merge.specs.Threes.{is_changed, merged_target}
-use Rattle.fsfs_merge.specs.Turning.{lists_value, IsFailure, IsTurn, IsHome}
-use Rattle.fsfs_merge.specs.Merges.{MergeFrom, MergeRooted}
-use Rattle.fsfs_merge.specs.Plans.{IsMergedDir}
-use Rattle.fsfs_merge.specs.Points.{Point, sights_of, goes_down, IsReadAs, IsSeen, IsSeenFrom}
-use Rattle.fsfs_merge.specs.UnderWay.{IsPending, IsHalt, IsUnderWay, IsWalk, IsFirst, IsWalked, IsOpened, answer_of, answer_in, answered}
-use Rattle.fsfs_merge.specs.ClashWalks.{least, pending, root_three}
-use Rattle.fsfs_merge.specs.Weights.{weight, weight_in}
+use Rattle.fsfs_merge.specs.declared.clash.three.Target.{Target}
+use Rattle.fsfs_merge.specs.declared.clash.three.Three.{Three}
+use Rattle.fsfs_merge.specs.declared.clash.turn.Dirs.{Dirs}
+use Rattle.fsfs_merge.specs.declared.clash.turn.Listing.{Listing}
+use Rattle.fsfs_merge.specs.declared.clash.turn.Halt.{Halt}
+use Rattle.fsfs_merge.specs.declared.clash.turn.Halt.TheVariants as halts
+use Rattle.fsfs_merge.specs.declared.clash.turn.Turn.TheVariants as turns
+use Rattle.fsfs_merge.specs.declared.clash.walk.Pending.{Pending}
+use Rattle.fsfs_merge.specs.declared.clash.walk.Found.{Found}
+use Rattle.fsfs_merge.specs.declared.clash.walk.Progress.{Progress}
+use Rattle.fsfs_merge.specs.declared.clash.walk.Merge.{Merge}
+use Rattle.fsfs_merge.specs.declared.clash.merged.Link.{Link}
+use Rattle.fsfs_merge.specs.declared.clash.merged.MergedDir.{MergedDir}
+use Rattle.fsfs_merge.specs.declared.clash.walk.Roots.{Roots}
+use Rattle.fsfs_merge.specs.Clash.Dirs.{dirs_of, dirs_in}
+use Rattle.fsfs_merge.specs.Clash.Lists.{Lists, three_in}
+use Rattle.fsfs_merge.specs.Clash.Readings.{LookAt, AreDirsIn}
+use Rattle.fsfs_merge.specs.Clash.Threes.{is_changed, merged_target}
+use Rattle.fsfs_merge.specs.Clash.Turning.{lists_value, IsFailure, IsTurn, IsHome}
+use Rattle.fsfs_merge.specs.Clash.Merges.{MergeFrom, MergeRooted}
+use Rattle.fsfs_merge.specs.Clash.Plans.{IsMergedDir}
+use Rattle.fsfs_merge.specs.Clash.Points.{Point, sights_of, goes_down, IsReadAs, IsSeen, IsSeenFrom}
+use Rattle.fsfs_merge.specs.Clash.UnderWay.{IsPending, IsHalt, IsUnderWay, IsWalk, IsFirst, IsWalked, IsOpened, answer_of, answer_in, answered}
+use Rattle.fsfs_merge.specs.Clash.Walks.{least, pending, root_three}
+use Rattle.fsfs_merge.specs.Clash.Weights.{weight, weight_in}
 use Rattle.fsfs_merge.proofs.Turns.{unchanged, merged, stopped}
 use Rattle.std.proofs.lemmas.Bool.{both_ways}
 use mathlib.Core.Bool.{false≢true}

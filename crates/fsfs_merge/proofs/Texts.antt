@@ -2,18 +2,18 @@
 use Rattle.std.proofs.Common.{◌≡◌, ◌⊎◌, ℕ, cond, Bool, true, false, List, [], ◌∷◌, ◌++◌, refl, sym, ap, subst, ◌∙◌, inl, inr, Option, Some, None}
 use Rattle.std.specs.Prelude.{is_some}
 use mathlib.Core.Bool.{false≢true}
-use Rattle.fsfs_model.specs.declared.edit.Edit.{Edit}
-use Rattle.fsfs_model.specs.declared.edit.Edit.TheVariants.{MakeDir, MakeFile, Delete, Copy, PutText, SetProp}
+use Rattle.fsfs_model.specs.declared.flat.edit.Edit.{Edit}
+use Rattle.fsfs_model.specs.declared.flat.edit.Edit.TheVariants.{MakeDir, MakeFile, Delete, Copy, PutText, SetProp}
 use Rattle.fsfs_base.specs.declared.kind.Kind.TheVariants.{File, Dir}
-use Rattle.fsfs_model.specs.declared.mark.What.{What}
-use Rattle.fsfs_model.specs.declared.mark.What.TheVariants.{Make, Gone, Text, Prop}
-use Rattle.fsfs_model.specs.declared.mark.Mark.{Mark}
+use Rattle.fsfs_model.specs.declared.flat.mark.What.{What}
+use Rattle.fsfs_model.specs.declared.flat.mark.What.TheVariants.{Make, Gone, Text, Prop}
+use Rattle.fsfs_model.specs.declared.flat.mark.Mark.{Mark}
 use Rattle.fsfs_base.specs.Paths.{Path, covers, same_path}
 use Rattle.fsfs_tree.specs.Nodes.{Node, TreeFunction, empty_node}
-use Rattle.fsfs_model.specs.Marks.{outer, made, effects, any_covers, is_rewritten}
-use Rattle.fsfs_model.specs.Edits.{accepts, applied, mark_of, can_make, with_text, with_prop, bytes_of, copied_node, rest_after}
+use Rattle.fsfs_model.specs.Flat.Marks.{outer, made, effects, any_covers, is_rewritten}
+use Rattle.fsfs_model.specs.Flat.Edits.{accepts, applied, mark_of, can_make, with_text, with_prop, bytes_of, copied_node, rest_after}
 use Rattle.fsfs_tree.specs.Histories.{AreRevisions}
-use Rattle.fsfs_model.specs.Transactions.{IsTransaction, Begun, Edited, Landed}
+use Rattle.fsfs_model.specs.Flat.Transactions.{IsTransaction, Begun, Edited, Landed}
 use Rattle.fsfs_model.proofs.Bases.{IsClosed, DescribesBase}
 use Rattle.fsfs_model.proofs.Tests.{found, found_in}
 use Rattle.fsfs_base.proofs.PathLemmas.{covers-refl, same_path-is}

@@ -4,9 +4,9 @@ use Rattle.std.specs.Prelude.{is_some}
 use mathlib.Core.Bool.{false≢true}
 use Rattle.std.proofs.lemmas.Bool.{and_from}
 use Rattle.fsfs_merge.specs.Walks.{merges, is_stopped}
-use Rattle.fsfs_merge.specs.declared.three.Target.{Target}
-use Rattle.fsfs_merge.specs.Points.{sight_with}
-use Rattle.fsfs_merge.specs.Threes.{changed_in}
+use Rattle.fsfs_merge.specs.declared.clash.three.Target.{Target}
+use Rattle.fsfs_merge.specs.Clash.Points.{sight_with}
+use Rattle.fsfs_merge.specs.Clash.Threes.{changed_in}
 
 -- where one side has what the base has, or one has nothing beside the base's nothing, the walk neither goes down nor stops
 pub unchanged : (x y v : Option Target) (down : Bool) → changed_in x y v ≡ false → (merges (sight_with x y v down) ≡ false) × (is_stopped (sight_with x y v down) ≡ false)

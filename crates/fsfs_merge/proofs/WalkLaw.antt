@@ -2,15 +2,15 @@
 use Rattle.std.proofs.Common.{◌≡◌, ◌≤◌, ◌⊎◌, ℕ, not, Bool, true, false, ◌&&◌, ◌||◌, List, [], ◌∷◌, refl, sym, ap, subst, ◌∙◌, inl, inr, Option, Some, None}
 use Rattle.std.specs.Prelude.{is_some, if◌then◌else◌}
 use mathlib.Core.Bool.{false≢true}
-use Rattle.fsfs_model.specs.Edits.{is_dir, is_dir_node}
+use Rattle.fsfs_model.specs.Flat.Edits.{is_dir, is_dir_node}
 use Rattle.fsfs_base.specs.Paths.{Path, covers, is_above}
 use Rattle.fsfs_tree.specs.Nodes.{Node, TreeFunction}
-use Rattle.fsfs_model.specs.declared.mark.Mark.{Mark}
-use Rattle.fsfs_model.specs.declared.mark.Effects.{Effects}
-use Rattle.fsfs_model.specs.Marks.{effects}
-use Rattle.fsfs_model.specs.Landing.{touched_by_head, props_changed_by_head, goes_on, clashes_at, is_clash, reached}
+use Rattle.fsfs_model.specs.declared.flat.mark.Mark.{Mark}
+use Rattle.fsfs_model.specs.declared.flat.mark.Effects.{Effects}
+use Rattle.fsfs_model.specs.Flat.Marks.{effects}
+use Rattle.fsfs_model.specs.Flat.Landing.{touched_by_head, props_changed_by_head, goes_on, clashes_at, is_clash, reached}
 use Rattle.fsfs_tree.specs.Histories.{AreRevisions}
-use Rattle.fsfs_model.specs.Transactions.{IsTransaction}
+use Rattle.fsfs_model.specs.Flat.Transactions.{IsTransaction}
 use Rattle.fsfs_model.proofs.MergeWalk.{reached_or, reached_above}
 use Rattle.fsfs_merge.specs.Walks.{Sight, merges, is_stopped, down, clashes_by_ids}
 use Rattle.fsfs_merge.specs.Laws.{Agrees}

@@ -7,21 +7,21 @@ use Rattle.fsfs_base.specs.Paths.{PathName, Path}
 use Rattle.fsfs_noderev.specs.declared.node_id.Place.{Place}
 use Rattle.fsfs_noderev.specs.declared.node_id.Place.TheVariants as places
 use Rattle.fsfs_revision.specs.declared.damage.RevOffset.{RevOffset}
-use Rattle.fsfs_revision.specs.DamageDamages.{place_of}
+use Rattle.fsfs_revision.specs.Damage.Damages.{place_of}
 use Rattle.fsfs_revision.specs.Nodes.{is_before, place_before}
-use Rattle.fsfs_revision.specs.ShowsReading.{offset_of}
-use Rattle.fsfs_merge.specs.declared.three.Target.{Target}
-use Rattle.fsfs_merge.specs.declared.three.Three.{Three}
-use Rattle.fsfs_merge.specs.declared.three.Which.{Which}
-use Rattle.fsfs_merge.specs.declared.three.Which.TheVariants.{Changed, Made}
-use Rattle.fsfs_merge.specs.declared.entries.Sides.{Sides}
-use Rattle.fsfs_merge.specs.declared.walk.Pending.{Pending}
-use Rattle.fsfs_merge.specs.Lists.{target_in, names_in, three_in, AreTargetsBefore}
-use Rattle.fsfs_merge.specs.Threes.{is_of}
-use Rattle.fsfs_merge.specs.ClashWalks.{pending, if_changed, changed, opened}
+use Rattle.fsfs_revision.specs.Shows.Reading.{offset_of}
+use Rattle.fsfs_merge.specs.declared.clash.three.Target.{Target}
+use Rattle.fsfs_merge.specs.declared.clash.three.Three.{Three}
+use Rattle.fsfs_merge.specs.declared.clash.three.Which.{Which}
+use Rattle.fsfs_merge.specs.declared.clash.three.Which.TheVariants.{Changed, Made}
+use Rattle.fsfs_merge.specs.declared.clash.entries.Sides.{Sides}
+use Rattle.fsfs_merge.specs.declared.clash.walk.Pending.{Pending}
+use Rattle.fsfs_merge.specs.Clash.Lists.{target_in, names_in, three_in, AreTargetsBefore}
+use Rattle.fsfs_merge.specs.Clash.Threes.{is_of}
+use Rattle.fsfs_merge.specs.Clash.Walks.{pending, if_changed, changed, opened}
 use Rattle.fsfs_dag.specs.TreeWalks.{rank}
 use Rattle.fsfs_dag.proofs.TreeWalkLemmas.{place_rank, few}
-use Rattle.fsfs_merge.specs.Weights.{weight, weight_in, total}
+use Rattle.fsfs_merge.specs.Clash.Weights.{weight, weight_in, total}
 
 -- ---- sums
 

@@ -8,8 +8,8 @@ use Rattle.fsfs_noderev.specs.Ids.{PartValue, part_value}
 use Rattle.fsfs_draft.specs.Drafts.{Kept, Folder}
 use Rattle.fsfs_draft.specs.Steps.{same_value, kept_at}
 use Rattle.fsfs_draft.proofs.Files.{same_value-is, same_value-refl}
-use Rattle.fsfs_merge.specs.declared.merged.MergedDir.{MergedDir}
-use Rattle.fsfs_revision.specs.ShowsReading.{DirEntry}
+use Rattle.fsfs_merge.specs.declared.clash.merged.MergedDir.{MergedDir}
+use Rattle.fsfs_revision.specs.Shows.Reading.{DirEntry}
 use Rattle.fsfs_merge.specs.Relinked.{IsListOf, relinked_kept, relinked, IsRelinked, IsOfKey, IsWritten, Merged, Same, AreRelinked, AreHere}
 
 pub none_written : (f : Folder) → AreRelinked f f []

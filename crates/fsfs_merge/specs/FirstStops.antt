@@ -3,7 +3,7 @@ use Rattle.std.specs.Prelude.{◌≡◌, ◌++◌, true, false, List, [], ◌∷
 use Rattle.std.specs.List.{list_any}
 use Rattle.std.specs.declared.cmp.Ordering.TheVariants.{Less}
 use Rattle.fsfs_base.specs.Paths.{PathName, Path, name_cmp, path_cmp, same_name}
-use Rattle.fsfs_model.specs.Landing.{reached}
+use Rattle.fsfs_model.specs.Flat.Landing.{reached}
 use Rattle.fsfs_merge.specs.Walks.{Sight, merges, is_stopped, down, clashes_by_ids}
 
 -- no path at or below p stops the walk

@@ -2,13 +2,13 @@
 use Rattle.std.specs.Prelude.{◌≡◌, ◌<◌, ℕ, List, ◌≤◌}
 use Rattle.fsfs_base.specs.Paths.{Path}
 use Rattle.fsfs_tree.specs.Nodes.{TreeFunction}
-use Rattle.fsfs_model.specs.declared.mark.Mark.{Mark}
-use Rattle.fsfs_model.specs.Landing.{NoClash, land}
-use Rattle.fsfs_model.specs.Transactions.{IsTransaction}
-use Rattle.fsfs_base.specs.declared.txn_name.TxnName.{TxnName}
+use Rattle.fsfs_model.specs.declared.flat.mark.Mark.{Mark}
+use Rattle.fsfs_model.specs.Flat.Landing.{NoClash, land}
+use Rattle.fsfs_model.specs.Flat.Transactions.{IsTransaction}
+use Rattle.fsfs_base.specs.declared.fields.txn_name.TxnName.{TxnName}
 use Rattle.fsfs_revision.specs.Told.{RevisionBytes}
-use Rattle.fsfs_revision.specs.ShowsReading.{DirEntry}
-use Rattle.fsfs_revision.specs.Trees.{ShowTrees}
+use Rattle.fsfs_revision.specs.Shows.Reading.{DirEntry}
+use Rattle.fsfs_revision.specs.Ancestry.Trees.{ShowTrees}
 use Rattle.fsfs_draft.specs.Drafts.{Folder}
 use Rattle.fsfs_draft.specs.OwnSides.{NodesAt}
 use Rattle.fsfs_draft.specs.Met.{draft_nodes, AreNodes}

@@ -4,22 +4,22 @@ use Rattle.std.specs.declared.vec.Vec.{Vec}
 use Rattle.std.specs.declared.alloc.Global.{Global}
 use Rattle.fsfs_base.specs.Paths.{Path}
 use Rattle.fsfs_tree.specs.Nodes.{TreeFunction}
-use Rattle.fsfs_model.specs.declared.mark.Mark.{Mark}
-use Rattle.fsfs_model.specs.Landing.{NoClash, IsFirstClash, land}
-use Rattle.fsfs_model.specs.Transactions.{IsTransaction}
-use Rattle.fsfs_base.specs.declared.txn_name.TxnName.{TxnName}
+use Rattle.fsfs_model.specs.declared.flat.mark.Mark.{Mark}
+use Rattle.fsfs_model.specs.Flat.Landing.{NoClash, IsFirstClash, land}
+use Rattle.fsfs_model.specs.Flat.Transactions.{IsTransaction}
+use Rattle.fsfs_base.specs.declared.fields.txn_name.TxnName.{TxnName}
 use Rattle.fsfs_revision.specs.Told.{RevisionBytes}
-use Rattle.fsfs_revision.specs.Trees.{ShowTrees}
+use Rattle.fsfs_revision.specs.Ancestry.Trees.{ShowTrees}
 use Rattle.fsfs_draft.specs.Drafts.{Folder}
 use Rattle.fsfs_draft.specs.Edits.{IsDraftAfter}
 use Rattle.fsfs_draft.specs.Whole.{IsDraftOf}
 use Rattle.fsfs_draft.specs.Errors.{IfStays}
 use Rattle.fsfs_draft.specs.declared.error.EditError.{EditError}
 use Rattle.fsfs_draft.specs.declared.error.EditError.TheVariants as errors
-use Rattle.fsfs_merge.specs.declared.merged.MergedDir.{MergedDir}
-use Rattle.fsfs_merge.specs.declared.walk.Merge.TheVariants as merges
-use Rattle.fsfs_merge.specs.Merges.{LeadOn, MergeOf}
-use Rattle.fsfs_merge.specs.Points.{Point}
+use Rattle.fsfs_merge.specs.declared.clash.merged.MergedDir.{MergedDir}
+use Rattle.fsfs_merge.specs.declared.clash.walk.Merge.TheVariants as merges
+use Rattle.fsfs_merge.specs.Clash.Merges.{LeadOn, MergeOf}
+use Rattle.fsfs_merge.specs.Clash.Points.{Point}
 use Rattle.fsfs_merge.specs.declared.land.Outcome.{Outcome}
 use Rattle.fsfs_merge.specs.declared.land.Outcome.TheVariants as outcomes
 use Rattle.fsfs_merge.specs.Relinked.{AreRelinked, AreHere}

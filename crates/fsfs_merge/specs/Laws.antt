@@ -1,15 +1,15 @@
 -- The walk by ids is the merge of the flat model.
 use Rattle.std.specs.Prelude.{◌≡◌, ℕ, ◌≤◌, true, false, ◌&&◌, ◌||◌, not, List, Option, Some, None, is_some}
-use Rattle.fsfs_model.specs.Edits.{is_dir_node}
+use Rattle.fsfs_model.specs.Flat.Edits.{is_dir_node}
 use Rattle.fsfs_base.specs.Paths.{Path}
 use Rattle.fsfs_tree.specs.Nodes.{Node, TreeFunction}
 use Rattle.fsfs_base.specs.declared.kind.Kind.TheVariants.{File}
-use Rattle.fsfs_model.specs.declared.mark.Mark.{Mark}
-use Rattle.fsfs_model.specs.declared.mark.Effects.{Effects}
-use Rattle.fsfs_model.specs.Marks.{effects}
-use Rattle.fsfs_model.specs.Landing.{touched_by_head, props_changed_by_head, goes_on, reached, is_clash, NoClash, land}
+use Rattle.fsfs_model.specs.declared.flat.mark.Mark.{Mark}
+use Rattle.fsfs_model.specs.declared.flat.mark.Effects.{Effects}
+use Rattle.fsfs_model.specs.Flat.Marks.{effects}
+use Rattle.fsfs_model.specs.Flat.Landing.{touched_by_head, props_changed_by_head, goes_on, reached, is_clash, NoClash, land}
 use Rattle.fsfs_tree.specs.Histories.{AreRevisions}
-use Rattle.fsfs_model.specs.Transactions.{IsTransaction}
+use Rattle.fsfs_model.specs.Flat.Transactions.{IsTransaction}
 use Rattle.fsfs_merge.specs.Walks.{Sight, clashes_by_ids, merged}
 
 -- at one path: what the ids say is what the numbers and marks say

@@ -3,14 +3,14 @@ use Rattle.std.specs.Prelude.{◌≡◌, ◌≤◌, ◌↔◌, ◌+◌, ◌-◌,
 use Rattle.fsfs_base.specs.Paths.{Path}
 use Rattle.fsfs_tree.specs.Nodes.{TreeFunction}
 use Rattle.fsfs_base.specs.declared.kind.Kind.TheVariants.{Dir}
-use Rattle.fsfs_model.specs.declared.mark.Mark.{Mark}
-use Rattle.fsfs_model.specs.Landing.{reached, NoClash, is_clash, land}
-use Rattle.fsfs_model.specs.Transactions.{IsTransaction}
+use Rattle.fsfs_model.specs.declared.flat.mark.Mark.{Mark}
+use Rattle.fsfs_model.specs.Flat.Landing.{reached, NoClash, is_clash, land}
+use Rattle.fsfs_model.specs.Flat.Transactions.{IsTransaction}
 use Rattle.fsfs_revision.specs.Told.{RevisionBytes}
 use Rattle.fsfs_noderev.specs.declared.rep.Contents.TheVariants as contents
 use Rattle.fsfs_noderev.specs.declared.node_rev.NodeRev.{NodeRev}
-use Rattle.fsfs_revision.specs.Chains.{copy_root_of}
-use Rattle.fsfs_revision.specs.Trees.{ShowTrees}
+use Rattle.fsfs_revision.specs.Shows.Chains.{copy_root_of}
+use Rattle.fsfs_revision.specs.Ancestry.Trees.{ShowTrees}
 use Rattle.fsfs_merge.specs.Walks.{Sight, merges, down, clashes_by_ids, is_own, merged}
 use Rattle.fsfs_merge.specs.Laws.{AreSame}
 use Rattle.fsfs_draft.specs.OwnSides.{NodesAt, is_own_copy, IsOwnSide, AreNodesOf, HasPathsOf}

@@ -4,14 +4,14 @@ use Rattle.std.specs.List.{AllByRecursion}
 use Rattle.fsfs_base.specs.Paths.{PathName}
 use Rattle.fsfs_noderev.specs.Ids.{PartValue, part_value}
 use Rattle.fsfs_noderev.specs.declared.rep.Contents.TheVariants as contents
-use Rattle.fsfs_revision.specs.ShowsReading.{DirEntry, named}
+use Rattle.fsfs_revision.specs.Shows.Reading.{DirEntry, named}
 use Rattle.fsfs_dag.specs.Views.{entry_values}
 use Rattle.fsfs_draft.specs.Drafts.{Kept, Folder}
 use Rattle.fsfs_draft.specs.Steps.{with_kept, kept_at}
 use Rattle.fsfs_draft.specs.declared.error.EditError.{EditError}
 use Rattle.fsfs_draft.specs.declared.error.EditError.TheVariants as errors
-use Rattle.fsfs_merge.specs.declared.merged.MergedDir.{MergedDir}
-use Rattle.fsfs_merge.specs.Plans.{OneIs}
+use Rattle.fsfs_merge.specs.declared.clash.merged.MergedDir.{MergedDir}
+use Rattle.fsfs_merge.specs.Clash.Plans.{OneIs}
 
 -- behind each name the entry that the merge found
 abbrev pub IsListOf : MergedDir → List DirEntry → Type 0

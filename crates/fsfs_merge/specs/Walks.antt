@@ -5,7 +5,7 @@
 -- svn_fs_merge; what goes on is this project's profile.)
 use Rattle.std.specs.Prelude.{Bool, true, false, ◌&&◌, ◌||◌, not, [], ◌∷◌, if◌then◌else◌}
 use Rattle.fsfs_base.specs.Paths.{Path}
-use Rattle.fsfs_model.specs.Landing.{reached}
+use Rattle.fsfs_model.specs.Flat.Landing.{reached}
 pub use Rattle.fsfs_merge.specs.declared.sight.Sight.{Sight}
 
 -- the roots of the three, which are always merged

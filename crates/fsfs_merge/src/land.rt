@@ -1,12 +1,12 @@
 //! The merge of a transaction with a later revision.
 ghost use Rattle.std.specs.Prelude.{◌≡◌, ◌≤◌, ◌<◌, ℕ, List, Ok};
-ghost use Rattle.fsfs_revision.specs.Trees.{ShowTrees};
+ghost use Rattle.fsfs_revision.specs.Ancestry.Trees.{ShowTrees};
 ghost use Rattle.fsfs_base.specs.Paths.{Path};
 ghost use Rattle.fsfs_revision.specs.Told.{RevisionBytes, Knows, Keeps};
-ghost use Rattle.fsfs_merge.specs.Points.{Point};
+ghost use Rattle.fsfs_merge.specs.Clash.Points.{Point};
 ghost use Rattle.fsfs_draft.specs.Edits.{IsDraftAfter};
-ghost use Rattle.fsfs_model.specs.Transactions.{IsTransaction};
-ghost use Rattle.fsfs_model.specs.declared.mark.Mark.{Mark};
+ghost use Rattle.fsfs_model.specs.Flat.Transactions.{IsTransaction};
+ghost use Rattle.fsfs_model.specs.declared.flat.mark.Mark.{Mark};
 ghost use Rattle.fsfs_draft.specs.Causes.{HasDiskCause, HasBenchCause};
 ghost use Rattle.fsfs_tree.specs.Nodes.{TreeFunction};
 ghost use Rattle.fsfs_merge.specs.Landings.{LeavesLanded, TellsMerge};

@@ -4,13 +4,13 @@ use Rattle.std.specs.Prelude.{is_some}
 use mathlib.Core.Bool.{false≢true}
 use Rattle.std.proofs.lemmas.Bool.{leb-true, and_from, cases_Bool, false_from_ne_true, and_parts, both_ways, not-true}
 use Rattle.std.proofs.lemmas.List.{append-nil}
-use Rattle.fsfs_model.specs.declared.mark.What.TheVariants.{Make, Gone}
-use Rattle.fsfs_model.specs.declared.edit.Edit.{Edit}
-use Rattle.fsfs_model.specs.declared.edit.Edit.TheVariants.{MakeDir, MakeFile, Delete, Copy, PutText, SetProp}
+use Rattle.fsfs_model.specs.declared.flat.mark.What.TheVariants.{Make, Gone}
+use Rattle.fsfs_model.specs.declared.flat.edit.Edit.{Edit}
+use Rattle.fsfs_model.specs.declared.flat.edit.Edit.TheVariants.{MakeDir, MakeFile, Delete, Copy, PutText, SetProp}
 use Rattle.fsfs_base.specs.declared.kind.Kind.TheVariants.{File, Dir}
 use Rattle.fsfs_base.specs.Paths.{Path, covers, is_above, same_path, same_name}
 use Rattle.fsfs_tree.specs.Nodes.{Node, TreeFunction, empty_node}
-use Rattle.fsfs_model.specs.Edits.{without, with_node, with_copy, copied_node, with_text, with_prop, bytes_of, rest_after, can_make, parent, is_dir_node, is_file_node, accepts, applied, mark_of}
+use Rattle.fsfs_model.specs.Flat.Edits.{without, with_node, with_copy, copied_node, with_text, with_prop, bytes_of, rest_after, can_make, parent, is_dir_node, is_file_node, accepts, applied, mark_of}
 use Rattle.fsfs_base.proofs.PathLemmas.{covers-refl, covers-trans, covers-antisym, covers-either, same_name-is, same_name-refl, same_path-is, same_path-refl}
 use Rattle.fsfs_model.proofs.Bases.{IsClosed, ChangesPaths}
 

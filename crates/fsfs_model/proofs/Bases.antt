@@ -1,11 +1,11 @@
 -- What a history says of two of its revisions, and what a transaction's marks say of its base.
 use Rattle.std.specs.Prelude.{◌≡◌, ℕ, ◌≤◌, true, false, List, Some, None, is_some, ◌⊎◌}
-use Rattle.fsfs_model.specs.declared.mark.What.{What}
-use Rattle.fsfs_model.specs.declared.mark.What.TheVariants.{Make, Gone, Text, Prop}
-use Rattle.fsfs_model.specs.declared.mark.Mark.{Mark}
+use Rattle.fsfs_model.specs.declared.flat.mark.What.{What}
+use Rattle.fsfs_model.specs.declared.flat.mark.What.TheVariants.{Make, Gone, Text, Prop}
+use Rattle.fsfs_model.specs.declared.flat.mark.Mark.{Mark}
 use Rattle.fsfs_base.specs.Paths.{Path, covers, is_above}
 use Rattle.fsfs_tree.specs.Nodes.{Node, TreeFunction}
-use Rattle.fsfs_model.specs.Marks.{outer, made, effects, is_make}
+use Rattle.fsfs_model.specs.Flat.Marks.{outer, made, effects, is_make}
 use Rattle.fsfs_model.specs.Laws.{In}
 
 -- a path that stands in the tree has what is above it there too

@@ -7,9 +7,9 @@ use Rattle.std.proofs.lemmas.Bool.Decides.{nat_tests}
 use borrow.Author.Tests.{ltb-true, ltb-false, lt-ltb}
 use mathlib.Core.Bool.{false≢true}
 use Rattle.fsfs_tree.specs.Nodes.{Node}
-use Rattle.fsfs_model.specs.declared.mark.Effects.{Effects}
-use Rattle.fsfs_model.specs.Landing.{landed_at, held_by_head, touched_by_head, props_changed_by_head, clashes_at}
-use Rattle.fsfs_model.specs.Edits.{is_dir}
+use Rattle.fsfs_model.specs.declared.flat.mark.Effects.{Effects}
+use Rattle.fsfs_model.specs.Flat.Landing.{landed_at, held_by_head, touched_by_head, props_changed_by_head, clashes_at}
+use Rattle.fsfs_model.specs.Flat.Edits.{is_dir}
 use Rattle.fsfs_tree.specs.Trees.{IsOrdered}
 use Rattle.fsfs_model.proofs.Tests.{other_false}
 use Rattle.fsfs_model.proofs.Bases.{IsOlder}

@@ -3,14 +3,14 @@ use Rattle.std.proofs.Common.{◌≡◌, true, false, not, ◌++◌, List, [], �
 use Rattle.std.proofs.lemmas.Bool.{and_from, cases_Bool, false_from_ne_true, both_ways}
 use Rattle.std.specs.Prelude.{is_some}
 use mathlib.Core.Bool.{false≢true}
-use Rattle.fsfs_model.specs.declared.mark.What.{What}
-use Rattle.fsfs_model.specs.declared.mark.What.TheVariants.{Make, Gone, Text, Prop}
-use Rattle.fsfs_model.specs.declared.mark.Mark.{Mark}
-use Rattle.fsfs_model.specs.declared.mark.Effects.{Effects}
+use Rattle.fsfs_model.specs.declared.flat.mark.What.{What}
+use Rattle.fsfs_model.specs.declared.flat.mark.What.TheVariants.{Make, Gone, Text, Prop}
+use Rattle.fsfs_model.specs.declared.flat.mark.Mark.{Mark}
+use Rattle.fsfs_model.specs.declared.flat.mark.Effects.{Effects}
 use Rattle.fsfs_base.specs.Paths.{Path, covers, same_path}
 use Rattle.fsfs_tree.specs.Nodes.{Node, TreeFunction}
-use Rattle.fsfs_model.specs.Edits.{is_file_node}
-use Rattle.fsfs_model.specs.Marks.{outer, made, made_after, effects, any_covers, is_make, changes_props}
+use Rattle.fsfs_model.specs.Flat.Edits.{is_file_node}
+use Rattle.fsfs_model.specs.Flat.Marks.{outer, made, made_after, effects, any_covers, is_make, changes_props}
 use Rattle.fsfs_base.proofs.PathLemmas.{covers-refl, covers-trans, same_path-is}
 use Rattle.fsfs_model.specs.Laws.{In}
 use Rattle.fsfs_model.proofs.Bases.{IsClosed, DescribesBase}

@@ -8,9 +8,9 @@ use Rattle.std.specs.Prelude.{is_some, ℕ, Option}
 use mathlib.Core.Bool.{false≢true}
 use Rattle.fsfs_base.specs.Paths.{Path, path_cmp, covers, same_path, paths_tie}
 use Rattle.fsfs_tree.specs.Nodes.{Node, TreeFunction}
-use Rattle.fsfs_model.specs.declared.edit.Edit.{Edit}
-use Rattle.fsfs_model.specs.declared.edit.Edit.TheVariants.{MakeDir, MakeFile, Delete, Copy, PutText, SetProp}
-use Rattle.fsfs_model.specs.Edits.{rest_after, with_node, with_copy, copied_node, with_text, with_prop, bytes_of, applied}
+use Rattle.fsfs_model.specs.declared.flat.edit.Edit.{Edit}
+use Rattle.fsfs_model.specs.declared.flat.edit.Edit.TheVariants.{MakeDir, MakeFile, Delete, Copy, PutText, SetProp}
+use Rattle.fsfs_model.specs.Flat.Edits.{rest_after, with_node, with_copy, copied_node, with_text, with_prop, bytes_of, applied}
 use Rattle.fsfs_base.proofs.PathLemmas.{covers-longer, split_at, same_path-is, same_path-refl}
 use Rattle.fsfs_model.proofs.Filling.{same_path_is}
 use Rattle.fsfs_model.proofs.Applied.{copied_some, away, left, in_place, with_text_some, with_prop_some}

@@ -3,13 +3,13 @@ use Rattle.std.proofs.Common.{◌≡◌, ℕ, ◌≤◌, true, false, cond, not,
 use Rattle.std.specs.Prelude.{is_some}
 use Rattle.std.proofs.lemmas.Bool.{leb-true, and_from, cases_Bool, false_from_ne_true, and_parts, both_ways, not-true}
 use mathlib.Core.Bool.{false≢true}
-use Rattle.fsfs_model.specs.declared.edit.Edit.{Edit}
-use Rattle.fsfs_model.specs.declared.edit.Edit.TheVariants.{MakeDir, MakeFile, Delete, Copy, PutText, SetProp}
+use Rattle.fsfs_model.specs.declared.flat.edit.Edit.{Edit}
+use Rattle.fsfs_model.specs.declared.flat.edit.Edit.TheVariants.{MakeDir, MakeFile, Delete, Copy, PutText, SetProp}
 use Rattle.fsfs_base.specs.declared.kind.Kind.{Kind}
 use Rattle.fsfs_base.specs.declared.kind.Kind.TheVariants.{File, Dir}
 use Rattle.fsfs_base.specs.Paths.{Path, covers, is_above, is_root, same_path, same_name}
 use Rattle.fsfs_tree.specs.Nodes.{Node, TreeFunction, empty_node}
-use Rattle.fsfs_model.specs.Edits.{is_dir, is_dir_node, without, with_node, with_copy, copied_node, with_text, with_prop, bytes_of, rest_after, can_make, parent, accepts, applied}
+use Rattle.fsfs_model.specs.Flat.Edits.{is_dir, is_dir_node, without, with_node, with_copy, copied_node, with_text, with_prop, bytes_of, rest_after, can_make, parent, accepts, applied}
 use Rattle.fsfs_tree.specs.Trees.{IsTree}
 use Rattle.fsfs_base.proofs.PathLemmas.{covers-refl, covers-trans, covers-antisym, covers-either, same_name-is, same_name-refl, same_path-is}
 use Rattle.fsfs_model.proofs.Bases.{IsClosed}

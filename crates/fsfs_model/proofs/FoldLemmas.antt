@@ -2,11 +2,11 @@
 use Rattle.std.proofs.Common.{◌≡◌, ◌∙◌, ap, refl, None, List, [], ◌∷◌, Bool, true, false, cond}
 use Rattle.std.proofs.lemmas.Bool.{or_parts}
 use Rattle.std.specs.List.{list_any}
-use Rattle.fsfs_model.specs.declared.mark.Mark.{Mark}
-use Rattle.fsfs_model.specs.declared.mark.What.{What}
-use Rattle.fsfs_model.specs.declared.mark.What.TheVariants.{Make, Gone, Text, Prop}
+use Rattle.fsfs_model.specs.declared.flat.mark.Mark.{Mark}
+use Rattle.fsfs_model.specs.declared.flat.mark.What.{What}
+use Rattle.fsfs_model.specs.declared.flat.mark.What.TheVariants.{Make, Gone, Text, Prop}
 use Rattle.fsfs_base.specs.Paths.{Path, covers, same_path}
-use Rattle.fsfs_model.specs.Folding.{fold, fold_from, joined, forgotten, change_in}
+use Rattle.fsfs_model.specs.Flat.Folding.{fold, fold_from, joined, forgotten, change_in}
 
 nothing_forgotten : (k : What) (b : Bool) → forgotten None k b ≡ None
 nothing_forgotten Gone true = refl

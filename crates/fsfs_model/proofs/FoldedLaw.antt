@@ -4,24 +4,24 @@ use Rattle.std.specs.Prelude.{is_some, nat_le, ◌≢◌}
 use Rattle.std.proofs.lemmas.List.{append-nil}
 use borrow.Author.Tests.{ltb-false}
 use mathlib.Core.Bool.{false≢true}
-use Rattle.fsfs_model.specs.declared.edit.Edit.{Edit}
-use Rattle.fsfs_model.specs.declared.edit.Edit.TheVariants.{MakeDir, MakeFile, Delete as Remove, Copy, PutText, SetProp}
+use Rattle.fsfs_model.specs.declared.flat.edit.Edit.{Edit}
+use Rattle.fsfs_model.specs.declared.flat.edit.Edit.TheVariants.{MakeDir, MakeFile, Delete as Remove, Copy, PutText, SetProp}
 use Rattle.fsfs_base.specs.declared.kind.Kind.{Kind}
 use Rattle.fsfs_base.specs.declared.kind.Kind.TheVariants.{File, Dir}
-use Rattle.fsfs_model.specs.declared.mark.Mark.{Mark}
-use Rattle.fsfs_model.specs.declared.mark.What.TheVariants.{Make, Gone, Text, Prop}
+use Rattle.fsfs_model.specs.declared.flat.mark.Mark.{Mark}
+use Rattle.fsfs_model.specs.declared.flat.mark.What.TheVariants.{Make, Gone, Text, Prop}
 use Rattle.fsfs_tree.specs.declared.change_map.Change.{Change}
-use Rattle.fsfs_model.specs.declared.folded.Folded.{Folded}
+use Rattle.fsfs_model.specs.declared.flat.folded.Folded.{Folded}
 use Rattle.fsfs_base.specs.declared.action.Action.{Action}
 use Rattle.fsfs_base.specs.declared.action.Action.TheVariants.{Add, Delete, Replace, Modify}
 use Rattle.fsfs_base.specs.Paths.{Path, covers, is_above, same_path}
 use Rattle.fsfs_tree.specs.Nodes.{Node, TreeFunction, Bytes, empty_node}
-use Rattle.fsfs_model.specs.Marks.{made, effects}
-use Rattle.fsfs_model.specs.Edits.{can_make, changed_props, accepts, applied, mark_of, with_text, with_prop, bytes_of, copied_node, rest_after, kind_of_node}
-use Rattle.fsfs_model.specs.Landing.{land, reached, goes_on, clashes_at, touched_by_head, held_by_head}
-use Rattle.fsfs_model.specs.Folding.{fold_mark, joined, begun, flagged, after_add, after_delete, after_modify, change_in, deletes}
+use Rattle.fsfs_model.specs.Flat.Marks.{made, effects}
+use Rattle.fsfs_model.specs.Flat.Edits.{can_make, changed_props, accepts, applied, mark_of, with_text, with_prop, bytes_of, copied_node, rest_after, kind_of_node}
+use Rattle.fsfs_model.specs.Flat.Landing.{land, reached, goes_on, clashes_at, touched_by_head, held_by_head}
+use Rattle.fsfs_model.specs.Flat.Folding.{fold_mark, joined, begun, flagged, after_add, after_delete, after_modify, change_in, deletes}
 use Rattle.fsfs_tree.specs.Histories.{AreRevisions}
-use Rattle.fsfs_model.specs.Transactions.{IsTransaction, Begun, Edited, Landed}
+use Rattle.fsfs_model.specs.Flat.Transactions.{IsTransaction, Begun, Edited, Landed}
 use Rattle.fsfs_model.specs.Laws.{In}
 use Rattle.fsfs_model.proofs.Applied.{nothing_after, file_there}
 use Rattle.fsfs_base.proofs.PathLemmas.{covers-refl, covers-antisym, same_path-is, same_path-refl}

@@ -4,22 +4,22 @@ use Rattle.std.proofs.lemmas.Bool.{cases_Bool, false_from_ne_true, and_parts, bo
 use Rattle.std.specs.Prelude.{is_some}
 use Rattle.std.specs.FinMap.{get}
 use mathlib.Core.Bool.{false≢true}
-use Rattle.fsfs_model.specs.declared.mark.Mark.{Mark}
-use Rattle.fsfs_model.specs.declared.mark.What.{What}
-use Rattle.fsfs_model.specs.declared.mark.What.TheVariants.{Make, Gone, Text, Prop}
+use Rattle.fsfs_model.specs.declared.flat.mark.Mark.{Mark}
+use Rattle.fsfs_model.specs.declared.flat.mark.What.{What}
+use Rattle.fsfs_model.specs.declared.flat.mark.What.TheVariants.{Make, Gone, Text, Prop}
 use Rattle.fsfs_tree.specs.declared.change_map.Change.{Change}
-use Rattle.fsfs_model.specs.declared.folded.Folded.{Folded}
+use Rattle.fsfs_model.specs.declared.flat.folded.Folded.{Folded}
 use Rattle.fsfs_base.specs.declared.action.Action.{Action}
 use Rattle.fsfs_base.specs.declared.action.Action.TheVariants.{Add, Delete, Replace, Modify}
 use Rattle.fsfs_base.specs.Paths.{Path, covers, is_above, same_path}
 use Rattle.fsfs_tree.specs.Nodes.{Node, TreeFunction}
-use Rattle.fsfs_model.specs.Marks.{made, effects, is_make}
-use Rattle.fsfs_model.specs.Edits.{applied, mark_of}
-use Rattle.fsfs_model.specs.Landing.{land}
-use Rattle.fsfs_model.specs.Folding.{fold, fold_from, fold_mark, joined, change_in, deletes}
+use Rattle.fsfs_model.specs.Flat.Marks.{made, effects, is_make}
+use Rattle.fsfs_model.specs.Flat.Edits.{applied, mark_of}
+use Rattle.fsfs_model.specs.Flat.Landing.{land}
+use Rattle.fsfs_model.specs.Flat.Folding.{fold, fold_from, fold_mark, joined, change_in, deletes}
 use Rattle.fsfs_tree.specs.Histories.{AreRevisions, IsHistory}
 use Rattle.fsfs_tree.specs.Revisions.{Revision, tree_of}
-use Rattle.fsfs_model.specs.Transactions.{IsTransaction, Begun, Edited, Landed, Entry, IsEntry, IsNext}
+use Rattle.fsfs_model.specs.Flat.Transactions.{IsTransaction, Begun, Edited, Landed, Entry, IsEntry, IsNext}
 use Rattle.fsfs_tree.specs.Dated.{last_of}
 use Rattle.fsfs_base.proofs.ResultLemmas.{none_of}
 use Rattle.fsfs_base.proofs.PathLemmas.{covers-refl, covers-trans, covers-either, same_path-is}

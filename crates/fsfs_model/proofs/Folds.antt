@@ -3,16 +3,16 @@ use Rattle.std.proofs.Common.{◌≡◌, ◌∙◌, sym, ap, refl, subst, None, 
 use Rattle.std.proofs.lemmas.Bool.{and_from, cases_Bool, or_cases, or_left, or_right, false_from_ne_true, and_parts, both_ways, not-true}
 use Rattle.std.specs.Prelude.{is_some}
 use mathlib.Core.Bool.{false≢true}
-use Rattle.fsfs_model.specs.declared.mark.Mark.{Mark}
-use Rattle.fsfs_model.specs.declared.mark.What.{What}
-use Rattle.fsfs_model.specs.declared.mark.What.TheVariants.{Make, Gone, Text, Prop}
+use Rattle.fsfs_model.specs.declared.flat.mark.Mark.{Mark}
+use Rattle.fsfs_model.specs.declared.flat.mark.What.{What}
+use Rattle.fsfs_model.specs.declared.flat.mark.What.TheVariants.{Make, Gone, Text, Prop}
 use Rattle.fsfs_base.specs.declared.action.Action.{Action}
 use Rattle.fsfs_base.specs.declared.action.Action.TheVariants.{Modify}
-use Rattle.fsfs_model.specs.declared.folded.Folded.{Folded}
+use Rattle.fsfs_model.specs.declared.flat.folded.Folded.{Folded}
 use Rattle.fsfs_base.specs.Paths.{Path, covers, is_above, same_path}
 use Rattle.fsfs_tree.specs.Nodes.{TreeFunction}
-use Rattle.fsfs_model.specs.Marks.{outer, made, made_after, effects, any_covers, is_make, touches, is_rewritten}
-use Rattle.fsfs_model.specs.Folding.{fold_from, fold_mark, joined, deletes}
+use Rattle.fsfs_model.specs.Flat.Marks.{outer, made, made_after, effects, any_covers, is_make, touches, is_rewritten}
+use Rattle.fsfs_model.specs.Flat.Folding.{fold_from, fold_mark, joined, deletes}
 use Rattle.fsfs_base.proofs.PathLemmas.{covers-refl, covers-trans, covers-antisym, covers-either, same_path-is, same_path-refl}
 use Rattle.fsfs_model.specs.Laws.{In}
 use Rattle.fsfs_model.proofs.Bases.{IsClosed, DescribesBase}

@@ -3,16 +3,16 @@ use Rattle.std.proofs.Common.{◌≡◌, ◌∙◌, sym, ap, refl, subst, Some, 
 use Rattle.std.specs.Prelude.{is_some, ℕ}
 use mathlib.Core.Bool.{false≢true}
 use Rattle.fsfs_base.specs.declared.kind.Kind.{Kind}
-use Rattle.fsfs_model.specs.declared.mark.Mark.{Mark}
-use Rattle.fsfs_model.specs.declared.mark.What.{What}
-use Rattle.fsfs_model.specs.declared.mark.What.TheVariants.{Make, Gone, Text, Prop}
+use Rattle.fsfs_model.specs.declared.flat.mark.Mark.{Mark}
+use Rattle.fsfs_model.specs.declared.flat.mark.What.{What}
+use Rattle.fsfs_model.specs.declared.flat.mark.What.TheVariants.{Make, Gone, Text, Prop}
 use Rattle.fsfs_base.specs.declared.action.Action.{Action}
 use Rattle.fsfs_base.specs.declared.action.Action.TheVariants.{Add, Delete, Replace, Modify}
-use Rattle.fsfs_model.specs.declared.folded.Folded.{Folded}
+use Rattle.fsfs_model.specs.declared.flat.folded.Folded.{Folded}
 use Rattle.fsfs_base.specs.Paths.{Path, covers, same_path}
 use Rattle.fsfs_base.proofs.PathLemmas.{same_path-refl}
-use Rattle.fsfs_model.specs.Marks.{is_make}
-use Rattle.fsfs_model.specs.Folding.{fold_from, fold_mark, joined, forgotten, begun, flagged, after_add, after_delete, after_modify, deletes}
+use Rattle.fsfs_model.specs.Flat.Marks.{is_make}
+use Rattle.fsfs_model.specs.Flat.Folding.{fold_from, fold_mark, joined, forgotten, begun, flagged, after_add, after_delete, after_modify, deletes}
 
 -- the action of what is said passes the test
 abbrev pub says : (Action → Bool) → Option Folded → Bool

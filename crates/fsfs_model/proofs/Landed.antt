@@ -2,11 +2,11 @@
 use Rattle.std.proofs.Common.{◌≡◌, ℕ, true, false, List, inl, inr, ◌⊎◌}
 use Rattle.std.proofs.lemmas.Bool.{cases_Bool, false_from_ne_true, and_parts, both_ways, not-true}
 use Rattle.std.specs.Prelude.{is_some}
-use Rattle.fsfs_model.specs.declared.mark.Mark.{Mark}
+use Rattle.fsfs_model.specs.declared.flat.mark.Mark.{Mark}
 use Rattle.fsfs_base.specs.Paths.{Path, covers}
 use Rattle.fsfs_tree.specs.Nodes.{TreeFunction}
-use Rattle.fsfs_model.specs.Marks.{is_make, effects, outer}
-use Rattle.fsfs_model.specs.Landing.{land}
+use Rattle.fsfs_model.specs.Flat.Marks.{is_make, effects, outer}
+use Rattle.fsfs_model.specs.Flat.Landing.{land}
 use Rattle.fsfs_base.proofs.PathLemmas.{covers-refl, covers-either}
 use Rattle.fsfs_model.specs.Laws.{In}
 use Rattle.fsfs_model.proofs.Bases.{IsClosed, DescribesBase}

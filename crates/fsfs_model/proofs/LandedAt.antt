@@ -4,8 +4,8 @@ use Rattle.std.proofs.lemmas.Bool.{both_ways}
 use Rattle.std.specs.Prelude.{is_some}
 use mathlib.Core.Bool.{false≢true}
 use Rattle.fsfs_tree.specs.Nodes.{Node}
-use Rattle.fsfs_model.specs.declared.mark.Effects.{Effects}
-use Rattle.fsfs_model.specs.Landing.{landed_at}
+use Rattle.fsfs_model.specs.declared.flat.mark.Effects.{Effects}
+use Rattle.fsfs_model.specs.Flat.Landing.{landed_at}
 use Rattle.fsfs_model.proofs.Tests.{other_side}
 use Rattle.fsfs_model.proofs.TwiceAt.{Region, Same, Quiet, New, Common, no_base, no_head, said}
 

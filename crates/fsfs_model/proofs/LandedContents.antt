@@ -5,15 +5,15 @@ use Rattle.std.specs.Prelude.{is_some}
 use Rattle.std.proofs.lemmas.Bool.{leb-true, and_from, cases_Bool, false_from_ne_true, and_parts, both_ways, or_parts, not-true, not-false}
 use borrow.Author.Tests.{ltb-false}
 use mathlib.Core.Bool.{false≢true}
-use Rattle.fsfs_model.specs.declared.mark.What.{What}
-use Rattle.fsfs_model.specs.declared.mark.What.TheVariants.{Make, Gone, Text, Prop}
-use Rattle.fsfs_model.specs.declared.mark.Mark.{Mark}
-use Rattle.fsfs_model.specs.declared.mark.Effects.{Effects}
+use Rattle.fsfs_model.specs.declared.flat.mark.What.{What}
+use Rattle.fsfs_model.specs.declared.flat.mark.What.TheVariants.{Make, Gone, Text, Prop}
+use Rattle.fsfs_model.specs.declared.flat.mark.Mark.{Mark}
+use Rattle.fsfs_model.specs.declared.flat.mark.Effects.{Effects}
 use Rattle.fsfs_base.specs.Paths.{Path, covers, is_above}
 use Rattle.fsfs_tree.specs.Nodes.{Node, TreeFunction}
-use Rattle.fsfs_model.specs.Edits.{is_dir, is_dir_node, is_file_node}
-use Rattle.fsfs_model.specs.Marks.{outer, effects, is_make, is_rewritten, changes_props}
-use Rattle.fsfs_model.specs.Landing.{land, goes_on, clashes_at, touched_by_head, held_by_head}
+use Rattle.fsfs_model.specs.Flat.Edits.{is_dir, is_dir_node, is_file_node}
+use Rattle.fsfs_model.specs.Flat.Marks.{outer, effects, is_make, is_rewritten, changes_props}
+use Rattle.fsfs_model.specs.Flat.Landing.{land, goes_on, clashes_at, touched_by_head, held_by_head}
 use Rattle.fsfs_base.proofs.PathLemmas.{covers-refl, covers-antisym, covers-either}
 use Rattle.fsfs_model.proofs.Tests.{found, found_in, other_false}
 use Rattle.fsfs_model.proofs.MergeWalk.{Premises, region, go, reached_or, quiet_side, made_top, touched_below, touched_made, touched_up, gone_down}

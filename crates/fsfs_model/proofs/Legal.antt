@@ -8,11 +8,11 @@ use mathlib.Core.Bool.{false≢true}
 use Rattle.std.specs.FinMap.{get}
 use Rattle.fsfs_base.specs.Paths.{Path}
 use Rattle.fsfs_tree.specs.Nodes.{Node, TreeFunction}
-use Rattle.fsfs_model.specs.Landing.{land, NoClash}
+use Rattle.fsfs_model.specs.Flat.Landing.{land, NoClash}
 use Rattle.fsfs_tree.specs.Histories.{IsRevision, AreRevisions, IsHistory}
 use Rattle.fsfs_tree.specs.PathHistories.{history_within, points_at, go_on, leads_to}
 use Rattle.fsfs_tree.specs.Revisions.{Revision, node_in, tree_of}
-use Rattle.fsfs_model.specs.Transactions.{IsTransaction, Landed, Entry, IsEntry, IsNext, IsLegal}
+use Rattle.fsfs_model.specs.Flat.Transactions.{IsTransaction, Landed, Entry, IsEntry, IsNext, IsLegal}
 use Rattle.fsfs_tree.specs.Dated.{last_of}
 use Rattle.fsfs_model.specs.Laws.{In, LandingLeavesATree, CommitsMakeAHistory, PathHistoriesEnd}
 use Rattle.fsfs_model.proofs.Directories.{tree_from}

@@ -4,14 +4,14 @@ use Rattle.std.proofs.lemmas.Bool.{and_from, cases_Bool, or_cases, or_left, or_r
 use Rattle.std.specs.Prelude.{is_some}
 use borrow.Author.Tests.{ltb-false}
 use mathlib.Core.Bool.{false≢true}
-use Rattle.fsfs_model.specs.declared.mark.What.{What}
-use Rattle.fsfs_model.specs.declared.mark.What.TheVariants.{Make, Gone, Text, Prop}
+use Rattle.fsfs_model.specs.declared.flat.mark.What.{What}
+use Rattle.fsfs_model.specs.declared.flat.mark.What.TheVariants.{Make, Gone, Text, Prop}
 use Rattle.fsfs_base.specs.Paths.{Path, covers, is_above, is_root, same_name}
 use Rattle.fsfs_tree.specs.Nodes.{Node, TreeFunction}
-use Rattle.fsfs_model.specs.declared.mark.Mark.{Mark}
-use Rattle.fsfs_model.specs.declared.mark.Effects.{Effects}
-use Rattle.fsfs_model.specs.Marks.{is_make, effects, outer, touches, is_gone, is_rewritten}
-use Rattle.fsfs_model.specs.Landing.{goes_on, touched_by_head, clashes_at, reached, NoClash}
+use Rattle.fsfs_model.specs.declared.flat.mark.Mark.{Mark}
+use Rattle.fsfs_model.specs.declared.flat.mark.Effects.{Effects}
+use Rattle.fsfs_model.specs.Flat.Marks.{is_make, effects, outer, touches, is_gone, is_rewritten}
+use Rattle.fsfs_model.specs.Flat.Landing.{goes_on, touched_by_head, clashes_at, reached, NoClash}
 use Rattle.fsfs_tree.specs.Trees.{AreOrdered}
 use Rattle.fsfs_base.proofs.PathLemmas.{same_name-refl, same_name-is, covers-refl, covers-trans, covers-either}
 use Rattle.fsfs_model.specs.Laws.{In}

@@ -3,13 +3,13 @@ use Rattle.std.proofs.Common.{◌≡◌, ℕ, suc, ◌<◌, ◌≤◌, true, fal
 use Rattle.std.proofs.lemmas.Bool.{cases_Bool, false_from_ne_true, and_parts, both_ways}
 use Rattle.std.specs.Prelude.{is_some}
 use mathlib.Core.Bool.{false≢true}
-use Rattle.fsfs_model.specs.declared.mark.What.{What}
-use Rattle.fsfs_model.specs.declared.mark.What.TheVariants.{Make, Gone, Text, Prop}
-use Rattle.fsfs_model.specs.declared.mark.Mark.{Mark}
+use Rattle.fsfs_model.specs.declared.flat.mark.What.{What}
+use Rattle.fsfs_model.specs.declared.flat.mark.What.TheVariants.{Make, Gone, Text, Prop}
+use Rattle.fsfs_model.specs.declared.flat.mark.Mark.{Mark}
 use Rattle.fsfs_base.specs.Paths.{Path, covers, is_above}
 use Rattle.fsfs_tree.specs.Nodes.{Node, TreeFunction}
-use Rattle.fsfs_model.specs.Marks.{is_make, effects, outer, changes_props}
-use Rattle.fsfs_model.specs.Landing.{land}
+use Rattle.fsfs_model.specs.Flat.Marks.{is_make, effects, outer, changes_props}
+use Rattle.fsfs_model.specs.Flat.Landing.{land}
 use Rattle.fsfs_tree.specs.Trees.{AreOrdered}
 use Rattle.fsfs_base.proofs.PathLemmas.{covers-either}
 use Rattle.fsfs_model.proofs.Tests.{found}

@@ -4,20 +4,20 @@ use Rattle.std.proofs.lemmas.Option.{same_Some, none-some}
 use Rattle.std.specs.Prelude.{is_some}
 use mathlib.Core.Bool.{false≢true}
 use Rattle.std.proofs.lemmas.Bool.{leb-true, cases_Bool, false_from_ne_true, and_parts, both_ways, not-true}
-use Rattle.fsfs_model.specs.declared.mark.Mark.{Mark}
-use Rattle.fsfs_model.specs.declared.edit.Edit.{Edit}
-use Rattle.fsfs_model.specs.declared.edit.Edit.TheVariants.{MakeDir, MakeFile, Delete, Copy, PutText, SetProp}
-use Rattle.fsfs_model.specs.declared.mark.What.TheVariants.{Gone, Text, Prop}
+use Rattle.fsfs_model.specs.declared.flat.mark.Mark.{Mark}
+use Rattle.fsfs_model.specs.declared.flat.edit.Edit.{Edit}
+use Rattle.fsfs_model.specs.declared.flat.edit.Edit.TheVariants.{MakeDir, MakeFile, Delete, Copy, PutText, SetProp}
+use Rattle.fsfs_model.specs.declared.flat.mark.What.TheVariants.{Gone, Text, Prop}
 use Rattle.fsfs_base.specs.declared.kind.Kind.{Kind}
 use Rattle.fsfs_base.specs.declared.kind.Kind.TheVariants.{File, Dir}
 use Rattle.fsfs_base.specs.Paths.{Path, covers, is_above, is_root, same_path}
 use Rattle.fsfs_tree.specs.Nodes.{Node, TreeFunction, empty_node, Bytes}
-use Rattle.fsfs_model.specs.Marks.{effects}
-use Rattle.fsfs_model.specs.Edits.{accepts, applied, mark_of, with_node, copied_node, with_text, with_prop, bytes_of, rest_after, is_dir_node, changed_props}
-use Rattle.fsfs_model.specs.Landing.{land, NoClash}
+use Rattle.fsfs_model.specs.Flat.Marks.{effects}
+use Rattle.fsfs_model.specs.Flat.Edits.{accepts, applied, mark_of, with_node, copied_node, with_text, with_prop, bytes_of, rest_after, is_dir_node, changed_props}
+use Rattle.fsfs_model.specs.Flat.Landing.{land, NoClash}
 use Rattle.fsfs_tree.specs.Histories.{IsRevision, AreRevisions}
 use Rattle.fsfs_tree.specs.Trees.{IsOrdered}
-use Rattle.fsfs_model.specs.Transactions.{IsTransaction, Begun, Edited, Landed}
+use Rattle.fsfs_model.specs.Flat.Transactions.{IsTransaction, Begun, Edited, Landed}
 use Rattle.fsfs_base.proofs.PathLemmas.{covers-refl, same_path-is, same_path-refl}
 use Rattle.fsfs_model.proofs.Bases.{IsClosed, DescribesBase}
 use Rattle.fsfs_model.proofs.Applied.{away, free, edit_changes}

@@ -3,8 +3,8 @@ use Rattle.std.proofs.Common.{◌≡◌, ℕ, Bool, true, false, refl, sym, ap, 
 use Rattle.std.proofs.lemmas.Option.{same_Some, none-some}
 use Rattle.std.specs.Prelude.{is_some}
 use Rattle.fsfs_tree.specs.Nodes.{Node}
-use Rattle.fsfs_model.specs.declared.mark.Effects.{Effects}
-use Rattle.fsfs_model.specs.Landing.{landed_at}
+use Rattle.fsfs_model.specs.declared.flat.mark.Effects.{Effects}
+use Rattle.fsfs_model.specs.Flat.Landing.{landed_at}
 use Rattle.fsfs_model.proofs.TwiceAt.{said}
 
 -- y is the node x but for its numbers

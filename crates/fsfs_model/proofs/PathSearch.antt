@@ -10,7 +10,7 @@ use Rattle.std.specs.Cmp.{Equal-is}
 use Rattle.std.proofs.lemmas.Map.Keys.{sorted_head, sorted_tail}
 use mathlib.Core.Bool.{false≢true}
 use Rattle.fsfs_base.specs.Paths.{Path, path_cmp, path_cmp_total}
-use Rattle.fsfs_model.specs.Landing.{reached}
+use Rattle.fsfs_model.specs.Flat.Landing.{reached}
 use Rattle.fsfs_tree.proofs.TreeLemmas.{exact_paths}
 
 more : (go : Path → Bool) (k : ℕ) (p : Path) → k < length p → reached go (take k p) ≡ true → go (take k p) ≡ true → reached go (take (suc k) p) ≡ true

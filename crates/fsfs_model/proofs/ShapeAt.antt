@@ -4,8 +4,8 @@ use Rattle.std.proofs.lemmas.Option.{same_Some, none-some}
 use Rattle.std.specs.Prelude.{is_some}
 use mathlib.Core.Bool.{false≢true}
 use Rattle.fsfs_tree.specs.Nodes.{Node}
-use Rattle.fsfs_model.specs.declared.mark.Effects.{Effects}
-use Rattle.fsfs_model.specs.Landing.{landed_at, numbered_some, chosen}
+use Rattle.fsfs_model.specs.declared.flat.mark.Effects.{Effects}
+use Rattle.fsfs_model.specs.Flat.Landing.{landed_at, numbered_some, chosen}
 use Rattle.fsfs_tree.specs.Trees.{IsOrdered}
 use Rattle.fsfs_model.proofs.TwiceAt.{said}
 

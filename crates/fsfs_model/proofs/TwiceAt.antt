@@ -3,8 +3,8 @@ use Rattle.std.proofs.Common.{◌≡◌, ℕ, Bool, true, false, ◌&&◌, ◌||
 use Rattle.std.specs.Prelude.{is_some}
 use mathlib.Core.Bool.{false≢true}
 use Rattle.fsfs_tree.specs.Nodes.{Node}
-use Rattle.fsfs_model.specs.declared.mark.Effects.{Effects}
-use Rattle.fsfs_model.specs.Landing.{landed_at, numbered}
+use Rattle.fsfs_model.specs.declared.flat.mark.Effects.{Effects}
+use Rattle.fsfs_model.specs.Flat.Landing.{landed_at, numbered}
 
 -- how a path stands to the walk of a merge without a clash
 pub data Region (d : Effects) (a s t : Option Node) : Type 0 where

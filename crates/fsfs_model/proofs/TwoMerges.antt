@@ -7,9 +7,9 @@ use borrow.Author.Tests.{ltb-false}
 use mathlib.Core.Bool.{false≢true}
 use Rattle.fsfs_base.specs.Paths.{Path}
 use Rattle.fsfs_tree.specs.Nodes.{Node, TreeFunction}
-use Rattle.fsfs_model.specs.declared.mark.Mark.{Mark}
-use Rattle.fsfs_model.specs.Marks.{effects}
-use Rattle.fsfs_model.specs.Landing.{land, landed_at, is_clash, clashes_at, goes_on, held_by_head, touched_by_head, reached}
+use Rattle.fsfs_model.specs.declared.flat.mark.Mark.{Mark}
+use Rattle.fsfs_model.specs.Flat.Marks.{effects}
+use Rattle.fsfs_model.specs.Flat.Landing.{land, landed_at, is_clash, clashes_at, goes_on, held_by_head, touched_by_head, reached}
 use Rattle.fsfs_tree.specs.Trees.{AreOrdered}
 use Rattle.fsfs_base.proofs.PathLemmas.{covers-refl}
 use Rattle.fsfs_model.proofs.Tests.{other_false}

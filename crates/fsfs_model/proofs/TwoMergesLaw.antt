@@ -4,18 +4,18 @@ use Rattle.std.proofs.lemmas.Option.{same_Some}
 use Rattle.std.proofs.lemmas.Bool.{and_from, cases_Bool, both_ways}
 use Rattle.std.specs.Prelude.{is_some}
 use mathlib.Core.Bool.{false≢true}
-use Rattle.fsfs_model.specs.declared.mark.What.{What}
-use Rattle.fsfs_model.specs.declared.mark.What.TheVariants.{Make, Gone, Text, Prop}
-use Rattle.fsfs_model.specs.declared.mark.Mark.{Mark}
+use Rattle.fsfs_model.specs.declared.flat.mark.What.{What}
+use Rattle.fsfs_model.specs.declared.flat.mark.What.TheVariants.{Make, Gone, Text, Prop}
+use Rattle.fsfs_model.specs.declared.flat.mark.Mark.{Mark}
 use Rattle.fsfs_base.specs.Paths.{covers}
 use Rattle.fsfs_tree.specs.Nodes.{TreeFunction, empty_node}
 use Rattle.fsfs_base.specs.declared.kind.Kind.TheVariants.{Dir}
-use Rattle.fsfs_model.specs.Edits.{applied, mark_of}
-use Rattle.fsfs_model.specs.Marks.{is_make, made, made_after}
-use Rattle.fsfs_model.specs.Landing.{NoClash}
+use Rattle.fsfs_model.specs.Flat.Edits.{applied, mark_of}
+use Rattle.fsfs_model.specs.Flat.Marks.{is_make, made, made_after}
+use Rattle.fsfs_model.specs.Flat.Landing.{NoClash}
 use Rattle.fsfs_tree.specs.Histories.{AreRevisions}
 use Rattle.fsfs_tree.specs.Trees.{IsTree, IsOrdered, AreOrdered}
-use Rattle.fsfs_model.specs.Transactions.{IsTransaction, Begun, Edited, Landed}
+use Rattle.fsfs_model.specs.Flat.Transactions.{IsTransaction, Begun, Edited, Landed}
 use Rattle.fsfs_base.proofs.PathLemmas.{covers-antisym}
 use Rattle.fsfs_model.specs.Laws.{TwoMergesAreOne}
 use Rattle.fsfs_model.proofs.Applied.{edit_changes}

@@ -1,21 +1,21 @@
 -- The laws of the flat model.
 use Rattle.std.specs.FinMap.{get}
 use Rattle.std.specs.Prelude.{◌≡◌, ℕ, ◌<◌, ◌≤◌, Bool, true, not, List, ◌⊎◌, [], ◌∷◌, ◌++◌, Option, Some, None, is_some, if◌then◌else◌}
-use Rattle.fsfs_model.specs.declared.mark.Mark.{Mark}
-use Rattle.fsfs_model.specs.declared.mark.What.{What}
-use Rattle.fsfs_model.specs.declared.mark.What.TheVariants.{Make, Gone, Text, Prop}
+use Rattle.fsfs_model.specs.declared.flat.mark.Mark.{Mark}
+use Rattle.fsfs_model.specs.declared.flat.mark.What.{What}
+use Rattle.fsfs_model.specs.declared.flat.mark.What.TheVariants.{Make, Gone, Text, Prop}
 use Rattle.fsfs_tree.specs.declared.change_map.Change.{Change}
 use Rattle.fsfs_base.specs.declared.action.Action.TheVariants.{Delete}
 use Rattle.fsfs_base.specs.Paths.{Path, covers, is_above, same_path}
 use Rattle.fsfs_tree.specs.Nodes.{Node, TreeFunction}
-use Rattle.fsfs_model.specs.Marks.{outer, made, made_after, any_covers, is_make}
-use Rattle.fsfs_model.specs.Folding.{fold}
-use Rattle.fsfs_model.specs.Landing.{land, is_clash, NoClash}
+use Rattle.fsfs_model.specs.Flat.Marks.{outer, made, made_after, any_covers, is_make}
+use Rattle.fsfs_model.specs.Flat.Folding.{fold}
+use Rattle.fsfs_model.specs.Flat.Landing.{land, is_clash, NoClash}
 use Rattle.fsfs_tree.specs.Trees.{IsTree}
 use Rattle.fsfs_tree.specs.Histories.{AreRevisions, IsHistory}
 use Rattle.fsfs_tree.specs.PathHistories.{path_history, leads_to, go_on}
 use Rattle.fsfs_tree.specs.Revisions.{Revision, tree_of}
-use Rattle.fsfs_model.specs.Transactions.{IsTransaction, Entry, IsEntry, IsNext, IsLegal}
+use Rattle.fsfs_model.specs.Flat.Transactions.{IsTransaction, Entry, IsEntry, IsNext, IsLegal}
 use Rattle.fsfs_tree.specs.Dated.{last_of}
 
 -- x is in the list

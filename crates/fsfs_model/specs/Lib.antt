@@ -1,7 +1,3 @@
-pub mod Marks
-pub mod Landing
-pub mod Edits
-pub mod Folding
-pub mod Transactions
+pub mod Flat
 pub mod Laws
 pub mod FoldedFit

@@ -3,7 +3,7 @@ ghost use Rattle.std.specs.Prelude.{◌≡◌, ◌&&◌, ◌++◌, nat_lt, true,
 ghost use Rattle.std.specs.BTreeSet as set;
 ghost use Rattle.std.specs.FinMap as map;
 ghost use Rattle.std.specs.Option.{option_copied};
-ghost use Rattle.fsfs_model.specs.Edits.{accepts, applied, can_make, within_limits, is_dir_node, is_file_node, with_text, with_prop, changed_props, bytes_of, fits_value, copied_node, rest_after, parent, kind_of_node, mark_of};
+ghost use Rattle.fsfs_model.specs.Flat.Edits.{accepts, applied, can_make, within_limits, is_dir_node, is_file_node, with_text, with_prop, changed_props, bytes_of, fits_value, copied_node, rest_after, parent, kind_of_node, mark_of};
 ghost use Rattle.fsfs_tree.specs.Entries.{entry_count};
 ghost use Rattle.fsfs_tree.specs.Nodes.{empty_node, TreeFunction};
 ghost use Rattle.fsfs_base.specs.Paths.{Path, path_cmp, covers};

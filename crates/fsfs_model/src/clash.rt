@@ -3,8 +3,8 @@ ghost use Rattle.std.specs.Prelude.{◌≡◌, ◌&&◌, IfOk, MatchOption};
 ghost use Rattle.std.specs.Option.{option_copied};
 ghost use Rattle.std.specs.FinMap as map;
 ghost use Rattle.fsfs_base.specs.Paths.{Path, path_cmp};
-ghost use Rattle.fsfs_model.specs.Marks.{effects_by};
-ghost use Rattle.fsfs_model.specs.Landing.{goes_on, touched_by_head, props_changed_by_head, clashes_at, reached, NoClash, IsFirstClash};
+ghost use Rattle.fsfs_model.specs.Flat.Marks.{effects_by};
+ghost use Rattle.fsfs_model.specs.Flat.Landing.{goes_on, touched_by_head, props_changed_by_head, clashes_at, reached, NoClash, IsFirstClash};
 
 use crate::land::all_paths;
 use crate::{Effects, Mark, effects_at, outer_marks};

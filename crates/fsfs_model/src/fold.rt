@@ -5,8 +5,8 @@ ghost use Rattle.std.specs.BTreeSet as set;
 ghost use Rattle.std.specs.Option.{option_copied};
 ghost use Rattle.std.specs.FinMap as map;
 ghost use Rattle.fsfs_base.specs.Paths.{Path, path_cmp, same_path};
-ghost use Rattle.fsfs_model.specs.Folding.{change_of, begun, after_add, after_delete, after_modify, joined, fold_mark, fold};
-ghost use Rattle.fsfs_model.specs.declared.mark.What.TheVariants.{Make};
+ghost use Rattle.fsfs_model.specs.Flat.Folding.{change_of, begun, after_add, after_delete, after_modify, joined, fold_mark, fold};
+ghost use Rattle.fsfs_model.specs.declared.flat.mark.What.TheVariants.{Make};
 
 use crate::{Folded, Mark, What};
 use fsfs_base::{Action, FsPath, Kind};

@@ -4,7 +4,7 @@ ghost use Rattle.std.specs.BTreeSet as set;
 ghost use Rattle.std.specs.Option.{option_copied};
 ghost use Rattle.std.specs.FinMap as map;
 ghost use Rattle.fsfs_base.specs.Paths.{Path, path_cmp};
-ghost use Rattle.fsfs_model.specs.Landing.{numbered, landed_at, land};
+ghost use Rattle.fsfs_model.specs.Flat.Landing.{numbered, landed_at, land};
 
 use crate::{Effects, Mark, effects_at, outer_marks};
 use fsfs_base::{FsPath, RevNum};

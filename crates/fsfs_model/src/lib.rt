@@ -5,20 +5,19 @@
 
 mod apply;
 mod clash;
-mod edit;
+mod flat;
 mod fold;
-mod folded;
 mod folds_laws;
 mod history;
 mod land;
 mod laws;
-mod mark;
 
 pub use apply::{flat_apply, flat_mark};
 pub use clash::flat_clash;
-pub use edit::Edit;
+pub use flat::edit::Edit;
+pub use flat::folded::Folded;
+pub use flat::mark::{Effects, Mark, What, effects_at, outer_marks};
 pub use fold::flat_fold;
-pub use folded::Folded;
 pub use folds_laws::folds_fit_the_tree;
 pub use history::flat_history;
 pub use land::flat_land;
@@ -26,4 +25,3 @@ pub use laws::{
     commits_make_a_history, folding_tells, landing_leaves_a_tree, outer_marks_stand_alone,
     path_histories_end, two_merges_are_one,
 };
-pub use mark::{Effects, Mark, What, effects_at, outer_marks};

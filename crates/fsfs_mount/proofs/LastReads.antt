@@ -2,7 +2,7 @@
 use Rattle.std.proofs.Common.{◌≡◌, ℕ, List, true, refl, sym, ap, subst, ◌∙◌}
 use Rattle.std.specs.Prelude.{Option, Some, None, IfSome}
 use Rattle.fsfs_disk.specs.Trace.{Trace, IsRead, IsSize, file_at}
-use Rattle.fsfs_folders.specs.CallRecord.{CallRecord}
+use Rattle.fsfs_folders.specs.System.CallRecord.{CallRecord}
 use Rattle.fsfs_folders.specs.Standing.{told}
 use Rattle.fsfs_folders.specs.OpenFiles.{is_file_of, is_still}
 

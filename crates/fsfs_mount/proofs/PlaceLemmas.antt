@@ -5,7 +5,7 @@ use Rattle.std.specs.Str.{bytes_eq}
 use Rattle.std.proofs.lemmas.Bool.{false_from_ne_true}
 use Rattle.std.proofs.lemmas.Slice.Eq.{bytes_eq-Decides}
 use Rattle.fsfs_disk.specs.Trace.{Trace}
-use Rattle.fsfs_folders.specs.CallRecord.{CallRecord}
+use Rattle.fsfs_folders.specs.System.CallRecord.{CallRecord}
 use Rattle.fsfs_folders.specs.SameText.{text_cases}
 use Rattle.fsfs_folders.specs.Standing.{told}
 use Rattle.fsfs_mount.specs.Places.{held_in, Sets, told_at}

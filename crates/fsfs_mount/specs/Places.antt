@@ -3,7 +3,7 @@ use Rattle.std.specs.Prelude.{◌≡◌, ℕ, List, Option, Some, None}
 use Rattle.std.specs.Map.{update}
 use Rattle.std.specs.Str.{bytes_eq}
 use Rattle.fsfs_disk.specs.Trace.{Trace}
-use Rattle.fsfs_folders.specs.CallRecord.{CallRecord}
+use Rattle.fsfs_folders.specs.System.CallRecord.{CallRecord}
 use Rattle.fsfs_folders.specs.Standing.{told}
 
 -- what a place has; none where there is no place, or it is empty

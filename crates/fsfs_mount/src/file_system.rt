@@ -1,6 +1,6 @@
 // Where repositories stand.
 ghost use Rattle.std.specs.Prelude.{◌≡◌, ℕ, List, [], Option, true, IfOk, IfSome};
-ghost use Rattle.fsfs_folders.specs.CallRecord.{CallRecord};
+ghost use Rattle.fsfs_folders.specs.System.CallRecord.{CallRecord};
 ghost use Rattle.fsfs_folders.specs.Keeping.{are_rooted};
 
 use fsfs_base::Name;

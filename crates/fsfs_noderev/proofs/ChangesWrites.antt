@@ -2,13 +2,13 @@
 use Rattle.std.proofs.Common.{◌≡◌, ◌<◌, ◌+◌, ℕ, zero, suc, true, List, [], ◌∷◌, ◌++◌, Option, Some, None, arith, get_or, take, length, refl, sym, ap, subst, ◌∙◌, append_assoc}
 use Rattle.std.specs.Prelude.{◌≢◌, All}
 use Rattle.std.proofs.lemmas.List.{take_more}
-use Rattle.fsfs_base.specs.Grammar.{Appends}
+use Rattle.fsfs_base.specs.Grammar.Relations.{Appends}
 use Rattle.fsfs_noderev.specs.Writing.{FitsSource}
 use Rattle.fsfs_noderev.specs.declared.node_rev.CopySource.{CopySource}
-use Rattle.fsfs_noderev.specs.Words.{flags_fit}
-use Rattle.fsfs_noderev.specs.Items.{IsFirstLine, IsSecondLine, IsItem, HasText}
-use Rattle.fsfs_noderev.specs.Changes.{IsAny, AreChanges}
-use Rattle.fsfs_noderev.specs.declared.item.ChangeItem.{ChangeItem}
+use Rattle.fsfs_noderev.specs.Changes.Words.{flags_fit}
+use Rattle.fsfs_noderev.specs.Changes.Items.{IsFirstLine, IsSecondLine, IsItem, HasText}
+use Rattle.fsfs_noderev.specs.Changes.Texts.{IsAny, AreChanges}
+use Rattle.fsfs_noderev.specs.declared.changes.item.ChangeItem.{ChangeItem}
 use Rattle.fsfs_noderev.proofs.ItemLists.{items_push}
 
 pub item_written : {a b c d e : List ℕ} (item : ChangeItem) → Appends IsFirstLine a b item → c ≡ b ++ 10 ∷ [] → Appends IsSecondLine c d item.source → e ≡ d ++ 10 ∷ [] → flags_fit item.action item.text_changed item.props_changed ≡ true → Appends IsItem a e item

@@ -1,11 +1,11 @@
 -- The values of a node-revision's fields: each text has one value at most, and two parts are read one by one.
 use Rattle.std.proofs.Common.{◌≡◌, ℕ, List, refl, sym, ap, ◌∙◌, arith}
-use Rattle.fsfs_base.specs.Cuts.{Lacks, IsCutOf, cut}
+use Rattle.fsfs_base.specs.Grammar.Cuts.{Lacks, IsCutOf, cut}
 use Rattle.fsfs_base.proofs.CutLemmas.{cut_again, two_parts}
 use Rattle.fsfs_base.proofs.Spelling.{IsOne, spells_one}
 use Rattle.fsfs_base.specs.declared.kind.Kind.TheVariants as kinds
 use Rattle.fsfs_base.proofs.PathTextLemmas.{path_by_text}
-use Rattle.fsfs_base.specs.RevNums.{IsRev}
+use Rattle.fsfs_base.specs.Fields.RevNums.{IsRev}
 use Rattle.fsfs_noderev.specs.Ids.{IsNumber64, id_value}
 use Rattle.fsfs_noderev.specs.Reps.{IsRevOrNone, contents_value}
 use Rattle.fsfs_noderev.specs.Fields.{IsIdText, IsKindText, AreContentsText, IsPathText, IsSourceText, IsRootText, IsYes}

@@ -1,11 +1,11 @@
 -- The first line is read exactly.
 use Rattle.std.proofs.Common.{ℕ, List, Some, refl, ap, arith}
 use Rattle.std.proofs.lemmas.Option.{same_Some}
-use Rattle.fsfs_base.specs.Cuts.{Lacks}
+use Rattle.fsfs_base.specs.Grammar.Cuts.{Lacks}
 use Rattle.fsfs_base.proofs.Spelling.{Spells, cut_spells}
 use Rattle.fsfs_noderev.specs.Ids.{IdValue, IsId}
 use Rattle.fsfs_noderev.proofs.IdTexts.{id_spells, id_lacks}
-use Rattle.fsfs_noderev.specs.Reading.{IsRest, IsHead, head_at}
+use Rattle.fsfs_noderev.specs.Changes.Reading.{IsRest, IsHead, head_at}
 use Rattle.fsfs_noderev.proofs.WordTexts.{flag_spells, action_and_kind_spells, flag_lacks, action_and_kind_lacks_space}
 
 id_has_no_space : (t : List ℕ) (id : IdValue) → IsId t id → Lacks 32 t

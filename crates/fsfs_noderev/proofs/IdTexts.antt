@@ -3,15 +3,15 @@ use Rattle.std.proofs.Common.{◌≡◌, ℕ, ◌<◌, ◌≤◌, false, cond, e
 use Rattle.std.proofs.lemmas.Option.{same_Some}
 use Rattle.std.proofs.lemmas.List.{length-append}
 use Rattle.std.proofs.lemmas.Bool.{eqb-true, ne_eqb}
-use Rattle.fsfs_base.specs.Numeral.{digit, IsPlain}
-use Rattle.fsfs_base.specs.Cuts.{Lacks, IsCutOf, cut, and_then, parts_at}
+use Rattle.fsfs_base.specs.Grammar.Numeral.{digit, IsPlain}
+use Rattle.fsfs_base.specs.Grammar.Cuts.{Lacks, IsCutOf, cut, and_then, parts_at}
 use Rattle.fsfs_base.proofs.Readers.{chosen}
 use Rattle.fsfs_base.proofs.CutLemmas.{cut_found, cut_again, cut_lacking, two_lack}
 use Rattle.fsfs_base.proofs.Spelling.{Spells, bound, numeral_spells, cut_spells, plain_lacks}
-use Rattle.fsfs_base.specs.TxnNames.{txn_name_at}
+use Rattle.fsfs_base.specs.Fields.TxnNames.{txn_name_at}
 use Rattle.fsfs_base.proofs.RevNumTexts.{rev_spells, rev_text_lacks}
 use Rattle.fsfs_base.proofs.TxnNameTexts.{txn_name_spells}
-use Rattle.fsfs_base.specs.RevNums.{last_rev, IsRev, rev_at}
+use Rattle.fsfs_base.specs.Fields.RevNums.{last_rev, IsRev, rev_at}
 use Rattle.fsfs_noderev.specs.Ids.{PartValue, New, Old, Made, PlaceValue, At, In, IdValue, IsB36, IsNumber64, IsPart, IsPlace, IsId, b36_at, number_at, old_at, part_at, place_at, id_at}
 
 -- ---- bytes that no id has

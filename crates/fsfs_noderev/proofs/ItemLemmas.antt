@@ -3,9 +3,9 @@ use Rattle.std.proofs.Common.{◌≡◌, ◌∙◌, true, Option, sym, ap}
 use Rattle.std.specs.Prelude.{is_some}
 use Rattle.std.proofs.lemmas.Bool.{and_parts, false≢true}
 use Rattle.fsfs_base.specs.declared.kind.Kind.{Kind}
-use Rattle.fsfs_noderev.specs.Items.{HasText}
-use Rattle.fsfs_noderev.specs.Words.{flags_fit}
-use Rattle.fsfs_noderev.specs.declared.item.ChangeItem.{ChangeItem}
+use Rattle.fsfs_noderev.specs.Changes.Items.{HasText}
+use Rattle.fsfs_noderev.specs.Changes.Words.{flags_fit}
+use Rattle.fsfs_noderev.specs.declared.changes.item.ChangeItem.{ChangeItem}
 use Rattle.fsfs_noderev.specs.Limits.{HasPaths, is_told}
 
 pub told_has_text : (item : ChangeItem) → HasPaths item → is_told item ≡ true → HasText item

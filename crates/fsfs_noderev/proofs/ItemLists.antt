@@ -2,10 +2,10 @@
 use Rattle.std.proofs.Common.{◌≡◌, ℕ, ◌<◌, ◌-◌, List, [], ◌∷◌, ◌++◌, length, refl, sym, ap, subst, ◌∙◌, append_assoc, arith}
 use Rattle.std.specs.Prelude.{◌≢◌}
 use Rattle.std.proofs.lemmas.List.{length-append, append-nil, nil_from_length}
-use Rattle.fsfs_base.specs.Grammar.{Begins}
-use Rattle.fsfs_noderev.specs.Items.{IsItem}
-use Rattle.fsfs_noderev.specs.Changes.{IsAny, HasNewPath, Items, HavePathsOnce, IsItemFault}
-use Rattle.fsfs_noderev.specs.declared.item.ChangeItem.{ChangeItem}
+use Rattle.fsfs_base.specs.Grammar.Relations.{Begins}
+use Rattle.fsfs_noderev.specs.Changes.Items.{IsItem}
+use Rattle.fsfs_noderev.specs.Changes.Texts.{IsAny, HasNewPath, Items, HavePathsOnce, IsItemFault}
+use Rattle.fsfs_noderev.specs.declared.changes.item.ChangeItem.{ChangeItem}
 use Rattle.fsfs_noderev.proofs.ItemTexts.{item_one, item_filled, item_alone}
 
 module _ (May : List ChangeItem → ChangeItem → Type 0) where

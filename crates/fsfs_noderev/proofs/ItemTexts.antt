@@ -3,8 +3,8 @@ use Rattle.std.proofs.Common.{◌≡◌, ℕ, ◌<◌, true, List, [], ◌∷◌
 use Rattle.std.proofs.lemmas.Option.{same_Some}
 use Rattle.std.specs.Prelude.{is_some}
 use Rattle.std.proofs.lemmas.List.{length-append}
-use Rattle.fsfs_base.specs.Grammar.{Begins}
-use Rattle.fsfs_base.specs.Cuts.{Lacks, IsCutOf, cut, and_then}
+use Rattle.fsfs_base.specs.Grammar.Relations.{Begins}
+use Rattle.fsfs_base.specs.Grammar.Cuts.{Lacks, IsCutOf, cut, and_then}
 use Rattle.fsfs_base.proofs.Readers.{chosen}
 use Rattle.fsfs_base.proofs.CutLemmas.{cut_found, cut_again, two_lack}
 use Rattle.fsfs_base.proofs.Spelling.{bound}
@@ -14,10 +14,10 @@ use Rattle.fsfs_noderev.specs.declared.node_rev.CopySource.{CopySource}
 use Rattle.fsfs_noderev.proofs.Same.{id_same}
 use Rattle.fsfs_noderev.proofs.FieldTexts.{path_one, source_one}
 use Rattle.fsfs_noderev.proofs.OneLine.{id_line, path_line, source_line}
-use Rattle.fsfs_noderev.specs.Words.{IsFlagText, IsActionAndKind, flags_fit}
-use Rattle.fsfs_noderev.specs.Items.{IsFirstLine, IsSecondLine, IsItem}
-use Rattle.fsfs_noderev.specs.Reading.{HeadValue, IsHead, head_at, lines_at, checked, item_at}
-use Rattle.fsfs_noderev.specs.declared.item.ChangeItem.{ChangeItem}
+use Rattle.fsfs_noderev.specs.Changes.Words.{IsFlagText, IsActionAndKind, flags_fit}
+use Rattle.fsfs_noderev.specs.Changes.Items.{IsFirstLine, IsSecondLine, IsItem}
+use Rattle.fsfs_noderev.specs.Changes.Reading.{HeadValue, IsHead, head_at, lines_at, checked, item_at}
+use Rattle.fsfs_noderev.specs.declared.changes.item.ChangeItem.{ChangeItem}
 use Rattle.fsfs_noderev.proofs.WordTexts.{flag_lacks, action_and_kind_line}
 use Rattle.fsfs_noderev.proofs.HeadTexts.{head_spells}
 

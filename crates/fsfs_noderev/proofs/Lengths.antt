@@ -6,15 +6,15 @@ use Rattle.std.proofs.lemmas.Fmt.{length-decimal-le}
 use Rattle.std.proofs.Math.Seq.{take-append-add}
 use Rattle.hex.proofs.HexLemmas.{length-encode_with}
 use Rattle.hex.specs.Hex.{lower_digits}
-use Rattle.fsfs_base.specs.Grammar.{Appends}
-use Rattle.fsfs_base.specs.Numeral.{IsPlain}
-use Rattle.fsfs_base.specs.Cuts.{IsCutOf}
+use Rattle.fsfs_base.specs.Grammar.Relations.{Appends}
+use Rattle.fsfs_base.specs.Grammar.Numeral.{IsPlain}
+use Rattle.fsfs_base.specs.Grammar.Cuts.{IsCutOf}
 use Rattle.fsfs_base.proofs.Unique.{numeral_decimal}
 use Rattle.fsfs_base.proofs.Base36Texts.{numeral_base36, length-last_digits}
-use Rattle.fsfs_base.specs.Digests.{IsDigestText}
-use Rattle.fsfs_base.specs.TxnNames.{IsTxnName}
+use Rattle.fsfs_base.specs.Fields.Digests.{IsDigestText}
+use Rattle.fsfs_base.specs.Fields.TxnNames.{IsTxnName}
 use Rattle.fsfs_base.specs.declared.kind.Kind.TheVariants as kinds
-use Rattle.fsfs_base.specs.RevNums.{last_rev, IsRev}
+use Rattle.fsfs_base.specs.Fields.RevNums.{last_rev, IsRev}
 use Rattle.fsfs_noderev.specs.Ids.{New, Old, Made, At, In, IsB36, IsNumber64, IsPart, IsPlace, id_value}
 use Rattle.fsfs_noderev.specs.Reps.{IsRevOrNone, IsMarked, IsUnique, AreDigests, IsRep, AreContents, contents_value}
 use Rattle.fsfs_noderev.specs.Reps as reps

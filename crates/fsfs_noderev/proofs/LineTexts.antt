@@ -4,7 +4,7 @@ use Rattle.std.proofs.lemmas.Option.{some_pair_parts}
 use Rattle.std.specs.Prelude.{◌≢◌}
 use Rattle.std.proofs.lemmas.Bool.{eqb-true}
 use Rattle.std.proofs.lemmas.List.{length-append}
-use Rattle.fsfs_base.specs.Cuts.{Lacks, cut, and_then}
+use Rattle.fsfs_base.specs.Grammar.Cuts.{Lacks, cut, and_then}
 use Rattle.fsfs_base.proofs.CutLemmas.{cut_found, cut_again, lacks_parts, lacks_from}
 use Rattle.fsfs_noderev.specs.Lines.{IsPair, line, spaced, pair_at}
 

@@ -1,14 +1,14 @@
 -- No value of a field has an end of a line: each stands on one line.
 use Rattle.std.proofs.Common.{ℕ, List, length, Some, None, refl, sym, subst, arith}
-use Rattle.fsfs_base.specs.Cuts.{Lacks, IsCutOf}
+use Rattle.fsfs_base.specs.Grammar.Cuts.{Lacks, IsCutOf}
 use Rattle.fsfs_base.proofs.CutLemmas.{two_lack}
 use Rattle.fsfs_base.proofs.Spelling.{plain_lacks}
-use Rattle.fsfs_base.specs.Digests.{IsDigestText}
-use Rattle.fsfs_base.specs.TxnNames.{IsTxnName}
+use Rattle.fsfs_base.specs.Fields.Digests.{IsDigestText}
+use Rattle.fsfs_base.specs.Fields.TxnNames.{IsTxnName}
 use Rattle.fsfs_base.proofs.RevNumTexts.{rev_text_lacks}
 use Rattle.fsfs_base.proofs.PathTextLemmas.{path_text_line}
 use Rattle.fsfs_base.specs.declared.kind.Kind.TheVariants as kinds
-use Rattle.fsfs_base.specs.RevNums.{IsRev}
+use Rattle.fsfs_base.specs.Fields.RevNums.{IsRev}
 use Rattle.fsfs_noderev.specs.Ids.{IsB36, IsNumber64, id_value}
 use Rattle.fsfs_noderev.specs.Reps.{IsRevOrNone, IsMarked, IsUnique, AreDigests, IsRep, AreContents, contents_value}
 use Rattle.fsfs_noderev.specs.Reps as reps

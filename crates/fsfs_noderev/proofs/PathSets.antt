@@ -6,15 +6,15 @@ use Rattle.std.specs.Cmp.{eq_by_cmp_equiv}
 use Rattle.std.specs.Cmp.Lexicographic.{nat_list_cmp_total}
 use Rattle.std.proofs.lemmas.Map.Text.{is_eq-slice_cmp}
 use Rattle.std.proofs.lemmas.Slice.Eq.{bytes_eq-Decides}
-use Rattle.fsfs_base.specs.Grammar.{Begins}
+use Rattle.fsfs_base.specs.Grammar.Relations.{Begins}
 use Rattle.fsfs_base.specs.Paths.{path_text}
 use Rattle.fsfs_base.specs.Files.{same_text}
 use Rattle.fsfs_base.proofs.FileLemmas.{same_is}
 use Rattle.fsfs_noderev.specs.Fields.{IsPathText}
 use Rattle.fsfs_noderev.proofs.FieldTexts.{path_one}
-use Rattle.fsfs_noderev.specs.Items.{IsItem}
-use Rattle.fsfs_noderev.specs.Changes.{HasNewPath, Items}
-use Rattle.fsfs_noderev.specs.declared.item.ChangeItem.{ChangeItem}
+use Rattle.fsfs_noderev.specs.Changes.Items.{IsItem}
+use Rattle.fsfs_noderev.specs.Changes.Texts.{HasNewPath, Items}
+use Rattle.fsfs_noderev.specs.declared.changes.item.ChangeItem.{ChangeItem}
 use Rattle.fsfs_noderev.proofs.ItemTexts.{item_one, item_path}
 use Rattle.fsfs_noderev.proofs.ItemLists.{HasItems}
 

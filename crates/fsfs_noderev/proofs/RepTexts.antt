@@ -9,17 +9,17 @@ use Rattle.std.proofs.lemmas.Bool.{eqb-true, cases_lt}
 use Rattle.std.specs.Prelude.{slice_index}
 use Rattle.hex.specs.Hex.{IsBytes, lower_digits, encode_with, encode_lower, decode_sized}
 use Rattle.hex.specs.declared.error.FromHexError.{FromHexError}
-use Rattle.fsfs_base.specs.Numeral.{IsPlain}
-use Rattle.fsfs_base.specs.Cuts.{Lacks, cut, and_then, parts_at}
+use Rattle.fsfs_base.specs.Grammar.Numeral.{IsPlain}
+use Rattle.fsfs_base.specs.Grammar.Cuts.{Lacks, cut, and_then, parts_at}
 use Rattle.fsfs_base.proofs.Readers.{chosen}
 use Rattle.fsfs_base.proofs.CutLemmas.{cut_found, cut_again, lacks_from, cut_lacking}
 use Rattle.fsfs_base.proofs.Spelling.{Spells, bound, numeral_spells, cut_spells, plain_lacks}
-use Rattle.fsfs_base.specs.Digests.{is_capital, IsDigestText}
-use Rattle.fsfs_base.specs.TxnNames.{IsTxnName, txn_name_at}
+use Rattle.fsfs_base.specs.Fields.Digests.{is_capital, IsDigestText}
+use Rattle.fsfs_base.specs.Fields.TxnNames.{IsTxnName, txn_name_at}
 use Rattle.fsfs_base.proofs.DigestTexts.{digest_found, digest_again}
 use Rattle.fsfs_base.proofs.RevNumTexts.{rev_spells, rev_text_lacks}
 use Rattle.fsfs_base.proofs.TxnNameTexts.{txn_name_spells}
-use Rattle.fsfs_base.specs.RevNums.{last_rev, IsRev, rev_at}
+use Rattle.fsfs_base.specs.Fields.RevNums.{last_rev, IsRev, rev_at}
 use Rattle.fsfs_noderev.specs.Ids.{IsNumber64, b36_at, number_at}
 use Rattle.fsfs_noderev.specs.Reps.{UniquifierValue, RepValue, ContentsValue, Own, At, IsRevOrNone, IsMarked, IsUnique, AreDigests, IsRep, AreContents, rev_or_none_at, result_ok, digest_at, marked_at, unique_at, split_digests, digests_at, rep_at, contents_at}
 use Rattle.fsfs_noderev.proofs.IdTexts.{b36_spells}

@@ -8,8 +8,8 @@ use Rattle.std.specs.Cmp.{tied_itself}
 use Rattle.std.specs.Cmp.Lexicographic.{slice_cmp, nat_list_cmp_total}
 use Rattle.std.proofs.lemmas.Bool.{true≢false}
 use Rattle.fsfs_base.specs.Paths.{path_text}
-use Rattle.fsfs_noderev.specs.Changes.{HasNewPath}
-use Rattle.fsfs_noderev.specs.declared.item.ChangeItem.{ChangeItem}
+use Rattle.fsfs_noderev.specs.Changes.Texts.{HasNewPath}
+use Rattle.fsfs_noderev.specs.declared.changes.item.ChangeItem.{ChangeItem}
 
 abbrev text_cmp : List ℕ → List ℕ → Ordering
 text_cmp = slice_cmp nat_cmp

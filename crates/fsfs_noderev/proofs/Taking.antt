@@ -3,8 +3,8 @@ use Rattle.std.proofs.Common.{◌≡◌, ◌<◌, ◌≤◌, ◌-◌, ℕ, List,
 use Rattle.std.proofs.lemmas.Option.{some_pair_parts, same_Some}
 use Rattle.std.specs.List.{flat_map}
 use Rattle.std.proofs.lemmas.List.{length-append, nil_from_length, append-nil}
-use Rattle.fsfs_base.specs.Grammar.{Begins}
-use Rattle.fsfs_base.specs.Cuts.{Lacks, cut}
+use Rattle.fsfs_base.specs.Grammar.Relations.{Begins}
+use Rattle.fsfs_base.specs.Grammar.Cuts.{Lacks, cut}
 use Rattle.fsfs_base.proofs.Spelling.{IsOne}
 use Rattle.fsfs_base.proofs.CutLemmas.{cut_found, cut_again, cut_none}
 use Rattle.fsfs_noderev.specs.Ids.{IsNumber64}

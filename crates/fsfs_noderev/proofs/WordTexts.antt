@@ -4,7 +4,7 @@ use Rattle.std.proofs.lemmas.Option.{same_Some}
 use Rattle.std.specs.Prelude.{codes}
 use Rattle.std.specs.Str.{bytes_eq}
 use Rattle.std.proofs.lemmas.Slice.Eq.{bytes_eq-Decides}
-use Rattle.fsfs_base.specs.Cuts.{Lacks, cut, and_then}
+use Rattle.fsfs_base.specs.Grammar.Cuts.{Lacks, cut, and_then}
 use Rattle.fsfs_base.proofs.Readers.{chosen}
 use Rattle.fsfs_base.proofs.CutLemmas.{cut_found, cut_again, two_lack, cut_lacking}
 use Rattle.fsfs_base.proofs.Spelling.{Spells, bound}
@@ -13,8 +13,8 @@ use Rattle.fsfs_base.specs.declared.kind.Kind.TheVariants.{File, Dir}
 use Rattle.fsfs_base.specs.declared.action.Action.{Action}
 use Rattle.fsfs_base.specs.declared.action.Action.TheVariants.{Add, Delete, Replace, Modify}
 use Rattle.fsfs_noderev.specs.Fields.{IsKindText}
-use Rattle.fsfs_noderev.specs.Words.{IsFlagText, IsActionText, IsActionAndKind}
-use Rattle.fsfs_noderev.specs.Reading.{flag_at, action_at, kind_at, split_action, action_and_kind_at}
+use Rattle.fsfs_noderev.specs.Changes.Words.{IsFlagText, IsActionText, IsActionAndKind}
+use Rattle.fsfs_noderev.specs.Changes.Reading.{flag_at, action_at, kind_at, split_action, action_and_kind_at}
 
 -- ---- a word or what else
 

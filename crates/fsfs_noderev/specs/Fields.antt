@@ -1,12 +1,12 @@
 -- The fields of a node-revision: which name each line has, what its value may be, and what one line more makes of the fields so far.
 use Rattle.std.specs.Prelude.{◌≡◌, ◌≢◌, ℕ, List, Option, Some, None, ◌⊎◌, if◌then◌else◌, codes}
 use Rattle.std.specs.Str.{bytes_eq, IsUtf8}
-use Rattle.fsfs_base.specs.Cuts.{IsCutOf}
+use Rattle.fsfs_base.specs.Grammar.Cuts.{IsCutOf}
 use Rattle.fsfs_base.specs.Paths.{Path, path_text}
 use Rattle.fsfs_base.specs.PathTexts.{IsPath}
 use Rattle.fsfs_base.specs.declared.kind.Kind.{Kind}
 use Rattle.fsfs_base.specs.declared.kind.Kind.TheVariants as kinds
-use Rattle.fsfs_base.specs.RevNums.{IsRev}
+use Rattle.fsfs_base.specs.Fields.RevNums.{IsRev}
 use Rattle.fsfs_noderev.specs.Ids.{IsId, IsNumber64, id_value}
 use Rattle.fsfs_noderev.specs.Reps.{IsRevOrNone, AreContents, contents_value}
 use Rattle.fsfs_noderev.specs.declared.node_id.NodeId.{NodeId}

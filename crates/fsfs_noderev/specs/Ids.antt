@@ -1,9 +1,9 @@
 -- Ids of node-revisions: `<node>.<copy>.r<revision>/<offset>`, or `<node>.<copy>.t<transaction>`.
 use Rattle.std.specs.Prelude.{◌≡◌, ℕ, List, [], ◌∷◌, Option, Some, None, ◌==◌, if◌then◌else◌}
-use Rattle.fsfs_base.specs.Numeral.{IsPlain, numeral_at}
-use Rattle.fsfs_base.specs.Cuts.{IsCutOf, cut, and_then, parts_at}
-use Rattle.fsfs_base.specs.RevNums.{IsRev, rev_at}
-use Rattle.fsfs_base.specs.TxnNames.{IsTxnName, txn_name_at}
+use Rattle.fsfs_base.specs.Grammar.Numeral.{IsPlain, numeral_at}
+use Rattle.fsfs_base.specs.Grammar.Cuts.{IsCutOf, cut, and_then, parts_at}
+use Rattle.fsfs_base.specs.Fields.RevNums.{IsRev, rev_at}
+use Rattle.fsfs_base.specs.Fields.TxnNames.{IsTxnName, txn_name_at}
 use Rattle.fsfs_noderev.specs.declared.node_id.Part.{Part}
 use Rattle.fsfs_noderev.specs.declared.node_id.Part.TheVariants as part
 use Rattle.fsfs_noderev.specs.declared.node_id.Place.{Place}

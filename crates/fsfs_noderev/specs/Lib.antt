@@ -6,8 +6,5 @@ pub mod Faults
 pub mod NodeRevs
 pub mod Steps
 pub mod Writing
-pub mod Words
-pub mod Items
 pub mod Changes
-pub mod Reading
 pub mod Limits

@@ -7,12 +7,12 @@ use Rattle.fsfs_noderev.specs.Writing.{FitsSource}
 use Rattle.fsfs_noderev.specs.declared.node_rev.CopySource.{CopySource}
 use Rattle.fsfs_noderev.specs.declared.node_rev.CopyRoot.{CopyRoot}
 use Rattle.fsfs_noderev.specs.declared.node_rev.NodeRev.{NodeRev}
-use Rattle.fsfs_noderev.specs.Words.{flags_fit}
-use Rattle.fsfs_noderev.specs.declared.item.ChangeItem.{ChangeItem}
-use Rattle.fsfs_noderev.specs.declared.limit.PathLimit.{PathLimit}
-use Rattle.fsfs_noderev.specs.declared.limit.PathLimit.TheVariants as limits
-use Rattle.fsfs_noderev.specs.declared.limit.LimitError.{LimitError}
-use Rattle.fsfs_noderev.specs.declared.limit.LimitError.TheVariants as errors
+use Rattle.fsfs_noderev.specs.Changes.Words.{flags_fit}
+use Rattle.fsfs_noderev.specs.declared.changes.item.ChangeItem.{ChangeItem}
+use Rattle.fsfs_noderev.specs.declared.limits.limit.PathLimit.{PathLimit}
+use Rattle.fsfs_noderev.specs.declared.limits.limit.PathLimit.TheVariants as limits
+use Rattle.fsfs_noderev.specs.declared.limits.limit.LimitError.{LimitError}
+use Rattle.fsfs_noderev.specs.declared.limits.limit.LimitError.TheVariants as errors
 
 abbrev pub IsPast : PathLimit → Path → Type 0
 IsPast limits.Names p = 128 < length p

@@ -1,6 +1,6 @@
 -- Lines `<name>: <value>\n`.
 use Rattle.std.specs.Prelude.{◌≢◌, ℕ, List, [], ◌∷◌, ◌++◌, Option, Some, None, ◌==◌, if◌then◌else◌}
-use Rattle.fsfs_base.specs.Cuts.{Lacks, cut, and_then}
+use Rattle.fsfs_base.specs.Grammar.Cuts.{Lacks, cut, and_then}
 
 -- a line's name is not empty and has no colon and no end of a line, and its value has no end of a line
 pub record IsPair (pair : List ℕ × List ℕ) : Type 0 where

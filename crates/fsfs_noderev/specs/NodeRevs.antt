@@ -1,8 +1,8 @@
 -- What a node-revision's text is: lines, of which each is taken, and an empty line; and which line is the first refused.
 use Rattle.std.specs.Prelude.{◌≡◌, ◌≢◌, ◌-◌, ℕ, List, [], ◌∷◌, ◌++◌, length, Some, None, ◌⊎◌, unwrap_or, is_some, IsSome}
 use Rattle.std.specs.List.{flat_map}
-use Rattle.fsfs_base.specs.Grammar.{Begins}
-use Rattle.fsfs_base.specs.Cuts.{Lacks}
+use Rattle.fsfs_base.specs.Grammar.Relations.{Begins}
+use Rattle.fsfs_base.specs.Grammar.Cuts.{Lacks}
 use Rattle.fsfs_noderev.specs.Lines.{IsPair, line}
 use Rattle.fsfs_noderev.specs.Fields.{field_named, Puts, Refuses, nothing}
 use Rattle.fsfs_noderev.specs.declared.fields.Fields.{Fields}

@@ -4,10 +4,10 @@ use Rattle.std.specs.List.{list_any}
 use Rattle.std.specs.Str.{bytes_eq}
 use Rattle.hex.specs.Hex.{decode_sized}
 use Rattle.hex.specs.declared.error.FromHexError.{FromHexError}
-use Rattle.fsfs_base.specs.Cuts.{IsCutOf, cut, and_then, parts_at}
-use Rattle.fsfs_base.specs.Digests.{is_capital, IsDigestText}
-use Rattle.fsfs_base.specs.TxnNames.{IsTxnName, txn_name_at}
-use Rattle.fsfs_base.specs.RevNums.{IsRev, rev_at}
+use Rattle.fsfs_base.specs.Grammar.Cuts.{IsCutOf, cut, and_then, parts_at}
+use Rattle.fsfs_base.specs.Fields.Digests.{is_capital, IsDigestText}
+use Rattle.fsfs_base.specs.Fields.TxnNames.{IsTxnName, txn_name_at}
+use Rattle.fsfs_base.specs.Fields.RevNums.{IsRev, rev_at}
 use Rattle.fsfs_noderev.specs.Ids.{IsB36, IsNumber64, b36_at, number_at}
 use Rattle.fsfs_noderev.specs.declared.rep.Rep.{Rep}
 use Rattle.fsfs_noderev.specs.declared.rep.Uniquifier.{Uniquifier}

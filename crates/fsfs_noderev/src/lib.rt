@@ -7,30 +7,24 @@
 //! Limits of paths: what is written of node-revisions and changed paths has none past them.
 #![tactic(auto)]
 
-mod change_error;
-mod changes_reading;
-mod changes_writing;
+mod changes;
 mod fields;
-mod item;
-mod limit;
-mod lines;
+mod limits;
 mod node_id;
 mod node_rev;
 mod reading;
 mod rep;
-mod texts;
-mod words;
 mod writing;
 
-pub use change_error::{ChangeError, ChangeFault};
-pub use changes_reading::{read_changes, read_item, read_revision_changes};
-pub use changes_writing::{put_item, write_changes};
+pub use changes::error::{ChangeError, ChangeFault};
+pub use changes::item::ChangeItem;
+pub use changes::reading::{read_changes, read_item, read_revision_changes};
+pub use changes::writing::{put_item, write_changes};
 pub use fields::Fields;
-pub use item::ChangeItem;
-pub use limit::{LimitError, PathLimit, check_path};
+pub use limits::limit::{LimitError, PathLimit, check_path};
+pub use limits::texts::{check_item, check_node, is_told};
 pub use node_id::{NodeId, Part, Place, put_id, read_id, write_id};
 pub use node_rev::{CopyRoot, CopySource, Field, NodeFault, NodeRev, Which, same_source};
 pub use reading::{MAX_NODE_REV, NodeError, read_fields, read_noderev};
 pub use rep::{Contents, Rep, Uniquifier, put_contents, put_rep, read_contents, read_rep};
-pub use texts::{check_item, check_node, is_told};
 pub use writing::write_noderev;

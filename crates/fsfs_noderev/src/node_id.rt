@@ -1,6 +1,6 @@
 //! Ids of node-revisions.
 ghost use Rattle.std.specs.Prelude.{◌≡◌, ℕ, List, option_map, IfSome, IsSomeAnd, IfOk, OnOk};
-ghost use Rattle.fsfs_base.specs.Grammar.{Appends};
+ghost use Rattle.fsfs_base.specs.Grammar.Relations.{Appends};
 ghost use Rattle.fsfs_noderev.specs.Ids.{IdValue, part_value, place_value, id_value, IsPart, IsPlace, IsId, part_at, place_at, id_at};
 
 use fsfs_base::base36::{plain_base36, put_b36};

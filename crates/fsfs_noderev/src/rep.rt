@@ -1,7 +1,7 @@
 //! Where a text, a property list or a directory stands.
 ghost use Rattle.std.specs.Prelude.{◌≡◌, ℕ, List, option_map, IfSome, IsSomeAnd, IfOk, OnOk, codes};
-ghost use Rattle.fsfs_base.specs.Grammar.{Appends};
-ghost use Rattle.fsfs_base.specs.Digests.{IsDigestText};
+ghost use Rattle.fsfs_base.specs.Grammar.Relations.{Appends};
+ghost use Rattle.fsfs_base.specs.Fields.Digests.{IsDigestText};
 ghost use Rattle.fsfs_noderev.specs.Reps.{RepValue, ContentsValue, unique_value, rep_value, contents_value, IsRevOrNone, IsMarked, IsUnique, AreDigests, IsRep, AreContents, rev_or_none_at, digest_at, marked_at, unique_at, digests_at, rep_at, contents_at};
 
 use fsfs_base::base36::{plain_base36, put_b36};

@@ -1,6 +1,6 @@
 //! Node-revisions written in lines.
 ghost use Rattle.std.specs.Prelude.{◌≡◌, ◌≤◌, ◌++◌, ◌∷◌, [], List, ℕ, Bool, length, take, OnOk, IfOk, codes};
-ghost use Rattle.fsfs_base.specs.Grammar.{Appends};
+ghost use Rattle.fsfs_base.specs.Grammar.Relations.{Appends};
 ghost use Rattle.fsfs_base.specs.PathTexts.{IsPath};
 ghost use Rattle.fsfs_noderev.specs.Ids.{IsNumber64};
 ghost use Rattle.fsfs_noderev.specs.Fields.{IsIdText, IsKindText, AreContentsText, IsPathText, IsSourceText, IsRootText};

@@ -6,10 +6,10 @@ use mathlib.Core.Logic.{dite}
 use native.Mathlib.Decide.{ℕ_discrete}
 use lib.ListN.{get_elem?}
 use Rattle.atomic_table.proofs.Lists.{at_set, set_else}
-use Rattle.fsfs_base.specs.declared.place.DiskPlace.{DiskPlace}
+use Rattle.fsfs_base.specs.declared.places.place.DiskPlace.{DiskPlace}
 use Rattle.fsfs_turn.specs.Alone.{are_harmless, brings_doubt, is_doubtful_at}
 use Rattle.fsfs_turn.specs.Views.{is_held}
-use Rattle.fsfs_pass.specs.declared.seat_view.SeatView.{SeatView}
+use Rattle.fsfs_pass.specs.declared.seats.seat_view.SeatView.{SeatView}
 use Rattle.fsfs_pass.specs.Seats.{is_left}
 use Rattle.fsfs_pass.specs.Causes.{IsSound, HasLock, Causes}
 use Rattle.fsfs_pass.proofs.Kinships.{set_there}

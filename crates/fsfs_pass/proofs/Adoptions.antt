@@ -12,14 +12,14 @@ use Rattle.fsfs_turn.proofs.TurnEnds.{IsAfter, Comes}
 use Rattle.fsfs_turn.proofs.Adopting.{adopt_comes, adopt_file_comes}
 use Rattle.fsfs_turn.proofs.OwnFiles.{SparesOwn, IsNotOwn, adopt_spares}
 use Rattle.fsfs_disk.specs.Seen.{DiskSeen, IsLater}
-use Rattle.fsfs_pass.specs.declared.seat_view.SeatView.{SeatView}
-use Rattle.fsfs_pass.specs.declared.seat_view.Hand.TheVariants.{Out}
+use Rattle.fsfs_pass.specs.declared.seats.seat_view.SeatView.{SeatView}
+use Rattle.fsfs_pass.specs.declared.seats.seat_view.Hand.TheVariants.{Out}
 use Rattle.fsfs_pass.specs.Seats.{view_of, IsSitting}
 use Rattle.fsfs_pass.specs.Rule.{Rule}
 use Rattle.fsfs_pass.specs.Tells.{Sat}
 use Rattle.fsfs_turn.specs.declared.adoption.Adoption.{Adoption}
-use Rattle.fsfs_pass.specs.Made.{Made, carried, failed_of, once}
-use Rattle.fsfs_pass.specs.SeatCallsTells.{MayAdoptIt, AdoptedBy, IsPutOf, adopted_back}
+use Rattle.fsfs_pass.specs.SeatCalls.Made.{Made, carried, failed_of, once}
+use Rattle.fsfs_pass.specs.SeatCalls.Tells.{MayAdoptIt, AdoptedBy, IsPutOf, adopted_back}
 use Rattle.fsfs_pass.proofs.Lasting.{IsPassingChange, HasPassingName, rev_passes}
 use Rattle.fsfs_pass.proofs.FilesLast.{made_lasts, made_own}
 use Rattle.fsfs_pass.proofs.Going.{IsShort, StaysSure, after_more, Turn, gives_so}

@@ -8,7 +8,7 @@ use Rattle.fsfs_fetch.specs.Views.{Later}
 use Rattle.fsfs_disk.specs.Labels.{Label}
 use Rattle.fsfs_disk.specs.Trace.{Trace, DropLabel, Performs, PerformsIfThere, FailsAt, FailsToPut, FailsToAdopt}
 use Rattle.fsfs_disk.specs.Trace as real
-use Rattle.fsfs_base.specs.declared.place.DiskPlace.{DiskPlace}
+use Rattle.fsfs_base.specs.declared.places.place.DiskPlace.{DiskPlace}
 use Rattle.fsfs_machine.specs.declared.machine.Drawn.{Drawn}
 use Rattle.fsfs_machine.specs.declared.machine.Txn.{Txn}
 use Rattle.fsfs_machine.specs.declared.machine.Went.{Went}
@@ -17,12 +17,12 @@ use Rattle.fsfs_turn.specs.Views.{View, IsDue, Answers, Called}
 use Rattle.fsfs_turn.specs.declared.adoption.Adoption.{Adoption}
 use Rattle.fsfs_turn.specs.Learning.{MayMake, BenchMade, MayPurge, Purged, SpentPurged}
 use Rattle.fsfs_disk.specs.Seen.{DiskSeen, IsLater}
-use Rattle.fsfs_pass.specs.declared.seat_view.Hand.{Hand}
-use Rattle.fsfs_pass.specs.declared.seat_view.SeatView.{SeatView}
+use Rattle.fsfs_pass.specs.declared.seats.seat_view.Hand.{Hand}
+use Rattle.fsfs_pass.specs.declared.seats.seat_view.SeatView.{SeatView}
 use Rattle.fsfs_pass.specs.Seats.{view_of}
 use Rattle.fsfs_pass.specs.Met.{seat_store}
-use Rattle.fsfs_pass.specs.Made.{Made, Dropped, Ended, once, risen, went_of}
-use Rattle.fsfs_pass.specs.SeatCallsTells.{IsBack, CalledBy, AdoptedBy, AdoptedAs, BenchedBy, PurgedBy}
+use Rattle.fsfs_pass.specs.SeatCalls.Made.{Made, Dropped, Ended, once, risen, went_of}
+use Rattle.fsfs_pass.specs.SeatCalls.Tells.{IsBack, CalledBy, AdoptedBy, AdoptedAs, BenchedBy, PurgedBy}
 
 -- ---- the disk behind the call
 

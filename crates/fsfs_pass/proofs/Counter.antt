@@ -9,8 +9,8 @@ use Rattle.fsfs_layout.specs.declared.only_file.OnlyFile.TheVariants.{TxnCurrent
 use Rattle.fsfs_disk.specs.Trace.{Trace, files_now, file_at}
 use Rattle.fsfs_machine.specs.declared.contents.FileName.TheVariants.{Counter}
 use Rattle.fsfs_machine.specs.declared.contents.Contents.TheVariants.{Number}
-use Rattle.fsfs_base.specs.declared.place.DiskPlace.TheVariants as place
-use Rattle.fsfs_base.specs.declared.place.BeginPlace.TheVariants as begin
+use Rattle.fsfs_base.specs.declared.places.place.DiskPlace.TheVariants as place
+use Rattle.fsfs_base.specs.declared.places.place.BeginPlace.TheVariants as begin
 use Rattle.fsfs_machine.specs.declared.machine.Section.TheVariants.{Begun, CountRead, Over}
 use Rattle.fsfs_machine.specs.declared.machine.Went.{Went}
 use Rattle.fsfs_machine.specs.Disk.{found}
@@ -22,14 +22,14 @@ use Rattle.fsfs_turn.specs.Learning.{CounterRead, drawn_of}
 use Rattle.fsfs_turn.proofs.Alone.{harmless_before, either_calm}
 use Rattle.fsfs_turn.proofs.Counting.{counter, counter_turns, counter_file}
 use Rattle.fsfs_disk.specs.Seen.{DiskSeen, IsLater}
-use Rattle.fsfs_pass.specs.declared.seat_view.SeatView.{SeatView}
-use Rattle.fsfs_pass.specs.declared.seat_view.Hand.TheVariants.{Out}
+use Rattle.fsfs_pass.specs.declared.seats.seat_view.SeatView.{SeatView}
+use Rattle.fsfs_pass.specs.declared.seats.seat_view.Hand.TheVariants.{Out}
 use Rattle.fsfs_pass.specs.Seats.{view_of, IsSitting}
 use Rattle.fsfs_pass.specs.Rule.{Rule}
 use Rattle.fsfs_pass.specs.Tells.{Sat}
 use Rattle.fsfs_pass.proofs.Following.{lasts_same}
-use Rattle.fsfs_pass.specs.Made.{went_of, carried, failed_of, trace_of, once}
-use Rattle.fsfs_pass.specs.SeatCallsTells.{DrawnBy, drawn_back}
+use Rattle.fsfs_pass.specs.SeatCalls.Made.{went_of, carried, failed_of, trace_of, once}
+use Rattle.fsfs_pass.specs.SeatCalls.Tells.{DrawnBy, drawn_back}
 use Rattle.fsfs_pass.proofs.Going.{IsShort, StaysSure, after_more, Turn, gives_so}
 
 less_or_not : (a b : ℕ) → (a < b) ⊎ (b ≤ a)

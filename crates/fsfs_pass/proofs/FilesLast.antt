@@ -9,7 +9,7 @@ use Rattle.fsfs_turn.specs.Stands.{OwnFilesLast}
 use Rattle.fsfs_turn.proofs.OwnFiles.{SparesOwn, IsNotOwn, own_last}
 use Rattle.fsfs_pass.specs.Met.{Lasts}
 use Rattle.fsfs_pass.proofs.Lasting.{IsPassingChange, lasts_behind, lasts_failed, lasts_torn, lasts_unmoved}
-use Rattle.fsfs_pass.specs.Made.{Made, Dropped}
+use Rattle.fsfs_pass.specs.SeatCalls.Made.{Made, Dropped}
 
 module _ (layout : Layout) (n : ℕ) (t new : Trace) where
   pub made_lasts : (failed : Bool) (change : real.NameChange) → IsPassingChange layout n change → Made failed change (Some t) (Some new) → Lasts layout n (files_now t) (files_now new)

@@ -9,7 +9,7 @@ use Rattle.fsfs_revision.specs.declared.wrong.Refusal.{Refusal}
 use Rattle.fsfs_revision.specs.RevBytes.{rev_bytes, rev_file, by_floor, packed_bytes, or_missing, manifest_of, section_of, cut_from}
 use Rattle.fsfs_fetch.specs.Views.{Grows, is_below, is_packed, Follows, FilesLater, Later}
 use Rattle.fsfs_disk.specs.Trace.{Trace, files_now}
-use Rattle.fsfs_base.specs.declared.place.DiskPlace.{DiskPlace}
+use Rattle.fsfs_base.specs.declared.places.place.DiskPlace.{DiskPlace}
 use Rattle.fsfs_machine.specs.declared.machine.Recorded.{Recorded}
 use Rattle.fsfs_machine.specs.Machine.{World, stuck_place}
 use Rattle.fsfs_turn.specs.Views.{Sees, Begins}
@@ -18,7 +18,7 @@ use Rattle.fsfs_turn.specs.Standing.{IsStore}
 use Rattle.fsfs_turn.specs.Telling.{TellsSeen}
 use Rattle.fsfs_turn.proofs.Moments.{begins_itself}
 use Rattle.fsfs_turn.proofs.Moves.{Spares}
-use Rattle.fsfs_pass.specs.declared.seat_view.SeatView.{SeatView}
+use Rattle.fsfs_pass.specs.declared.seats.seat_view.SeatView.{SeatView}
 use Rattle.fsfs_pass.specs.Seats.{view_of}
 use Rattle.fsfs_pass.specs.Met.{Lasts, Met, known_last, seat_store}
 

@@ -8,7 +8,7 @@ use Rattle.fsfs_layout.specs.declared.layout.Layout.{Layout}
 use Rattle.fsfs_fetch.specs.Views.{Later}
 use Rattle.fsfs_disk.specs.Benches.{HasShortFiles}
 use Rattle.fsfs_disk.specs.Trace.{Trace, files_now}
-use Rattle.fsfs_base.specs.declared.place.DiskPlace.{DiskPlace}
+use Rattle.fsfs_base.specs.declared.places.place.DiskPlace.{DiskPlace}
 use Rattle.fsfs_base.proofs.ResultLemmas.{none_of}
 use Rattle.fsfs_machine.specs.declared.machine.Section.{Section}
 use Rattle.fsfs_machine.specs.declared.machine.Lock.{Lock}
@@ -25,8 +25,8 @@ use Rattle.fsfs_turn.specs.Telling.{TellsSeen}
 use Rattle.fsfs_turn.proofs.TurnEnds.{StaysWith, IsAfter}
 use Rattle.fsfs_turn.proofs.Moves.{Moved, call_moved}
 use Rattle.fsfs_disk.specs.Seen.{DiskSeen, IsLater}
-use Rattle.fsfs_pass.specs.declared.seat_view.Hand.TheVariants.{Empty, Out}
-use Rattle.fsfs_pass.specs.declared.seat_view.SeatView.{SeatView}
+use Rattle.fsfs_pass.specs.declared.seats.seat_view.Hand.TheVariants.{Empty, Out}
+use Rattle.fsfs_pass.specs.declared.seats.seat_view.SeatView.{SeatView}
 use Rattle.fsfs_pass.specs.LockWords.{lock_word}
 use Rattle.fsfs_pass.specs.Seats.{view_of, IsSitting, Sits}
 use Rattle.fsfs_pass.specs.Rule.{Seated, Store, HandIs, Rule}
@@ -36,8 +36,8 @@ use Rattle.fsfs_pass.proofs.Following.{met_now, met_after, tells_seen, later_now
 use Rattle.fsfs_pass.proofs.Accounts.{Turns, quiet_turn, harmful_more}
 use Rattle.fsfs_pass.proofs.Others.{Adds, seated, seat_sees, seat_safe, meets, goes_on}
 use Rattle.fsfs_pass.proofs.Rules.{St, seat_stays, restored, returned}
-use Rattle.fsfs_pass.specs.Made.{once, risen}
-use Rattle.fsfs_pass.specs.SeatCallsTells.{IsBack, GivenBack, Back, counting}
+use Rattle.fsfs_pass.specs.SeatCalls.Made.{once, risen}
+use Rattle.fsfs_pass.specs.SeatCalls.Tells.{IsBack, GivenBack, Back, counting}
 use Rattle.fsfs_pass.proofs.FilesLast.{OwnStays}
 
 -- the word of the lock stays

@@ -12,7 +12,7 @@ use Rattle.fsfs_disk.specs.Trace.{Trace, files_now}
 use Rattle.fsfs_machine.specs.declared.machine.Recorded.{Recorded}
 use Rattle.fsfs_machine.specs.declared.machine.Outcome.TheVariants as outcome
 use Rattle.fsfs_machine.specs.declared.machine.Step.TheVariants as step
-use Rattle.fsfs_base.specs.declared.place.DiskPlace.{DiskPlace}
+use Rattle.fsfs_base.specs.declared.places.place.DiskPlace.{DiskPlace}
 use Rattle.fsfs_machine.specs.Machine.{either_place, World, did, barred, at_place, is_there, join_with, joined, stuck_place}
 use Rattle.fsfs_machine.specs.Kept.{Kept, IsSeen}
 use Rattle.fsfs_machine.proofs.Answering.{seen_of}
@@ -28,10 +28,10 @@ use Rattle.fsfs_turn.proofs.Moves.{Spares}
 use Rattle.fsfs_turn.proofs.TurnEnds.{at_other}
 use Rattle.fsfs_turn.specs.Found.{seen_within}
 use Rattle.fsfs_disk.specs.Seen.{DiskSeen}
-use Rattle.fsfs_pass.specs.declared.seat_view.Before.{Before}
-use Rattle.fsfs_pass.specs.declared.seat_view.Stage.TheVariants.{Joining}
-use Rattle.fsfs_pass.specs.declared.seat_view.Hand.{Hand}
-use Rattle.fsfs_pass.specs.declared.seat_view.SeatView.{SeatView}
+use Rattle.fsfs_pass.specs.declared.seats.seat_view.Before.{Before}
+use Rattle.fsfs_pass.specs.declared.seats.seat_view.Stage.TheVariants.{Joining}
+use Rattle.fsfs_pass.specs.declared.seats.seat_view.Hand.{Hand}
+use Rattle.fsfs_pass.specs.declared.seats.seat_view.SeatView.{SeatView}
 use Rattle.fsfs_pass.specs.Seats.{all_parts, view_of, is_left, IsSitting, Sits, last_of, longer, later_met, joined_with, before, as_before, joining_view, settled_view, left_view}
 use Rattle.fsfs_pass.specs.Kinship.{numbers_of, Branch, branch_of, branches, Kinship, grown}
 use Rattle.fsfs_pass.specs.Causes.{IsSound, HasLock, Causes}

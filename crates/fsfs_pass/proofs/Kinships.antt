@@ -7,8 +7,8 @@ use native.Mathlib.Decide.{ℕ_discrete}
 use lib.ListN.{get_elem?}
 use Rattle.atomic_table.proofs.Lists.{at_set, set_else, at_longer}
 use Rattle.fsfs_machine.specs.Kept.{IsIn, AreOnce}
-use Rattle.fsfs_pass.specs.declared.seat_view.Kin.{Kin}
-use Rattle.fsfs_pass.specs.declared.seat_view.SeatView.{SeatView}
+use Rattle.fsfs_pass.specs.declared.seats.seat_view.Kin.{Kin}
+use Rattle.fsfs_pass.specs.declared.seats.seat_view.SeatView.{SeatView}
 use Rattle.fsfs_pass.specs.Seats.{all_parts, alone, is_left}
 use Rattle.fsfs_pass.specs.Kinship.{numbers_of, Branch, branch_of, branches, parts_in, Kinship, grown, gone}
 

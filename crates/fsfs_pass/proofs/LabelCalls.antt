@@ -5,8 +5,8 @@ use mathlib.Core.Option.{none}
 use Rattle.atomic_table.specs.Table.{step, Allows}
 use Rattle.fsfs_disk.specs.Labels.{Label}
 use Rattle.fsfs_disk.specs.Trace.{Trace, KeepLabel, DropLabel, PerformsIfThere, FailsAt}
-use Rattle.fsfs_base.specs.declared.place.DiskPlace.{DiskPlace}
-use Rattle.fsfs_base.specs.declared.place.DiskPlace.TheVariants as place
+use Rattle.fsfs_base.specs.declared.places.place.DiskPlace.{DiskPlace}
+use Rattle.fsfs_base.specs.declared.places.place.DiskPlace.TheVariants as place
 use Rattle.fsfs_machine.specs.declared.machine.Drawn.{Drawn}
 use Rattle.fsfs_machine.specs.declared.machine.Pass.{Pass}
 use Rattle.fsfs_machine.specs.declared.machine.Txn.{Txn}
@@ -19,13 +19,13 @@ use Rattle.fsfs_turn.proofs.Alone.{harmless_before}
 use Rattle.fsfs_turn.proofs.TurnEnds.{Comes}
 use Rattle.fsfs_turn.proofs.Labelling.{make_comes, purge_comes, spent_comes}
 use Rattle.fsfs_disk.specs.Seen.{DiskSeen, IsLater}
-use Rattle.fsfs_pass.specs.declared.seat_view.SeatView.{SeatView}
-use Rattle.fsfs_pass.specs.declared.seat_view.Hand.TheVariants.{Out}
+use Rattle.fsfs_pass.specs.declared.seats.seat_view.SeatView.{SeatView}
+use Rattle.fsfs_pass.specs.declared.seats.seat_view.Hand.TheVariants.{Out}
 use Rattle.fsfs_pass.specs.Seats.{view_of, IsSitting}
 use Rattle.fsfs_pass.specs.Rule.{Rule}
 use Rattle.fsfs_pass.specs.Tells.{Sat}
-use Rattle.fsfs_pass.specs.Made.{Made, Ended, Dropped, carried, failed_of, once}
-use Rattle.fsfs_pass.specs.SeatCallsTells.{BenchedBy, MayDrop, PurgedBy, benched_back, purged_back}
+use Rattle.fsfs_pass.specs.SeatCalls.Made.{Made, Ended, Dropped, carried, failed_of, once}
+use Rattle.fsfs_pass.specs.SeatCalls.Tells.{BenchedBy, MayDrop, PurgedBy, benched_back, purged_back}
 use Rattle.fsfs_pass.proofs.FilesLast.{made_lasts, dropped_lasts, made_own, dropped_own}
 use Rattle.fsfs_pass.proofs.Going.{IsShort, StaysSure, after_more, Turn, gives_so, gives_with}
 use Rattle.fsfs_pass.proofs.SectionCalls.{result_of, ended_so, made_well, done_told, failed_told, made_told}

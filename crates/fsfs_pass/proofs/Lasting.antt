@@ -14,10 +14,10 @@ use Rattle.fsfs_layout.specs.declared.repository_file.RepositoryFile.TheVariants
 use Rattle.fsfs_layout.proofs.Apart.{names_apart}
 use Rattle.fsfs_revision.specs.RevBytes.{floor_of, floor_in}
 use Rattle.fsfs_disk.specs.Trace.{Trace, NameChange, Put, Adopt, Rename, Remove, FirmNames, KeepLabel, DropLabel, changed, files_now, add_operation, Done, Attempted, Performs, Attempts, FailsAt, FailsToPut}
-use Rattle.fsfs_base.specs.declared.place.DiskPlace.{DiskPlace}
-use Rattle.fsfs_base.specs.declared.place.DiskPlace.TheVariants.{Begin, Commit}
-use Rattle.fsfs_base.specs.declared.place.BeginPlace.TheVariants as begin
-use Rattle.fsfs_base.specs.declared.place.CommitPlace.TheVariants as commit
+use Rattle.fsfs_base.specs.declared.places.place.DiskPlace.{DiskPlace}
+use Rattle.fsfs_base.specs.declared.places.place.DiskPlace.TheVariants.{Begin, Commit}
+use Rattle.fsfs_base.specs.declared.places.place.BeginPlace.TheVariants as begin
+use Rattle.fsfs_base.specs.declared.places.place.CommitPlace.TheVariants as commit
 use Rattle.fsfs_machine.specs.declared.machine.Coming.{Coming}
 use Rattle.fsfs_turn.specs.Views.{View, IsDue, coming_at}
 use Rattle.fsfs_pass.specs.Met.{Lasts}

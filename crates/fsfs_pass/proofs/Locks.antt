@@ -1,11 +1,11 @@
 -- The numbers of places, and what the word LOCK says of the lock.
 use Rattle.std.proofs.Common.{◌≡◌, ◌≤◌, true, refl, sym, ap, arith}
-use Rattle.fsfs_base.specs.declared.place.OpenPlace.TheVariants as opening
-use Rattle.fsfs_base.specs.declared.place.CreatePlace.TheVariants as creation
-use Rattle.fsfs_base.specs.declared.place.BeginPlace.TheVariants as begin
-use Rattle.fsfs_base.specs.declared.place.CommitPlace.TheVariants as commit
-use Rattle.fsfs_base.specs.declared.place.DiskPlace.{DiskPlace}
-use Rattle.fsfs_base.specs.declared.place.DiskPlace.TheVariants as place
+use Rattle.fsfs_base.specs.declared.places.place.OpenPlace.TheVariants as opening
+use Rattle.fsfs_base.specs.declared.places.place.CreatePlace.TheVariants as creation
+use Rattle.fsfs_base.specs.declared.places.place.BeginPlace.TheVariants as begin
+use Rattle.fsfs_base.specs.declared.places.place.CommitPlace.TheVariants as commit
+use Rattle.fsfs_base.specs.declared.places.place.DiskPlace.{DiskPlace}
+use Rattle.fsfs_base.specs.declared.places.place.DiskPlace.TheVariants as place
 use Rattle.fsfs_machine.specs.declared.machine.Coming.{Coming}
 use Rattle.fsfs_machine.specs.declared.machine.Lock.{Lock}
 use Rattle.fsfs_machine.specs.declared.machine.Lock.TheVariants.{Free, Held, Stuck, Down, DownDoubtful}

@@ -10,12 +10,12 @@ use Rattle.fsfs_machine.specs.declared.machine.Went.{Went}
 use Rattle.fsfs_machine.specs.Machine.{is_fine_in}
 use Rattle.fsfs_turn.specs.Labels.{Relabels, MayRelabel, Drops}
 use Rattle.fsfs_turn.specs.Learning.{Listed}
-use Rattle.fsfs_pass.specs.declared.seat_view.Hand.{Hand}
-use Rattle.fsfs_pass.specs.declared.seat_view.SeatView.{SeatView}
+use Rattle.fsfs_pass.specs.declared.seats.seat_view.Hand.{Hand}
+use Rattle.fsfs_pass.specs.declared.seats.seat_view.SeatView.{SeatView}
 use Rattle.fsfs_pass.specs.Seats.{view_of}
 use Rattle.fsfs_pass.specs.Met.{seat_store, seat_labels}
-use Rattle.fsfs_pass.specs.Made.{went_of}
-use Rattle.fsfs_pass.specs.SeatCallsTells.{GivenBack}
+use Rattle.fsfs_pass.specs.SeatCalls.Made.{went_of}
+use Rattle.fsfs_pass.specs.SeatCalls.Tells.{GivenBack}
 
 -- ---- what is told of the files
 

@@ -1,7 +1,7 @@
 -- A read, as reading alone.
 use Rattle.std.proofs.Common.{◌≡◌, ℕ, [], length, refl, sym, ap, subst}
 use Rattle.std.specs.Prelude.{Some}
-use Rattle.fsfs_base.specs.declared.place.DiskPlace.TheVariants as place
+use Rattle.fsfs_base.specs.declared.places.place.DiskPlace.TheVariants as place
 use Rattle.fsfs_machine.specs.declared.machine.Outcome.{Outcome}
 use Rattle.fsfs_machine.specs.declared.machine.Outcome.TheVariants as outcome
 use Rattle.fsfs_machine.specs.declared.machine.Step.{Step}

@@ -7,7 +7,7 @@ use Rattle.fsfs_fetch.specs.Views.{Grows, FilesLater, Later}
 use Rattle.fsfs_machine.specs.Machine.{joined}
 use Rattle.fsfs_turn.specs.Views.{View, Begins}
 use Rattle.fsfs_turn.specs.Telling.{TellsSeen}
-use Rattle.fsfs_pass.specs.declared.seat_view.SeatView.{SeatView}
+use Rattle.fsfs_pass.specs.declared.seats.seat_view.SeatView.{SeatView}
 use Rattle.fsfs_pass.specs.Seats.{view_of, halved_view, split_pass, numbered_view, joined_view}
 use Rattle.fsfs_pass.specs.Met.{known_last, seat_store}
 use Rattle.fsfs_pass.specs.Tells.{TellsIt}

@@ -6,7 +6,7 @@ use mathlib.Core.Option.{none}
 use Rattle.atomic_table.specs.Table.{step, Allows}
 use Rattle.fsfs_disk.specs.Labels.{Label}
 use Rattle.fsfs_disk.specs.Trace.{Trace, files_now}
-use Rattle.fsfs_base.specs.declared.place.DiskPlace.TheVariants as place
+use Rattle.fsfs_base.specs.declared.places.place.DiskPlace.TheVariants as place
 use Rattle.fsfs_machine.specs.declared.machine.Recorded.{Recorded}
 use Rattle.fsfs_machine.specs.declared.machine.Pass.{Pass}
 use Rattle.fsfs_machine.specs.declared.machine.Outcome.{Outcome}
@@ -24,14 +24,14 @@ use Rattle.fsfs_turn.proofs.Fetching.{read_turns}
 use Rattle.fsfs_turn.proofs.SmallFiles.{floor_turns, props_turns}
 use Rattle.fsfs_turn.proofs.Labelling.{list_turns}
 use Rattle.fsfs_disk.specs.Seen.{DiskSeen, IsLater}
-use Rattle.fsfs_pass.specs.declared.seat_view.SeatView.{SeatView}
-use Rattle.fsfs_pass.specs.declared.seat_view.Hand.TheVariants.{Out}
+use Rattle.fsfs_pass.specs.declared.seats.seat_view.SeatView.{SeatView}
+use Rattle.fsfs_pass.specs.declared.seats.seat_view.Hand.TheVariants.{Out}
 use Rattle.fsfs_pass.specs.Seats.{view_of, IsSitting}
 use Rattle.fsfs_pass.specs.Rule.{Rule}
 use Rattle.fsfs_pass.specs.Tells.{Sat}
 use Rattle.fsfs_pass.proofs.Following.{lasts_same}
-use Rattle.fsfs_pass.specs.Made.{went_of, carried, failed_of, once}
-use Rattle.fsfs_pass.specs.SeatCallsTells.{ReadBy, read_back, listed_back}
+use Rattle.fsfs_pass.specs.SeatCalls.Made.{went_of, carried, failed_of, once}
+use Rattle.fsfs_pass.specs.SeatCalls.Tells.{ReadBy, read_back, listed_back}
 use Rattle.fsfs_pass.proofs.Going.{IsShort, StaysSure, after_more, Turn, gives_so}
 
 -- the pass that has seen this history, and has learned so much of it

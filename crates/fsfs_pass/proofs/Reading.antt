@@ -1,7 +1,7 @@
 -- What a read tells, by its answer.
 use Rattle.std.proofs.Common.{◌≡◌, ◌<◌, ◌≤◌, ◌^◌, ℕ, List, length, true, false, refl, sym, ap, subst, ◌∙◌}
 use Rattle.std.specs.Prelude.{Option, Some, None, Bool, Result, IfOk, IfSome, is_some, is_err, option_map, slice_get}
-use Rattle.fsfs_layout.specs.Dump.{IsDump}
+use Rattle.fsfs_layout.specs.Hash.Dump.{IsDump}
 use Rattle.fsfs_layout.specs.FileNames.{only_name}
 use Rattle.fsfs_layout.specs.Small.{IsRevLine}
 use Rattle.fsfs_layout.specs.declared.only_file.OnlyFile.TheVariants.{MinUnpackedRev, TxnCurrent}
@@ -10,12 +10,12 @@ use Rattle.fsfs_machine.specs.declared.machine.Recorded.{Recorded}
 use Rattle.fsfs_machine.specs.declared.machine.Went.{Went}
 use Rattle.fsfs_turn.specs.Views.{rev_name, props_name, Answers, ReadTurn}
 use Rattle.fsfs_turn.specs.Learning.{PropsRead, FloorRead, ReadsCounter}
-use Rattle.fsfs_pass.specs.declared.seat_view.SeatView.{SeatView}
+use Rattle.fsfs_pass.specs.declared.seats.seat_view.SeatView.{SeatView}
 use Rattle.fsfs_pass.specs.Seats.{view_of}
 use Rattle.fsfs_pass.specs.Met.{seat_store}
 use Rattle.fsfs_pass.specs.Tells.{IsMet}
-use Rattle.fsfs_pass.specs.Made.{went_of}
-use Rattle.fsfs_pass.specs.SeatCallsTells.{ReadBy, DrawnBy}
+use Rattle.fsfs_pass.specs.SeatCalls.Made.{went_of}
+use Rattle.fsfs_pass.specs.SeatCalls.Tells.{ReadBy, DrawnBy}
 use Rattle.fsfs_pass.proofs.Answering.{answers_so, ended_still}
 use Rattle.fsfs_pass.proofs.Meeting.{met_bytes, met_props, met_floor}
 

@@ -6,10 +6,10 @@ use Rattle.atomic_table.specs.Table.{step, Allows}
 use Rattle.fsfs_tree.specs.Revisions.{Revision}
 use Rattle.fsfs_disk.specs.Trace.{Trace, files_now, Performs, FailsAt, FailsToPut}
 use Rattle.fsfs_disk.specs.Trace as real
-use Rattle.fsfs_base.specs.declared.place.DiskPlace.{DiskPlace}
-use Rattle.fsfs_base.specs.declared.place.DiskPlace.TheVariants.{Begin, Commit}
-use Rattle.fsfs_base.specs.declared.place.BeginPlace.TheVariants as begin
-use Rattle.fsfs_base.specs.declared.place.CommitPlace.TheVariants.{PutRev, PutProps, FirmRev, PutCurrent, RenameCurrent, FirmCurrent}
+use Rattle.fsfs_base.specs.declared.places.place.DiskPlace.{DiskPlace}
+use Rattle.fsfs_base.specs.declared.places.place.DiskPlace.TheVariants.{Begin, Commit}
+use Rattle.fsfs_base.specs.declared.places.place.BeginPlace.TheVariants as begin
+use Rattle.fsfs_base.specs.declared.places.place.CommitPlace.TheVariants.{PutRev, PutProps, FirmRev, PutCurrent, RenameCurrent, FirmCurrent}
 use Rattle.fsfs_machine.specs.declared.machine.Section.{Section}
 use Rattle.fsfs_machine.specs.declared.machine.Section.TheVariants.{Begun, CountRead, CountPut, CountRenamed, RevPut, PropsPut, RevFirm, CurrentPut, CurrentRenamed, Over}
 use Rattle.fsfs_machine.specs.declared.machine.Txn.{Txn}
@@ -25,15 +25,15 @@ use Rattle.fsfs_turn.proofs.Adopting.{adopt_fails}
 use Rattle.fsfs_turn.proofs.Alone.{harmless_before, either_calm}
 use Rattle.fsfs_turn.proofs.OwnFiles.{due_spares}
 use Rattle.fsfs_disk.specs.Seen.{DiskSeen, IsLater}
-use Rattle.fsfs_pass.specs.declared.seat_view.SeatView.{SeatView}
-use Rattle.fsfs_pass.specs.declared.seat_view.Hand.TheVariants.{Out}
+use Rattle.fsfs_pass.specs.declared.seats.seat_view.SeatView.{SeatView}
+use Rattle.fsfs_pass.specs.declared.seats.seat_view.Hand.TheVariants.{Out}
 use Rattle.fsfs_pass.specs.Seats.{view_of, IsSitting}
 use Rattle.fsfs_pass.specs.Rule.{Rule}
 use Rattle.fsfs_pass.specs.Tells.{Sat}
 use Rattle.fsfs_pass.proofs.Following.{lasts_same}
 use Rattle.fsfs_pass.proofs.Lasting.{due_passes}
-use Rattle.fsfs_pass.specs.Made.{Made, Ended, carried, failed_of, once}
-use Rattle.fsfs_pass.specs.SeatCallsTells.{CalledBy, Unmade, called_back, unmade_back}
+use Rattle.fsfs_pass.specs.SeatCalls.Made.{Made, Ended, carried, failed_of, once}
+use Rattle.fsfs_pass.specs.SeatCalls.Tells.{CalledBy, Unmade, called_back, unmade_back}
 use Rattle.fsfs_pass.proofs.Doubting.{place_due, called_calm}
 use Rattle.fsfs_pass.proofs.FilesLast.{made_lasts, made_own}
 use Rattle.fsfs_pass.proofs.Going.{IsShort, StaysSure, after_more, Turn, gives_so}

@@ -23,10 +23,10 @@ use Rattle.fsfs_turn.specs.Found.{seen_within}
 use Rattle.fsfs_machine.proofs.Answering.{seen_of}
 use Rattle.fsfs_fetch.specs.Views.{Later}
 use Rattle.fsfs_disk.specs.Seen.{DiskSeen}
-use Rattle.fsfs_pass.specs.declared.seat_view.Before.{Before}
-use Rattle.fsfs_pass.specs.declared.seat_view.Stage.{Stage}
-use Rattle.fsfs_pass.specs.declared.seat_view.Stage.TheVariants.{New, Sitting, Joining, Left}
-use Rattle.fsfs_pass.specs.declared.seat_view.SeatView.{SeatView}
+use Rattle.fsfs_pass.specs.declared.seats.seat_view.Before.{Before}
+use Rattle.fsfs_pass.specs.declared.seats.seat_view.Stage.{Stage}
+use Rattle.fsfs_pass.specs.declared.seats.seat_view.Stage.TheVariants.{New, Sitting, Joining, Left}
+use Rattle.fsfs_pass.specs.declared.seats.seat_view.SeatView.{SeatView}
 use Rattle.fsfs_pass.specs.Seats.{all_parts, view_of, is_left, IsSitting, Sits, as_before, halved_view, split_pass, numbered_view}
 use Rattle.fsfs_pass.specs.Kinship.{numbers_of, Branch, branch_of, branches, Kinship}
 use Rattle.fsfs_pass.specs.Causes.{IsSound, HasLock, Causes}

@@ -3,7 +3,7 @@ use Rattle.std.proofs.Common.{◌≡◌, ◌≤◌, ◌+◌, ◌-◌, ℕ, List,
 use Rattle.std.specs.Prelude.{Some, slice_set, if◌then◌else◌}
 use Rattle.fsfs_fetch.specs.Views.{Later}
 use Rattle.fsfs_disk.specs.Trace.{Trace, files_now}
-use Rattle.fsfs_base.specs.declared.place.DiskPlace.{DiskPlace}
+use Rattle.fsfs_base.specs.declared.places.place.DiskPlace.{DiskPlace}
 use Rattle.fsfs_machine.specs.declared.machine.Coming.{Coming}
 use Rattle.fsfs_machine.specs.declared.machine.Section.{Section}
 use Rattle.fsfs_machine.specs.declared.machine.Section.TheVariants.{Begun, CurrentFirm, Doubtful, Over}
@@ -17,7 +17,7 @@ use Rattle.fsfs_turn.specs.Views.{View, Sees, is_held, coming_at, Looked, LockTa
 use Rattle.fsfs_turn.specs.Telling.{TellsSeen}
 use Rattle.fsfs_turn.proofs.Moves.{Moved}
 use Rattle.fsfs_turn.proofs.Locking.{look_comes, take_comes, find_comes, held_in, give_comes, stick_comes, reveal_comes}
-use Rattle.fsfs_pass.specs.declared.seat_view.SeatView.{SeatView}
+use Rattle.fsfs_pass.specs.declared.seats.seat_view.SeatView.{SeatView}
 use Rattle.fsfs_pass.specs.LockWords.{lock_word, place_number}
 use Rattle.fsfs_pass.specs.Seats.{is_left, view_of, look_view, lock_view, stuck_view, outside_view, reveal_view, Sits}
 use Rattle.fsfs_pass.specs.Met.{Lasts, Met, known_last, seat_store}

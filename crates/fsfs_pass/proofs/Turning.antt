@@ -18,15 +18,15 @@ use Rattle.fsfs_turn.specs.Views.{View, Looked}
 use Rattle.fsfs_turn.specs.Labels.{KeepsLabels}
 use Rattle.fsfs_turn.specs.Mountings.{RoseBy}
 use Rattle.fsfs_turn.specs.Telling.{TellsSeen}
-use Rattle.fsfs_pass.specs.declared.seat_view.SeatView.{SeatView}
-use Rattle.fsfs_pass.specs.declared.seat_view.Hand.TheVariants.{Empty}
-use Rattle.fsfs_pass.specs.declared.seat_view.Kin.{Kin}
-use Rattle.fsfs_pass.specs.declared.seat_view.Stage.{Stage}
-use Rattle.fsfs_pass.specs.declared.seat_view.Stage.TheVariants.{New, Sitting, Joining, Left}
+use Rattle.fsfs_pass.specs.declared.seats.seat_view.SeatView.{SeatView}
+use Rattle.fsfs_pass.specs.declared.seats.seat_view.Hand.TheVariants.{Empty}
+use Rattle.fsfs_pass.specs.declared.seats.seat_view.Kin.{Kin}
+use Rattle.fsfs_pass.specs.declared.seats.seat_view.Stage.{Stage}
+use Rattle.fsfs_pass.specs.declared.seats.seat_view.Stage.TheVariants.{New, Sitting, Joining, Left}
 use Rattle.fsfs_pass.specs.Seats.{view_of, look_view, reveal_view, reveal_in, IsSitting}
 use Rattle.fsfs_pass.specs.Met.{known_last, seat_store, seat_labels}
 use Rattle.fsfs_pass.specs.Tells.{TellsIt}
-use Rattle.fsfs_pass.specs.SeatCallsTells.{IsBack, counting}
+use Rattle.fsfs_pass.specs.SeatCalls.Tells.{IsBack, counting}
 use Rattle.fsfs_pass.specs.Passes.{Seating, is_sitting, sits_at, mounted_at, reach_by, pass_store, KnowsIt}
 use Rattle.fsfs_pass.specs.PassLemmas.{pass_tells}
 use Rattle.fsfs_base.proofs.ResultLemmas.{none_of}

@@ -3,11 +3,11 @@ use Rattle.std.proofs.Common.{◌≡◌, ◌≢◌, ◌⊎◌, inl, inr, ◌<◌
 use Rattle.std.specs.Prelude.{Some, None, slice_get}
 use mathlib.Core.Option.{some}
 use lib.ListN.{get_elem?}
-use Rattle.fsfs_model.specs.Transactions.{Entry}
+use Rattle.fsfs_model.specs.Flat.Transactions.{Entry}
 use Rattle.fsfs_machine.specs.declared.machine.Pass.{Pass}
 use Rattle.fsfs_machine.specs.Machine.{World}
 use Rattle.fsfs_machine.specs.Kept.{carried_by, AreMine, AreOfPasses, Whose, IsIn, AreOnce}
-use Rattle.fsfs_pass.specs.declared.seat_view.SeatView.{SeatView}
+use Rattle.fsfs_pass.specs.declared.seats.seat_view.SeatView.{SeatView}
 use Rattle.fsfs_pass.specs.Kinship.{numbers_of, own_in, all_own}
 use Rattle.fsfs_pass.specs.Tells.{IsOwn}
 use Rattle.fsfs_pass.proofs.AsMany.{one_pass}

@@ -4,8 +4,8 @@ use Rattle.fsfs_disk.specs.Trace.{Trace}
 use Rattle.fsfs_layout.specs.declared.layout.Layout.{Layout}
 use Rattle.fsfs_turn.specs.Standing.{Knows}
 use Rattle.fsfs_turn.specs.Stands.{OwnFilesLast}
-use Rattle.fsfs_pass.specs.declared.seat_view.Hand.TheVariants.{Empty}
-use Rattle.fsfs_pass.specs.declared.seat_view.SeatView.{SeatView}
+use Rattle.fsfs_pass.specs.declared.seats.seat_view.Hand.TheVariants.{Empty}
+use Rattle.fsfs_pass.specs.declared.seats.seat_view.SeatView.{SeatView}
 use Rattle.fsfs_pass.specs.Seats.{view_of, alone}
 
 -- It holds nothing, and none of its calls failed, nor any of a bench. Where the disk tells this trace, it has met it so; it is in no section, knows what is known of

@@ -3,7 +3,7 @@ use Rattle.std.specs.Prelude.{◌≡◌, ◌+◌, ◌<◌, ℕ, List, [], ◌∷
 use mathlib.Core.Option.{some}
 use lib.ListN.{get_elem?}
 use Rattle.fsfs_machine.specs.Kept.{IsIn, AreOnce}
-use Rattle.fsfs_pass.specs.declared.seat_view.SeatView.{SeatView}
+use Rattle.fsfs_pass.specs.declared.seats.seat_view.SeatView.{SeatView}
 use Rattle.fsfs_pass.specs.Seats.{all_parts, is_left}
 
 -- the numbers of the passes that were joined into the seat's

@@ -6,8 +6,7 @@ pub mod Met
 pub mod Rule
 pub mod Tells
 pub mod First
-pub mod Made
-pub mod SeatCallsTells
+pub mod SeatCalls
 pub mod Short
 pub mod Passes
 pub mod PassLemmas

@@ -1,11 +1,11 @@
 -- The write lock as a word: 0 where it is free, 1 where a pass holds it, and above these where it is stuck, the number of the place.
 use Rattle.std.specs.Prelude.{ℕ, ◌==◌, if◌then◌else◌}
-use Rattle.fsfs_base.specs.declared.place.OpenPlace.TheVariants as opening
-use Rattle.fsfs_base.specs.declared.place.CreatePlace.TheVariants as creation
-use Rattle.fsfs_base.specs.declared.place.BeginPlace.TheVariants as begin
-use Rattle.fsfs_base.specs.declared.place.CommitPlace.TheVariants as commit
-use Rattle.fsfs_base.specs.declared.place.DiskPlace.{DiskPlace}
-use Rattle.fsfs_base.specs.declared.place.DiskPlace.TheVariants as place
+use Rattle.fsfs_base.specs.declared.places.place.OpenPlace.TheVariants as opening
+use Rattle.fsfs_base.specs.declared.places.place.CreatePlace.TheVariants as creation
+use Rattle.fsfs_base.specs.declared.places.place.BeginPlace.TheVariants as begin
+use Rattle.fsfs_base.specs.declared.places.place.CommitPlace.TheVariants as commit
+use Rattle.fsfs_base.specs.declared.places.place.DiskPlace.{DiskPlace}
+use Rattle.fsfs_base.specs.declared.places.place.DiskPlace.TheVariants as place
 use Rattle.fsfs_machine.specs.declared.machine.Lock.{Lock}
 use Rattle.fsfs_machine.specs.declared.machine.Lock.TheVariants.{Free, Held, Stuck, Down, DownDoubtful}
 

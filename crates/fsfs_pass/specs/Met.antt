@@ -10,7 +10,7 @@ use Rattle.fsfs_disk.specs.Labels.{Label}
 use Rattle.fsfs_machine.specs.Machine.{World, stuck_place}
 use Rattle.fsfs_turn.specs.Views.{Begins}
 use Rattle.fsfs_turn.specs.Standing.{IsStore}
-use Rattle.fsfs_pass.specs.declared.seat_view.SeatView.{SeatView}
+use Rattle.fsfs_pass.specs.declared.seats.seat_view.SeatView.{SeatView}
 
 -- The files of the first n revisions, the floor and the packs stay as they are.
 pub record Lasts (layout : Layout) (n : ℕ) (old new : Files) : Type 0 where

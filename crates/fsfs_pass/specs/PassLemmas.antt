@@ -4,7 +4,7 @@ use Rattle.std.specs.Prelude.{Option, IsSome, is_some}
 use Rattle.fsfs_disk.specs.Trace.{Trace}
 use Rattle.fsfs_turn.specs.Views.{View}
 use Rattle.fsfs_turn.specs.Telling.{TellsSeen}
-use Rattle.fsfs_pass.specs.declared.seat_view.SeatView.{SeatView}
+use Rattle.fsfs_pass.specs.declared.seats.seat_view.SeatView.{SeatView}
 use Rattle.fsfs_pass.specs.Met.{known_last, seat_store}
 use Rattle.fsfs_pass.specs.Passes.{reach_by, pass_store, KnowsIt}
 

@@ -8,10 +8,10 @@ use Rattle.fsfs_machine.specs.Machine.{joined}
 use Rattle.fsfs_turn.specs.Views.{View, Begins}
 use Rattle.fsfs_turn.specs.Mountings.{Mounting}
 use Rattle.fsfs_turn.specs.Telling.{TellsSeen}
-use Rattle.fsfs_pass.specs.declared.seat_view.Kin.{Kin}
-use Rattle.fsfs_pass.specs.declared.seat_view.SeatView.{SeatView}
-use Rattle.fsfs_pass.specs.declared.seat_view.Stage.{Stage}
-use Rattle.fsfs_pass.specs.declared.seat_view.Stage.TheVariants.{Sitting}
+use Rattle.fsfs_pass.specs.declared.seats.seat_view.Kin.{Kin}
+use Rattle.fsfs_pass.specs.declared.seats.seat_view.SeatView.{SeatView}
+use Rattle.fsfs_pass.specs.declared.seats.seat_view.Stage.{Stage}
+use Rattle.fsfs_pass.specs.declared.seats.seat_view.Stage.TheVariants.{Sitting}
 use Rattle.fsfs_pass.specs.Seats.{view_of}
 use Rattle.fsfs_pass.specs.Met.{known_last, seat_store}
 

@@ -4,7 +4,7 @@ use Rattle.std.specs.Prelude.{◌≡◌, ◌≤◌, ◌<◌, ◌+◌, ℕ, List,
 use mathlib.Core.Option.{some}
 use lib.ListN.{get_elem?}
 use Rattle.atomic_table.specs.Table.{State}
-use Rattle.fsfs_base.specs.RevNums.{last_rev}
+use Rattle.fsfs_base.specs.Fields.RevNums.{last_rev}
 use Rattle.fsfs_disk.specs.Benches.{HasShortFiles}
 use Rattle.fsfs_disk.specs.Trace.{Trace, files_now}
 use Rattle.fsfs_machine.specs.declared.machine.Pass.{Pass}
@@ -14,12 +14,12 @@ use Rattle.fsfs_turn.specs.Past.{doubt, Safe}
 use Rattle.fsfs_turn.specs.Standing.{IsStore}
 use Rattle.fsfs_turn.specs.Stands.{OwnFilesLast}
 use Rattle.fsfs_disk.specs.Seen.{DiskSeen, IsLater}
-use Rattle.fsfs_pass.specs.declared.seat_view.Hand.{Hand}
-use Rattle.fsfs_pass.specs.declared.seat_view.Hand.TheVariants.{Empty, Out}
-use Rattle.fsfs_pass.specs.declared.seat_view.Before.{Before}
-use Rattle.fsfs_pass.specs.declared.seat_view.Stage.{Stage}
-use Rattle.fsfs_pass.specs.declared.seat_view.Stage.TheVariants.{New, Sitting, Joining, Left}
-use Rattle.fsfs_pass.specs.declared.seat_view.SeatView.{SeatView}
+use Rattle.fsfs_pass.specs.declared.seats.seat_view.Hand.{Hand}
+use Rattle.fsfs_pass.specs.declared.seats.seat_view.Hand.TheVariants.{Empty, Out}
+use Rattle.fsfs_pass.specs.declared.seats.seat_view.Before.{Before}
+use Rattle.fsfs_pass.specs.declared.seats.seat_view.Stage.{Stage}
+use Rattle.fsfs_pass.specs.declared.seats.seat_view.Stage.TheVariants.{New, Sitting, Joining, Left}
+use Rattle.fsfs_pass.specs.declared.seats.seat_view.SeatView.{SeatView}
 use Rattle.fsfs_pass.specs.LockWords.{lock_word}
 use Rattle.fsfs_pass.specs.Seats.{all_parts, view_of, is_left, as_before, IsSitting}
 use Rattle.fsfs_pass.specs.Kinship.{branches, Kinship}

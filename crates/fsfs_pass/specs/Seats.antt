@@ -5,18 +5,18 @@ use mathlib.Core.Option.{some}
 use lib.ListN.{get_elem?}
 use Rattle.fsfs_machine.specs.declared.machine.Recorded.{Recorded}
 use Rattle.fsfs_disk.specs.Trace.{Trace}
-use Rattle.fsfs_base.specs.declared.place.DiskPlace.{DiskPlace}
+use Rattle.fsfs_base.specs.declared.places.place.DiskPlace.{DiskPlace}
 use Rattle.fsfs_machine.specs.declared.machine.Coming.{Coming}
 use Rattle.fsfs_machine.specs.declared.machine.Section.{Section}
 use Rattle.fsfs_machine.specs.declared.machine.Section.TheVariants.{Begun, CurrentFirm, Over}
 use Rattle.fsfs_machine.specs.Machine.{first_pass, reveals, with_next, joined}
 use Rattle.fsfs_turn.specs.Views.{View, is_held}
-use Rattle.fsfs_pass.specs.declared.seat_view.Before.{Before}
-use Rattle.fsfs_pass.specs.declared.seat_view.Hand.TheVariants.{Empty}
-use Rattle.fsfs_pass.specs.declared.seat_view.Kin.{Kin}
-use Rattle.fsfs_pass.specs.declared.seat_view.Stage.{Stage}
-use Rattle.fsfs_pass.specs.declared.seat_view.Stage.TheVariants.{New, Sitting, Joining, Left}
-use Rattle.fsfs_pass.specs.declared.seat_view.SeatView.{SeatView}
+use Rattle.fsfs_pass.specs.declared.seats.seat_view.Before.{Before}
+use Rattle.fsfs_pass.specs.declared.seats.seat_view.Hand.TheVariants.{Empty}
+use Rattle.fsfs_pass.specs.declared.seats.seat_view.Kin.{Kin}
+use Rattle.fsfs_pass.specs.declared.seats.seat_view.Stage.{Stage}
+use Rattle.fsfs_pass.specs.declared.seats.seat_view.Stage.TheVariants.{New, Sitting, Joining, Left}
+use Rattle.fsfs_pass.specs.declared.seats.seat_view.SeatView.{SeatView}
 
 abbrev pub view_of : SeatView → View
 view_of v = record { layout = v.layout; since = v.since; opened = v.opened; number = v.number; pass = v.pass; seen = v.seen; section = v.section; sure = v.sure; given = v.given }

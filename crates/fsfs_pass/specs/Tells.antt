@@ -3,7 +3,7 @@ use Rattle.std.specs.Prelude.{◌≡◌, ◌⊎◌, ◌≢◌, ◌≤◌, ◌<�
 use mathlib.Core.Option.{some}
 use lib.ListN.{get_elem?}
 use Rattle.atomic_table.specs.Table.{Me, Step}
-use Rattle.fsfs_base.specs.RevNums.{last_rev}
+use Rattle.fsfs_base.specs.Fields.RevNums.{last_rev}
 use Rattle.fsfs_disk.specs.Benches.{HasShortFiles}
 use Rattle.fsfs_disk.specs.Trace.{Trace}
 use Rattle.fsfs_machine.specs.Machine.{World, stuck_place}
@@ -18,13 +18,13 @@ use Rattle.fsfs_machine.specs.declared.machine.Pass.{Pass}
 use Rattle.fsfs_machine.specs.Kept.{IsIn, AreOnce}
 use Rattle.fsfs_machine.specs.declared.machine.Section.TheVariants.{CurrentFirm, Doubtful}
 use Rattle.fsfs_machine.specs.declared.machine.Step.TheVariants.{GiveLock, StickLock}
-use Rattle.fsfs_base.specs.declared.place.DiskPlace.{DiskPlace}
+use Rattle.fsfs_base.specs.declared.places.place.DiskPlace.{DiskPlace}
 use Rattle.fsfs_turn.specs.Views.{Sees, Begins, Looked, LockTaken, FoundStuck, LockGiven, MayGive, Revealed}
 use Rattle.fsfs_disk.specs.Seen.{DiskSeen, IsLater}
-use Rattle.fsfs_pass.specs.declared.seat_view.Hand.TheVariants.{Empty, Out}
-use Rattle.fsfs_pass.specs.declared.seat_view.Before.{Before}
-use Rattle.fsfs_pass.specs.declared.seat_view.Stage.TheVariants.{Joining}
-use Rattle.fsfs_pass.specs.declared.seat_view.SeatView.{SeatView}
+use Rattle.fsfs_pass.specs.declared.seats.seat_view.Hand.TheVariants.{Empty, Out}
+use Rattle.fsfs_pass.specs.declared.seats.seat_view.Before.{Before}
+use Rattle.fsfs_pass.specs.declared.seats.seat_view.Stage.TheVariants.{Joining}
+use Rattle.fsfs_pass.specs.declared.seats.seat_view.SeatView.{SeatView}
 use Rattle.fsfs_pass.specs.LockWords.{place_at}
 use Rattle.fsfs_pass.specs.Met.{seat_store}
 use Rattle.fsfs_pass.specs.Kinship.{numbers_of, all_own}

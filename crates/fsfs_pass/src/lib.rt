@@ -4,32 +4,21 @@
 //! The turns of a pass that sits at the table of a store: other passes step between them.
 #![tactic(auto)]
 
-mod calls;
-mod firsts;
-mod gives;
-mod joining;
-mod labels;
-mod law;
-mod lock_word;
 mod notes;
-mod opening;
 mod pass_turns;
-mod plays;
-mod reads;
-mod seat_view;
-mod splitting;
-mod steps;
+mod seat_calls;
+mod seats;
 mod turns;
 
-pub use calls::{firm_names, make_folder, put, rename};
-pub use firsts::{adopt, adopt_file, draw};
-pub use joining::join;
-pub use labels::{bench, drop_bench, list};
-pub use law::{Board, Law, SharedSeat};
 pub use notes::said_again;
-pub use opening::{close, start};
 pub use pass_turns::PassTurns;
-pub use reads::{read, size};
-pub use seat_view::{Beginning, Hand, Kin, SeatView, Stage, Taken, Told};
-pub use splitting::split;
-pub use steps::{give_back, give_lock, look, reveal, stick, take, take_lock};
+pub use seat_calls::calls::{firm_names, make_folder, put, rename};
+pub use seat_calls::firsts::{adopt, adopt_file, draw};
+pub use seat_calls::labels::{bench, drop_bench, list};
+pub use seat_calls::reads::{read, size};
+pub use seats::joining::join;
+pub use seats::law::{Board, Law, SharedSeat};
+pub use seats::opening::{close, start};
+pub use seats::seat_view::{Beginning, Hand, Kin, SeatView, Stage, Taken, Told};
+pub use seats::splitting::split;
+pub use seats::table::{give_back, give_lock, look, reveal, stick, take, take_lock};

@@ -6,8 +6,8 @@ use Rattle.fsfs_base.specs.Paths.{Path}
 use Rattle.fsfs_tree.specs.Nodes.{TreeFunction}
 use Rattle.fsfs_tree.specs.Dated.{last_of}
 use Rattle.fsfs_tree.specs.Revisions.{tree_of}
-use Rattle.fsfs_model.specs.Transactions.{Begun}
-use Rattle.fsfs_base.specs.declared.txn_name.TxnName.{TxnName}
+use Rattle.fsfs_model.specs.Flat.Transactions.{Begun}
+use Rattle.fsfs_base.specs.declared.fields.txn_name.TxnName.{TxnName}
 use Rattle.fsfs_begin.specs.Begun.{IsBegunOn}
 use Rattle.fsfs_begin.proofs.RevisionLemmas.{begun_same, stands_for}
 use Rattle.fsfs_revision.specs.Told.{RevisionBytes}
@@ -19,23 +19,23 @@ use Rattle.fsfs_draft.specs.Outer.{AreMade, is_anew}
 use Rattle.fsfs_draft.specs.Steps.{same_value}
 use Rattle.fsfs_draft.specs.Whole.{IsDraftOf}
 use Rattle.fsfs_draft.specs.Views.{new_kept}
-use Rattle.fsfs_txn_nodes.specs.Views.{begun_folder}
+use Rattle.fsfs_txn_nodes.specs.Memory.Views.{begun_folder}
 use Rattle.fsfs_machine.specs.declared.machine.Recorded.{Recorded}
 use Rattle.fsfs_machine.specs.Kept.{IsIn}
 use Rattle.fsfs_machine.specs.Machine.{revisions}
 use Rattle.fsfs_machine.proofs.Growing.{revisions_length}
-use Rattle.fsfs_base.specs.declared.place.DiskPlace.TheVariants as place
+use Rattle.fsfs_base.specs.declared.places.place.DiskPlace.TheVariants as place
 use Rattle.fsfs_machine.specs.declared.machine.Went.{Went}
 use Rattle.fsfs_machine.specs.Machine.{is_fine_in}
 use Rattle.fsfs_turn.specs.Bytes.{bytes_of, AllShow, BytesShow}
 use Rattle.fsfs_turn.specs.Views.{View, Begins}
 use Rattle.fsfs_turn.specs.Learning.{SpentPurged}
-use Rattle.fsfs_begin.specs.TurnBeginBegun.{HasBegun, HasBegunAmong}
-use Rattle.fsfs_begin.specs.Steps.{Moved}
+use Rattle.fsfs_begin.specs.TurnBegin.Begun.{HasBegun, HasBegunAmong}
+use Rattle.fsfs_begin.specs.TurnBegin.Steps.{Moved}
 use Rattle.fsfs_begin.proofs.Moving.{told_moved, spent_steps}
 use Rattle.fsfs_txn.specs.Standing.{Stands}
-use Rattle.fsfs_repo.specs.Begun.{BeginsTxn, BeginsTxnAmong}
-use Rattle.fsfs_commit.specs.SeenLemmas.{bytes_same, shown_trees}
+use Rattle.fsfs_repo.specs.Txns.Begun.{BeginsTxn, BeginsTxnAmong}
+use Rattle.fsfs_commit.specs.Transaction.SeenLemmas.{bytes_same, shown_trees}
 use Rattle.fsfs_repo.proofs.Shown.{seen_shows, part_shows}
 
 -- the one own node-revision goes on from the base's: the transaction made nothing

@@ -5,19 +5,19 @@ use Rattle.fsfs_base.specs.declared.failed.Failed.{Failed}
 use Rattle.fsfs_commit.specs.Found.{LeavesSo}
 use Rattle.fsfs_commit.specs.declared.committing.CommitFault.{CommitFault}
 use Rattle.fsfs_commit.specs.declared.committing.CommitFault.TheVariants as faults
-use Rattle.fsfs_commit.specs.Findings.{SpentByBench, Blames}
-use Rattle.fsfs_commit.specs.Meaning.{OfLeft, OfStage, bench_of}
-use Rattle.fsfs_commit.specs.declared.open_txn.OpenTxn.{OpenTxn}
-use Rattle.fsfs_commit.specs.declared.refusal.CommitRefusal.{CommitRefusal}
-use Rattle.fsfs_commit.specs.declared.refusal.CommitRefusal.TheVariants as refusals
-use Rattle.fsfs_commit.specs.declared.txn_draft.Left.{Left}
-use Rattle.fsfs_commit.specs.declared.txn_draft.Left.TheVariants.{Txn as Kept, Bench}
-use Rattle.fsfs_commit.specs.declared.txn_draft.Stage.{Stage}
-use Rattle.fsfs_commit.specs.declared.txn_draft.Stage.TheVariants.{Open}
-use Rattle.fsfs_repo.specs.declared.answers.CommitBar.{CommitBar}
-use Rattle.fsfs_repo.specs.declared.answers.Fate.{Fate}
-use Rattle.fsfs_repo.specs.declared.answers.Fate.TheVariants as fates
-use Rattle.fsfs_repo.specs.Fates.{FateLeaves, of_refusal, of_fault}
+use Rattle.fsfs_commit.specs.Transaction.Findings.{SpentByBench, Blames}
+use Rattle.fsfs_commit.specs.Transaction.Meaning.{OfLeft, OfStage, bench_of}
+use Rattle.fsfs_commit.specs.declared.transaction.open_txn.OpenTxn.{OpenTxn}
+use Rattle.fsfs_commit.specs.declared.transaction.refusal.CommitRefusal.{CommitRefusal}
+use Rattle.fsfs_commit.specs.declared.transaction.refusal.CommitRefusal.TheVariants as refusals
+use Rattle.fsfs_commit.specs.declared.transaction.txn_draft.Left.{Left}
+use Rattle.fsfs_commit.specs.declared.transaction.txn_draft.Left.TheVariants.{Txn as Kept, Bench}
+use Rattle.fsfs_commit.specs.declared.transaction.txn_draft.Stage.{Stage}
+use Rattle.fsfs_commit.specs.declared.transaction.txn_draft.Stage.TheVariants.{Open}
+use Rattle.fsfs_repo.specs.declared.txns.answers.CommitBar.{CommitBar}
+use Rattle.fsfs_repo.specs.declared.txns.answers.Fate.{Fate}
+use Rattle.fsfs_repo.specs.declared.txns.answers.Fate.TheVariants as fates
+use Rattle.fsfs_repo.specs.Txns.Fates.{FateLeaves, of_refusal, of_fault}
 
 pub unspent : {P : Type 0} (spent : Option Failed) → spent ≡ None → is_some spent ≡ true → P
 unspent spent none is = let e = sym (ap (λ (o : Option Failed). is_some o) none) ∙ is in absurd cc

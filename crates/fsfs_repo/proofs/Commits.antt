@@ -6,10 +6,10 @@ use Rattle.std.specs.FinMap.{get}
 use Rattle.fsfs_base.specs.Failures.{Rose}
 use Rattle.fsfs_base.specs.declared.failed.Failed.{Failed}
 use Rattle.fsfs_base.proofs.ResultLemmas.{none_of}
-use Rattle.fsfs_base.specs.declared.txn_name.TxnName.{TxnName}
+use Rattle.fsfs_base.specs.declared.fields.txn_name.TxnName.{TxnName}
 use Rattle.fsfs_tree.specs.Revisions.{tree_of}
 use Rattle.fsfs_tree.specs.Dated.{IsDated, last_of}
-use Rattle.fsfs_model.specs.Transactions.{IsTransaction}
+use Rattle.fsfs_model.specs.Flat.Transactions.{IsTransaction}
 use Rattle.fsfs_draft.specs.Drafts.{Folder}
 use Rattle.fsfs_machine.specs.declared.machine.Recorded.{Recorded}
 use Rattle.fsfs_machine.specs.declared.machine.Txn.{Txn}
@@ -20,26 +20,26 @@ use Rattle.fsfs_turn.specs.Learning.{with_spent}
 use Rattle.fsfs_turn.specs.Views.{View}
 use Rattle.fsfs_turn.specs.Courses.{End}
 use Rattle.fsfs_begin.specs.Purged.{Purges, HasNotPurged}
-use Rattle.fsfs_begin.specs.declared.purge_fault.PurgeFault.{PurgeFault}
-use Rattle.fsfs_begin.specs.declared.purge_fault.PurgeFault.TheVariants as purges
+use Rattle.fsfs_begin.specs.declared.turn_purge.purge_fault.PurgeFault.{PurgeFault}
+use Rattle.fsfs_begin.specs.declared.turn_purge.purge_fault.PurgeFault.TheVariants as purges
 use Rattle.fsfs_commit.specs.Works.{CanCommit}
 use Rattle.fsfs_commit.specs.Replies.{Cause, Committed, Moved, Refused, RoseIfDisk, UnlessDoubt}
 use Rattle.fsfs_commit.specs.declared.committing.CommitFault.{CommitFault}
 use Rattle.fsfs_commit.specs.declared.committing.CommitFault.TheVariants as faults
 use Rattle.fsfs_commit.proofs.Turning.{none_more, committed_as}
-use Rattle.fsfs_commit.specs.Dating.{IsDatedAt}
-use Rattle.fsfs_commit.specs.Meaning.{IfTxn, IsTxnOf, Means}
-use Rattle.fsfs_commit.specs.Refusals.{IsClashAt, IsDiskFault, Refuses}
-use Rattle.fsfs_commit.specs.declared.refusal.CommitRefusal.{CommitRefusal}
-use Rattle.fsfs_commit.specs.declared.refusal.CommitRefusal.TheVariants as refusals
-use Rattle.fsfs_txn_nodes.specs.declared.held.HeldNodes.{HeldNodes}
+use Rattle.fsfs_commit.specs.Transaction.Dating.{IsDatedAt}
+use Rattle.fsfs_commit.specs.Transaction.Meaning.{IfTxn, IsTxnOf, Means}
+use Rattle.fsfs_commit.specs.Transaction.Refusals.{IsClashAt, IsDiskFault, Refuses}
+use Rattle.fsfs_commit.specs.declared.transaction.refusal.CommitRefusal.{CommitRefusal}
+use Rattle.fsfs_commit.specs.declared.transaction.refusal.CommitRefusal.TheVariants as refusals
+use Rattle.fsfs_txn_nodes.specs.declared.memory.held_nodes.HeldNodes.{HeldNodes}
 use Rattle.fsfs_txn.specs.declared.txn.Txn.{Txn as LiveTxn}
-use Rattle.fsfs_commit.specs.declared.txn_draft.Left.{Left}
-use Rattle.fsfs_commit.specs.declared.txn_draft.Left.TheVariants.{Txn as Kept}
-use Rattle.fsfs_repo.specs.declared.answers.CommitAnswer.{CommitAnswer}
-use Rattle.fsfs_repo.specs.declared.answers.CommitAnswer.TheVariants as answers
-use Rattle.fsfs_repo.specs.Commits.{Ends, IsDropped, IsNoMore, Meets}
-use Rattle.fsfs_repo.specs.Fates.{Fated, IfStopped, UnlessDoubtful, of_fault, of_refusal}
+use Rattle.fsfs_commit.specs.declared.transaction.txn_draft.Left.{Left}
+use Rattle.fsfs_commit.specs.declared.transaction.txn_draft.Left.TheVariants.{Txn as Kept}
+use Rattle.fsfs_repo.specs.declared.txns.answers.CommitAnswer.{CommitAnswer}
+use Rattle.fsfs_repo.specs.declared.txns.answers.CommitAnswer.TheVariants as answers
+use Rattle.fsfs_repo.specs.Txns.Commits.{Ends, IsDropped, IsNoMore, Meets}
+use Rattle.fsfs_repo.specs.Txns.Fates.{Fated, IfStopped, UnlessDoubtful, of_fault, of_refusal}
 
 -- ---- the purge
 

@@ -2,12 +2,12 @@
 use Rattle.std.specs.Prelude.{ℕ, Option, Some, None}
 use Rattle.fsfs_layout.specs.declared.layout.Layout.{Layout}
 use Rattle.fsfs_disk.specs.Trace.{Trace}
-use Rattle.fsfs_base.specs.declared.place.DiskPlace.{DiskPlace}
+use Rattle.fsfs_base.specs.declared.places.place.DiskPlace.{DiskPlace}
 use Rattle.fsfs_turn.specs.Alone.{KnowsAlone}
 use Rattle.fsfs_turn.specs.Views.{View}
 use Rattle.fsfs_turn.proofs.LoneImages.{moment_stands, image_stands, nothing_in_doubt}
 use Rattle.fsfs_turn.proofs.Wholeness.{seen_is_whole}
-use Rattle.fsfs_repo.specs.Crashes.{CrashesLeave}
+use Rattle.fsfs_repo.specs.Owned.Crashes.{CrashesLeave}
 
 pub survives : (layout : Layout) (young : ℕ) (stuck : Option DiskPlace) (told : Option Trace) (v : View) → KnowsAlone layout young stuck told v → CrashesLeave layout told v
 survives layout young stuck None v known = tt

@@ -23,10 +23,10 @@ use Rattle.fsfs_turn.proofs.Moments.{numbers, past_of}
 use Rattle.fsfs_turn.proofs.Standings.{files_stand}
 use Rattle.fsfs_turn.proofs.Stepping.{take_drop}
 use Rattle.fsfs_turn.proofs.Wholeness.{has_history, part_shown}
-use Rattle.fsfs_pass.specs.declared.seat_view.SeatView.{SeatView}
+use Rattle.fsfs_pass.specs.declared.seats.seat_view.SeatView.{SeatView}
 use Rattle.fsfs_pass.specs.Seats.{view_of}
 use Rattle.fsfs_pass.specs.Tells.{IsMet}
-use Rattle.fsfs_repo.specs.Left.{Leaves}
+use Rattle.fsfs_repo.specs.Shared.Left.{Leaves}
 
 -- a part that is no shorter has each revision
 part_has : (h g : List Recorded) (d : Option Coming) → IsPart h d g → length h ≤ length g → (r : ℕ) (x : Recorded) → slice_get h r ≡ Some x → slice_get g r ≡ Some x

@@ -1,24 +1,24 @@
 -- What a limit says, from the draft's refusal to the answer.
 use Rattle.std.proofs.Common.{◌≡◌, ℕ, sym, subst}
 use Rattle.std.specs.Prelude.{Result, Ok, Err, IfErr}
-use Rattle.fsfs_noderev.specs.declared.limit.PathLimit.{PathLimit}
+use Rattle.fsfs_noderev.specs.declared.limits.limit.PathLimit.{PathLimit}
 use Rattle.fsfs_commit.specs.Found.{IfRefused}
 use Rattle.fsfs_commit.specs.declared.committing.CommitFault.{CommitFault}
 use Rattle.fsfs_commit.specs.declared.committing.CommitFault.TheVariants as faults
-use Rattle.fsfs_commit.specs.Findings.{IfLimit}
-use Rattle.fsfs_commit.specs.Meaning.{IfTxn}
-use Rattle.fsfs_commit.specs.declared.refusal.CommitRefusal.{CommitRefusal}
-use Rattle.fsfs_commit.specs.declared.refusal.CommitRefusal.TheVariants as refusals
-use Rattle.fsfs_commit.specs.declared.txn_draft.Left.{Left}
-use Rattle.fsfs_commit.specs.declared.txn_draft.Left.TheVariants.{Txn as Kept}
-use Rattle.fsfs_txn_nodes.specs.declared.held.HeldNodes.{HeldNodes}
+use Rattle.fsfs_commit.specs.Transaction.Findings.{IfLimit}
+use Rattle.fsfs_commit.specs.Transaction.Meaning.{IfTxn}
+use Rattle.fsfs_commit.specs.declared.transaction.refusal.CommitRefusal.{CommitRefusal}
+use Rattle.fsfs_commit.specs.declared.transaction.refusal.CommitRefusal.TheVariants as refusals
+use Rattle.fsfs_commit.specs.declared.transaction.txn_draft.Left.{Left}
+use Rattle.fsfs_commit.specs.declared.transaction.txn_draft.Left.TheVariants.{Txn as Kept}
+use Rattle.fsfs_txn_nodes.specs.declared.memory.held_nodes.HeldNodes.{HeldNodes}
 use Rattle.fsfs_txn.specs.declared.txn.Txn.{Txn as LiveTxn}
-use Rattle.fsfs_repo.specs.declared.answers.CommitBar.{CommitBar}
-use Rattle.fsfs_repo.specs.declared.answers.CommitBar.TheVariants as bars
-use Rattle.fsfs_repo.specs.declared.answers.Fate.{Fate}
-use Rattle.fsfs_repo.specs.declared.answers.Fate.TheVariants as fates
-use Rattle.fsfs_repo.specs.Fates.{of_fault, of_refusal}
-use Rattle.fsfs_repo.specs.Limits.{IfBarLimit, IfFateLimit}
+use Rattle.fsfs_repo.specs.declared.txns.answers.CommitBar.{CommitBar}
+use Rattle.fsfs_repo.specs.declared.txns.answers.CommitBar.TheVariants as bars
+use Rattle.fsfs_repo.specs.declared.txns.answers.Fate.{Fate}
+use Rattle.fsfs_repo.specs.declared.txns.answers.Fate.TheVariants as fates
+use Rattle.fsfs_repo.specs.Txns.Fates.{of_fault, of_refusal}
+use Rattle.fsfs_repo.specs.Txns.Limits.{IfBarLimit, IfFateLimit}
 
 limit_found : (why : CommitRefusal) (F : CommitRefusal → Type 0) (P : PathLimit → Type 0) → ((limit : PathLimit) → F (refusals.PastLimit limit) → P limit) → F why → IfLimit why P
 limit_found (refusals.Clash head path) F P of found = tt

@@ -3,8 +3,8 @@ use Rattle.std.proofs.Common.{◌≡◌, ℕ, List, ◌∙◌, ap}
 use Rattle.std.specs.Prelude.{Option, Some, None, IfSome}
 use Rattle.std.specs.List.{flat_map}
 use Rattle.fsfs_disk.specs.Labels.{Label, IsListing}
-use Rattle.fsfs_disk.specs.Txns.{AreTxns}
-use Rattle.fsfs_disk.specs.Entries.{name_at}
+use Rattle.fsfs_disk.specs.Transactions.Txns.{AreTxns}
+use Rattle.fsfs_disk.specs.Transactions.Entries.{name_at}
 use Rattle.fsfs_disk.proofs.Listed.{listing_named}
 
 pub named_so : (told : Option (List Label)) (entries lent names : List (List ℕ)) → IfSome told (λ ls. IsListing ls entries) → lent ≡ entries → names ≡ flat_map name_at lent → IfSome told (λ ls. AreTxns ls names)

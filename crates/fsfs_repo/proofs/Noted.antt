@@ -1,14 +1,14 @@
 -- What is noted of a transaction that is to be committed.
 use Rattle.std.proofs.Common.{◌≡◌, ℕ, Bool, true, false, refl, ap}
 use Rattle.std.specs.Prelude.{Option, Some, None, is_some}
-use Rattle.fsfs_base.specs.declared.txn_name.TxnName.{TxnName}
+use Rattle.fsfs_base.specs.declared.fields.txn_name.TxnName.{TxnName}
 use Rattle.fsfs_draft.specs.Drafts.{Folder}
 use Rattle.fsfs_machine.specs.declared.machine.Txn.{Txn}
 use Rattle.fsfs_machine.specs.Kept.{IsIn}
 use Rattle.fsfs_turn.specs.Views.{View}
-use Rattle.fsfs_commit.specs.Meaning.{IsTxnOf}
-use Rattle.fsfs_commit.specs.declared.standing.Standing.{Standing}
-use Rattle.fsfs_repo.specs.Standings.{IsNoted, NotesOne}
+use Rattle.fsfs_commit.specs.Transaction.Meaning.{IsTxnOf}
+use Rattle.fsfs_commit.specs.declared.transaction.standing.Standing.{Standing}
+use Rattle.fsfs_repo.specs.Txns.Standings.{IsNoted, NotesOne}
 
 -- there is one to note, where others rest on the turns
 pub can_note : (bound : Bool) (P : Standing → Type 0) → (bound ≡ true → (s : Standing) × P s) → (value : Option Standing) × NotesOne bound value P

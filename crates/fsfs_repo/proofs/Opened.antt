@@ -6,9 +6,9 @@ use Rattle.fsfs_layout.specs.Opening.{IsOpened, small_texts}
 use Rattle.fsfs_layout.specs.declared.layout.Layout.{Layout}
 use Rattle.fsfs_layout.specs.declared.opened.Opened.{Opened}
 use Rattle.fsfs_disk.specs.Trace.{Trace, Done, FirmNames, files_now, add_operation, FailsAt, Performs}
-use Rattle.fsfs_base.specs.declared.place.DiskPlace.{DiskPlace}
-use Rattle.fsfs_base.specs.declared.open_fault.OpenFault.{OpenFault}
-use Rattle.fsfs_base.specs.declared.open_fault.OpenFault.TheVariants.{Memory}
+use Rattle.fsfs_base.specs.declared.places.place.DiskPlace.{DiskPlace}
+use Rattle.fsfs_base.specs.declared.places.open_fault.OpenFault.{OpenFault}
+use Rattle.fsfs_base.specs.declared.places.open_fault.OpenFault.TheVariants.{Memory}
 use Rattle.fsfs_create.specs.OpenFaults.{OpensBecause}
 use Rattle.fsfs_stands.specs.Files.{StandsFor}
 use Rattle.fsfs_create.specs.Known.{HasSeenAll}
@@ -18,11 +18,11 @@ use Rattle.fsfs_turn.specs.Standing.{Knows}
 use Rattle.fsfs_turn.specs.Views.{View}
 use Rattle.fsfs_machine.specs.declared.machine.Pass.{Pass}
 use Rattle.fsfs_machine.specs.Machine.{first_pass}
-use Rattle.fsfs_pass.specs.declared.seat_view.Hand.TheVariants.{Empty}
-use Rattle.fsfs_pass.specs.declared.seat_view.SeatView.{SeatView}
+use Rattle.fsfs_pass.specs.declared.seats.seat_view.Hand.TheVariants.{Empty}
+use Rattle.fsfs_pass.specs.declared.seats.seat_view.SeatView.{SeatView}
 use Rattle.fsfs_pass.specs.First.{IsFirst}
 use Rattle.fsfs_pass.specs.Seats.{alone, look_view}
-use Rattle.fsfs_repo.specs.FirstPass.{SeesAll, SeesAllOf}
+use Rattle.fsfs_repo.specs.Shared.FirstPass.{SeesAll, SeesAllOf}
 
 pub if_ok_map : {X E : Type 0} (P Q : X → Type 0) (r : Result X E) → ((x : X) → P x → Q x) → IfOk r P → IfOk r Q
 if_ok_map P Q (Ok x) f p = f x p

@@ -3,7 +3,7 @@ use Rattle.std.proofs.Common.{ℕ}
 use Rattle.std.specs.Prelude.{Option, Some, None}
 use Rattle.fsfs_layout.specs.declared.layout.Layout.{Layout}
 use Rattle.fsfs_disk.specs.Trace.{Trace}
-use Rattle.fsfs_base.specs.declared.place.DiskPlace.{DiskPlace}
+use Rattle.fsfs_base.specs.declared.places.place.DiskPlace.{DiskPlace}
 use Rattle.fsfs_turn.specs.Bytes.{AllShow}
 use Rattle.fsfs_turn.specs.Views.{View}
 use Rattle.fsfs_turn.specs.Alone.{KnowsAlone}

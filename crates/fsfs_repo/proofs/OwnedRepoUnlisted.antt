@@ -2,10 +2,10 @@
 use Rattle.std.proofs.Common.{◌≡◌, List, Bool, true, false, inl, inr, ⊎_elim, refl, ap, ◌∙◌}
 use Rattle.std.specs.Prelude.{Option, Result, Ok, Err, OnErr, option_map}
 use Rattle.fsfs_disk.specs.Labels.{Label, without_label}
-use Rattle.fsfs_repo.specs.Labels.{LeavesLabels as LeavesMet, Unlists as UnlistsMet}
-use Rattle.fsfs_repo.specs.declared.answers.CommitAnswer.{CommitAnswer}
-use Rattle.fsfs_repo.specs.declared.answers.CommitAnswer.TheVariants as answers
-use Rattle.fsfs_repo.specs.OwnedRepoLabels.{LeavesLabels, Unlists}
+use Rattle.fsfs_repo.specs.Txns.Labels.{LeavesLabels as LeavesMet, Unlists as UnlistsMet}
+use Rattle.fsfs_repo.specs.declared.txns.answers.CommitAnswer.{CommitAnswer}
+use Rattle.fsfs_repo.specs.declared.txns.answers.CommitAnswer.TheVariants as answers
+use Rattle.fsfs_repo.specs.Owned.Labels.{LeavesLabels, Unlists}
 
 module _ (l : Label) (rose : Type 0) (old new : Option (List Label)) where
   unlists_alone : (gone : Bool) → UnlistsMet false gone l rose old new → Unlists gone l rose old new

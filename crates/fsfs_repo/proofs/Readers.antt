@@ -10,9 +10,9 @@ use Rattle.fsfs_machine.proofs.Growing.{revisions_length}
 use Rattle.fsfs_turn.specs.Views.{View}
 use Rattle.fsfs_turn.specs.Telling.{OwnedState, owned_view}
 use Rattle.fsfs_turn.specs.Seen.{TellsRevisions}
-use Rattle.fsfs_commit.specs.SeenLemmas.{shown_trees}
-use Rattle.fsfs_repo.specs.Alone.{KnowsIn}
-use Rattle.fsfs_repo.specs.Readers.{TellsSeenAll}
+use Rattle.fsfs_commit.specs.Transaction.SeenLemmas.{shown_trees}
+use Rattle.fsfs_repo.specs.Owned.Alone.{KnowsIn}
+use Rattle.fsfs_repo.specs.Owned.Readers.{TellsSeenAll}
 use Rattle.fsfs_repo.proofs.Shown.{seen_shows}
 use Rattle.fsfs_repo.proofs.OwnedRepoShown.{known_shown}
 

@@ -2,14 +2,14 @@
 use Rattle.std.proofs.Common.{◌≡◌, List, Bool, true, false, ℕ, inl, inr, ⊎_elim, ap, subst, ◌∙◌}
 use Rattle.std.specs.Prelude.{Option, Result, Ok, Err, IfOk, OnErr, option_map}
 use Rattle.fsfs_disk.specs.Labels.{Label, Txn, with_label, without_label}
-use Rattle.fsfs_base.specs.declared.txn_name.TxnName.{TxnName}
-use Rattle.fsfs_disk.specs.Txns.{pair_of, txn_label}
+use Rattle.fsfs_base.specs.declared.fields.txn_name.TxnName.{TxnName}
+use Rattle.fsfs_disk.specs.Transactions.Txns.{pair_of, txn_label}
 use Rattle.fsfs_turn.specs.Labels.{KeepsLabels, Relabels, Drops}
-use Rattle.fsfs_begin.specs.Labels.{IsUnlisted, ListsNoMore}
+use Rattle.fsfs_begin.specs.TurnBegin.Labels.{IsUnlisted, ListsNoMore}
 use Rattle.fsfs_begin.proofs.Benching.{came_and_went}
-use Rattle.fsfs_repo.specs.Labels.{LeavesLabels, Unlists}
-use Rattle.fsfs_repo.specs.declared.answers.CommitAnswer.{CommitAnswer}
-use Rattle.fsfs_repo.specs.declared.answers.CommitAnswer.TheVariants as answers
+use Rattle.fsfs_repo.specs.Txns.Labels.{LeavesLabels, Unlists}
+use Rattle.fsfs_repo.specs.declared.txns.answers.CommitAnswer.{CommitAnswer}
+use Rattle.fsfs_repo.specs.declared.txns.answers.CommitAnswer.TheVariants as answers
 
 -- ---- where nobody else has turns
 

@@ -3,34 +3,21 @@
 //! A repository that passes share: opened, lent to its passes, and closed.
 #![tactic(auto)]
 
-mod answers;
-mod beginning;
-mod committing;
-mod ending;
-mod listing;
-mod opening;
-mod owned_repo_beginning;
-mod owned_repo_committing;
-mod owned_repo_listing;
-mod owned_repo_purging;
-mod purging;
-mod reading;
-mod repo;
-mod shared_repo;
-mod sharing;
-mod standing;
+mod owned;
+mod shared;
+mod txns;
 
-pub use answers::{CommitAnswer, CommitBar};
-pub use beginning::begin_txn;
-pub use committing::commit_txn;
 pub use fsfs_begin::turn_begin::{BeginFault, Numbers};
 pub use fsfs_commit::Standing;
 pub use fsfs_txn::{Deleted, Made, PathOpened, TextSet, Txn, TxnError};
 pub use fsfs_txn_nodes::HeldNodes;
-pub use listing::list_txns;
-pub use opening::OpenedShared;
-pub use purging::purge_txn;
-pub use reading::Reader;
-pub use repo::{OpenedRepo, Repo};
-pub use shared_repo::SharedRepo;
-pub use standing::note_txn;
+pub use owned::reading::Reader;
+pub use owned::repo::{OpenedRepo, Repo};
+pub use shared::opening::OpenedShared;
+pub use shared::repo::SharedRepo;
+pub use txns::answers::{CommitAnswer, CommitBar};
+pub use txns::beginning::begin_txn;
+pub use txns::committing::commit_txn;
+pub use txns::listing::list_txns;
+pub use txns::purging::purge_txn;
+pub use txns::standing::note_txn;

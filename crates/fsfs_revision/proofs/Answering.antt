@@ -4,7 +4,7 @@ use Rattle.std.specs.Prelude.{Result, Ok, Err}
 use Rattle.fsfs_revision.specs.declared.wrong.Wrong.{Wrong}
 use Rattle.fsfs_revision.specs.declared.wrong.ReadError.{ReadError}
 use Rattle.fsfs_revision.specs.declared.wrong.ReadError.TheVariants as errors
-use Rattle.fsfs_revision.specs.Readings.{AndThen, Answers}
+use Rattle.fsfs_revision.specs.Damage.Readings.{AndThen, Answers}
 
 -- what is wrong in the first reading stops what follows
 pub stops : {A X B Y : Type 0} (first : A → X) (second : B → Y) (e : ReadError) (R : Result X Wrong → Type 0) (S : X → Result Y Wrong → Type 0)

@@ -9,16 +9,16 @@ use Rattle.fsfs_noderev.specs.declared.node_id.NodeId.{NodeId}
 use Rattle.fsfs_noderev.specs.declared.node_rev.CopySource.{CopySource}
 use Rattle.fsfs_noderev.specs.declared.node_rev.NodeRev.{NodeRev}
 use Rattle.fsfs_revision.specs.declared.wrong.Wrong.{Wrong}
-use Rattle.fsfs_revision.specs.ShowsReading.{ChildOf, StandsAt, Met, Stands}
-use Rattle.fsfs_revision.specs.Chains.{own_rev, IsPred, Chain, First, Breaks, Goes, copy_root_of}
-use Rattle.fsfs_revision.specs.IdRules.{IsChild, root_after}
-use Rattle.fsfs_revision.specs.Shown.{IsShown, IsShownAs, Shows}
+use Rattle.fsfs_revision.specs.Shows.Reading.{ChildOf, StandsAt, Met, Stands}
+use Rattle.fsfs_revision.specs.Shows.Chains.{own_rev, IsPred, Chain, First, Breaks, Goes, copy_root_of}
+use Rattle.fsfs_revision.specs.Shows.IdRules.{IsChild, root_after}
+use Rattle.fsfs_revision.specs.Shows.Shown.{IsShown, IsShownAs, Shows}
 use Rattle.fsfs_revision.proofs.OneWalk.{met_same}
 use Rattle.fsfs_revision.proofs.TreeLaw.{child_home, stands_home, root_le}
 use Rattle.fsfs_revision.proofs.Walks.{child_stands}
 use Rattle.fsfs_revision.proofs.OneTree.{some_or_none}
-use Rattle.fsfs_revision.specs.CopyRoots.{later_root, IsRootedFrom, IsRootedAt}
-use Rattle.fsfs_revision.specs.Trees.{ShowTrees}
+use Rattle.fsfs_revision.specs.Ancestry.CopyRoots.{later_root, IsRootedFrom, IsRootedAt}
+use Rattle.fsfs_revision.specs.Ancestry.Trees.{ShowTrees}
 use Rattle.fsfs_revision.proofs.Roots.{is_less, is_not_less, rooted_stands, rooted_child, rooted_up, IsCounted, self_counted, later_counted, later_of_counted, later_of_older, later_up_here}
 use Rattle.fsfs_revision.proofs.Earlier.{root_of_id, pred_same, no_pred, root_there, is_child, pred_dir}
 

@@ -14,18 +14,18 @@ use Rattle.fsfs_noderev.specs.declared.rep.Rep.{Rep}
 use Rattle.fsfs_noderev.specs.declared.rep.Contents.{Contents}
 use Rattle.fsfs_noderev.specs.declared.rep.Contents.TheVariants as contents
 use Rattle.fsfs_noderev.specs.declared.node_rev.NodeRev.{NodeRev}
-use Rattle.fsfs_revision.specs.Frames.{rev_of, RepIn}
+use Rattle.fsfs_revision.specs.Rep.Frames.{rev_of, RepIn}
 use Rattle.fsfs_revision.specs.Damages.{NodeIn, RootIn}
 use Rattle.fsfs_revision.specs.Nodes.{pred_before, rep_before, rep_place_before, place_before}
-use Rattle.fsfs_revision.specs.DamageDamages.{place_of}
+use Rattle.fsfs_revision.specs.Damage.Damages.{place_of}
 use Rattle.fsfs_revision.specs.declared.damage.RevOffset.{RevOffset}
 use Rattle.fsfs_revision.specs.declared.wrong.Wrong.{Wrong}
 use Rattle.fsfs_revision.specs.declared.wrong.Wrong.TheVariants as wrongs
-use Rattle.fsfs_revision.specs.Readings.{AndThen}
-use Rattle.fsfs_revision.specs.ShowsReading.{NodeAt, RootOf, offset_of, RepAt, Pairs, PairsIn, PairsAt, OfContents, TextOf, PropsOf, DirEntry, EntriesIn, EntriesAt, EntriesOf, HasId, OfId, HasKind, OfEntry, named, OfNamed, ChildOf, Met, Stands, Lacking, Blocked, OrLacking, InDirectory, MetFrom, MetAt, StandsAt}
-use Rattle.fsfs_revision.specs.Chains.{own_rev, IsPred, Chain, First, Breaks, Goes, copy_root_of, IsCopiedIn, contents_rev}
-use Rattle.fsfs_revision.specs.Shown.{IsTextOf, Nearest, IsOfCopy, IsSource, IsShown, IsShownAs, Shows}
-use Rattle.fsfs_revision.specs.Bounded.{AreSameUpTo}
+use Rattle.fsfs_revision.specs.Damage.Readings.{AndThen}
+use Rattle.fsfs_revision.specs.Shows.Reading.{NodeAt, RootOf, offset_of, RepAt, Pairs, PairsIn, PairsAt, OfContents, TextOf, PropsOf, DirEntry, EntriesIn, EntriesAt, EntriesOf, HasId, OfId, HasKind, OfEntry, named, OfNamed, ChildOf, Met, Stands, Lacking, Blocked, OrLacking, InDirectory, MetFrom, MetAt, StandsAt}
+use Rattle.fsfs_revision.specs.Shows.Chains.{own_rev, IsPred, Chain, First, Breaks, Goes, copy_root_of, IsCopiedIn, contents_rev}
+use Rattle.fsfs_revision.specs.Shows.Shown.{IsTextOf, Nearest, IsOfCopy, IsSource, IsShown, IsShownAs, Shows}
+use Rattle.fsfs_revision.specs.Ancestry.Bounded.{AreSameUpTo}
 use Rattle.fsfs_revision.proofs.TreeLaw.{IsHome, before_le, of_id_home, root_home, child_home, entry_before, stands_home, rep_le, props_le, chain_le, sound}
 
 pub back_same : (r : ℕ) (look other : RevisionBytes) → AreSameUpTo r look other → AreSameUpTo r other look

@@ -7,11 +7,11 @@ use Rattle.fsfs_noderev.specs.declared.node_id.NodeId.{NodeId}
 use Rattle.fsfs_noderev.specs.declared.node_id.Part.{Part}
 use Rattle.fsfs_noderev.specs.declared.node_rev.NodeRev.{NodeRev}
 use Rattle.fsfs_revision.specs.Nodes.{pred_before}
-use Rattle.fsfs_revision.specs.ShowsReading.{offset_of, ChildOf, StandsAt}
-use Rattle.fsfs_revision.specs.Chains.{own_rev, IsPred}
-use Rattle.fsfs_revision.specs.IdRules.{IdRule, IsOf, IsChild, IsBehind, Next, Further, IsDrawn, CopyPartFrom, Directory, Before, Drawn}
+use Rattle.fsfs_revision.specs.Shows.Reading.{offset_of, ChildOf, StandsAt}
+use Rattle.fsfs_revision.specs.Shows.Chains.{own_rev, IsPred}
+use Rattle.fsfs_revision.specs.Shows.IdRules.{IdRule, IsOf, IsChild, IsBehind, Next, Further, IsDrawn, CopyPartFrom, Directory, Before, Drawn}
 use Rattle.fsfs_revision.proofs.TreeLaw.{IsHome, before_le, of_id_home, stands_home}
-use Rattle.fsfs_revision.specs.Bounded.{AreSameUpTo}
+use Rattle.fsfs_revision.specs.Ancestry.Bounded.{AreSameUpTo}
 use Rattle.fsfs_revision.proofs.Bounded.{back_same, stands_same_bytes, of_id_same, child_same}
 
 -- a node-revision of a tree, or one before it

@@ -8,12 +8,12 @@ use Rattle.fsfs_base.specs.declared.kind.Kind.{Kind}
 use Rattle.fsfs_base.specs.declared.kind.Kind.TheVariants.{File, Dir}
 use Rattle.fsfs_revision.specs.Told.{RevisionBytes}
 use Rattle.fsfs_noderev.specs.declared.node_rev.NodeRev.{NodeRev}
-use Rattle.fsfs_revision.specs.DamageDamages.{place_of}
+use Rattle.fsfs_revision.specs.Damage.Damages.{place_of}
 use Rattle.fsfs_revision.specs.declared.wrong.Wrong.{Wrong}
 use Rattle.fsfs_revision.specs.declared.wrong.Wrong.TheVariants as wrongs
-use Rattle.fsfs_revision.specs.ShowsReading.{DirEntry, named, TextOf, PropsOf, EntriesOf, OfNamed, ChildOf, Met, Stands, Lacking, Blocked, OrLacking, InDirectory, MetFrom, MetAt, StandsAt}
-use Rattle.fsfs_revision.specs.Shown.{IsTextOf, IsShown, IsShownAs, Shows}
-use Rattle.fsfs_revision.specs.ByTree.{LacksAt, IsBlockedAt, IsMetByTree, IsEntryByTree, AreEntriesByTree, IsTextByTree, IsReadByTree}
+use Rattle.fsfs_revision.specs.Shows.Reading.{DirEntry, named, TextOf, PropsOf, EntriesOf, OfNamed, ChildOf, Met, Stands, Lacking, Blocked, OrLacking, InDirectory, MetFrom, MetAt, StandsAt}
+use Rattle.fsfs_revision.specs.Shows.Shown.{IsTextOf, IsShown, IsShownAs, Shows}
+use Rattle.fsfs_revision.specs.Shows.ByTree.{LacksAt, IsBlockedAt, IsMetByTree, IsEntryByTree, AreEntriesByTree, IsTextByTree, IsReadByTree}
 use Rattle.fsfs_revision.proofs.OneAnswer.{ok_same}
 use Rattle.fsfs_revision.proofs.OneNode.{root_of_one}
 use Rattle.fsfs_revision.proofs.OneEntry.{entries_one}

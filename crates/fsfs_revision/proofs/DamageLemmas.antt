@@ -7,8 +7,8 @@ use Rattle.fsfs_revision.specs.declared.damage.DamageKind.TheVariants as what
 use Rattle.fsfs_revision.specs.declared.wrong.Wrong.{Wrong}
 use Rattle.fsfs_revision.specs.declared.wrong.ReadError.{ReadError}
 use Rattle.fsfs_revision.specs.declared.wrong.ReadError.TheVariants as errors
-use Rattle.fsfs_revision.specs.DamageDamages.{place_of, damaged}
-use Rattle.fsfs_revision.specs.Readings.{Answers, HasOneAnswer}
+use Rattle.fsfs_revision.specs.Damage.Damages.{place_of, damaged}
+use Rattle.fsfs_revision.specs.Damage.Readings.{Answers, HasOneAnswer}
 use Rattle.fsfs_revision.proofs.OneAnswer.{and_then_one, judged_one}
 use Rattle.fsfs_noderev.specs.NodeRevs.{IsRead}
 use Rattle.fsfs_noderev.specs.declared.node_rev.NodeRev.{NodeRev}

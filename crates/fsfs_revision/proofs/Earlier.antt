@@ -9,18 +9,18 @@ use Rattle.fsfs_revision.specs.Told.{RevisionBytes}
 use Rattle.fsfs_noderev.specs.declared.node_id.NodeId.{NodeId}
 use Rattle.fsfs_noderev.specs.declared.node_rev.CopySource.{CopySource}
 use Rattle.fsfs_noderev.specs.declared.node_rev.NodeRev.{NodeRev}
-use Rattle.fsfs_revision.specs.DamageDamages.{place_of}
+use Rattle.fsfs_revision.specs.Damage.Damages.{place_of}
 use Rattle.fsfs_revision.specs.Nodes.{is_own_place, is_directory}
 use Rattle.fsfs_revision.specs.declared.damage.RevOffset.{RevOffset}
-use Rattle.fsfs_revision.specs.ShowsReading.{offset_of, NodeAt, RootOf, OfId, DirEntry, OfNamed, named, ChildOf, StandsAt}
-use Rattle.fsfs_revision.specs.Chains.{own_rev, IsPred, copy_root_of}
-use Rattle.fsfs_revision.specs.IdRules.{IsChild}
+use Rattle.fsfs_revision.specs.Shows.Reading.{offset_of, NodeAt, RootOf, OfId, DirEntry, OfNamed, named, ChildOf, StandsAt}
+use Rattle.fsfs_revision.specs.Shows.Chains.{own_rev, IsPred, copy_root_of}
+use Rattle.fsfs_revision.specs.Shows.IdRules.{IsChild}
 use Rattle.fsfs_revision.proofs.OneAnswer.{ok_same}
 use Rattle.fsfs_revision.proofs.OneWalk.{of_id_one}
 use Rattle.fsfs_revision.proofs.TreeLaw.{own_place, child_home, stands_home}
 use Rattle.fsfs_revision.proofs.Walks.{child_stands}
-use Rattle.fsfs_revision.specs.CopyRoots.{later_root, IsRootedFrom}
-use Rattle.fsfs_revision.specs.Trees.{ShowTrees, PredecessorsAreEarlier}
+use Rattle.fsfs_revision.specs.Ancestry.CopyRoots.{later_root, IsRootedFrom}
+use Rattle.fsfs_revision.specs.Ancestry.Trees.{ShowTrees, PredecessorsAreEarlier}
 use Rattle.fsfs_revision.proofs.Roots.{is_less, is_not_less, stands_rooted}
 
 -- ---- what stands somewhere is had by its id

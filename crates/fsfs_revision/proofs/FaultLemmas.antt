@@ -8,14 +8,14 @@ use Rattle.fsfs_revision.specs.declared.wrong.Wrong.{Wrong}
 use Rattle.fsfs_revision.specs.declared.wrong.Wrong.TheVariants as wrongs
 use Rattle.fsfs_revision.specs.declared.wrong.ReadError.{ReadError}
 use Rattle.fsfs_revision.specs.declared.wrong.ReadError.TheVariants as errors
-use Rattle.fsfs_revision.specs.Checks.{AllPass}
-use Rattle.fsfs_revision.specs.Readings.{IfWrong}
+use Rattle.fsfs_revision.specs.Damage.Checks.{AllPass}
+use Rattle.fsfs_revision.specs.Damage.Readings.{IfWrong}
 use Rattle.fsfs_revision.specs.Told.{IsRefusalOf}
 use Rattle.fsfs_noderev.specs.declared.rep.Rep.{Rep}
 use Rattle.fsfs_noderev.specs.declared.rep.Uniquifier.{Uniquifier}
-use Rattle.fsfs_revision.specs.Headers.{HasPlainLine, HasDeltaLine}
-use Rattle.fsfs_revision.specs.Frames.{rep_place, text_of, bad_rep, sha1_checks, rep_checks, HasTrailer, IsFramed, IsWhole, Disagrees, IsFaultOf}
-use Rattle.fsfs_revision.specs.Faults.{IsRefusedRev, IsWrongOf, IsAbout}
+use Rattle.fsfs_revision.specs.Rep.Headers.{HasPlainLine, HasDeltaLine}
+use Rattle.fsfs_revision.specs.Rep.Frames.{rep_place, text_of, bad_rep, sha1_checks, rep_checks, HasTrailer, IsFramed, IsWhole, Disagrees, IsFaultOf}
+use Rattle.fsfs_revision.specs.Rep.Faults.{IsRefusedRev, IsWrongOf, IsAbout}
 use Rattle.fsfs_revision.proofs.HeaderLemmas.{plain_or_delta}
 
 -- nothing is wrong, so what is wrong is anything

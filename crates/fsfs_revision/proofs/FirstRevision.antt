@@ -6,16 +6,16 @@ use Rattle.std.proofs.lemmas.Bool.{and_parts, not-true}
 use Rattle.std.proofs.lemmas.Str.{IsUtf8-from_ascii}
 use Rattle.hex.specs.Hex.{decode_pairs}
 use Rattle.md5.specs.Md5.{block_words, rounds, compress, hash_after, digest_bytes, md5}
-use Rattle.fsfs_base.specs.Reading.{text_at}
-use Rattle.fsfs_base.specs.Numeral.{IsNumeral, value_after, numeral_at, plain_at, number_at, digits_at}
-use Rattle.fsfs_base.specs.Cuts.{Lacks}
-use Rattle.fsfs_base.specs.declared.base36.B36.{B36}
+use Rattle.fsfs_base.specs.Grammar.Reading.{text_at}
+use Rattle.fsfs_base.specs.Grammar.Numeral.{IsNumeral, value_after, numeral_at, plain_at, number_at, digits_at}
+use Rattle.fsfs_base.specs.Grammar.Cuts.{Lacks}
+use Rattle.fsfs_base.specs.declared.grammar.base36.B36.{B36}
 use Rattle.fsfs_base.proofs.Readers.{all_found}
 use Rattle.fsfs_base.specs.Paths.{PathName, Path}
 use Rattle.fsfs_tree.specs.Nodes.{empty_node}
 use Rattle.fsfs_base.specs.declared.kind.Kind.TheVariants.{Dir}
 use Rattle.fsfs_revision.specs.Told.{RevisionBytes}
-use Rattle.fsfs_layout.specs.Dump.{IsDump}
+use Rattle.fsfs_layout.specs.Hash.Dump.{IsDump}
 use Rattle.fsfs_noderev.specs.Ids.{id_at, part_at, place_at, IsNumber64, part_value, Old}
 use Rattle.fsfs_noderev.specs.Reps.{contents_at, rep_at, digests_at, digest_at}
 use Rattle.fsfs_noderev.specs.Lines.{IsPair}
@@ -32,19 +32,19 @@ use Rattle.fsfs_noderev.specs.declared.node_rev.CopySource.{CopySource}
 use Rattle.fsfs_noderev.proofs.IdTexts.{id_spells}
 use Rattle.fsfs_noderev.proofs.RepTexts.{contents_spells}
 use Rattle.fsfs_noderev.proofs.Lengths.{reads_back}
-use Rattle.fsfs_revision.specs.Frames.{IsWhole}
+use Rattle.fsfs_revision.specs.Rep.Frames.{IsWhole}
 use Rattle.fsfs_revision.specs.Trailers.{trailer_at, EndsWith}
 use Rattle.fsfs_revision.specs.Damages.{RootIn}
-use Rattle.fsfs_revision.specs.DamageDamages.{place_of}
+use Rattle.fsfs_revision.specs.Damage.Damages.{place_of}
 use Rattle.fsfs_revision.specs.Nodes.{IsNodeAt}
 use Rattle.fsfs_revision.specs.declared.trailer.Trailer.{Trailer}
 use Rattle.fsfs_revision.proofs.TrailerLemmas.{trailer_reads}
-use Rattle.fsfs_revision.specs.ShowsReading.{EntriesOf, ChildOf, Met, Stands, Lacking, MetAt, StandsAt}
-use Rattle.fsfs_revision.specs.Chains.{own_rev, IsPred, First, copy_root_of, IsCopiedIn}
-use Rattle.fsfs_revision.specs.Shown.{IsShown, IsShownAs, Shows}
-use Rattle.fsfs_revision.specs.IdRules.{IsOf, IsChild, HasSuffix, IdRule}
+use Rattle.fsfs_revision.specs.Shows.Reading.{EntriesOf, ChildOf, Met, Stands, Lacking, MetAt, StandsAt}
+use Rattle.fsfs_revision.specs.Shows.Chains.{own_rev, IsPred, First, copy_root_of, IsCopiedIn}
+use Rattle.fsfs_revision.specs.Shows.Shown.{IsShown, IsShownAs, Shows}
+use Rattle.fsfs_revision.specs.Shows.IdRules.{IsOf, IsChild, HasSuffix, IdRule}
 use Rattle.fsfs_base.specs.FirstRevision.{first_bytes}
-use Rattle.fsfs_revision.specs.FirstRevision.{first_tree}
+use Rattle.fsfs_revision.specs.Shows.FirstRevision.{first_tree}
 use Rattle.fsfs_revision.proofs.OneWalk.{met_same, stands_same}
 
 -- ---- bytes that lack one, by a test

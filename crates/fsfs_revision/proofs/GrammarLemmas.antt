@@ -3,7 +3,7 @@ use Rattle.std.proofs.Common.{◌≡◌, ◌≤◌, ◌<◌, ℕ, ◌+◌, ◌-�
 use Rattle.std.specs.Prelude.{Result, Ok, Err, ◌==◌}
 use Rattle.std.proofs.lemmas.Bool.{cases_lt, eqb-true, eqb-false}
 use Rattle.std.proofs.lemmas.List.{length-take, length-append, take_all, take-take}
-use Rattle.fsfs_base.specs.Grammar.{GoesOn, IsFaultAt}
+use Rattle.fsfs_base.specs.Grammar.Relations.{GoesOn, IsFaultAt}
 use Rattle.fsfs_base.proofs.Readers.{all_found, all_exact, chosen}
 use Rattle.fsfs_base.specs.declared.small_fault.SmallFile.TheVariants.{MinUnpackedRev, Manifest}
 use Rattle.fsfs_base.specs.declared.small_fault.SmallFault.{SmallFault}

@@ -5,14 +5,14 @@ use Rattle.std.specs.Fmt.{decimal}
 use Rattle.std.proofs.Math.Seq.{take-append_seam}
 use Rattle.std.proofs.lemmas.Fmt.{length-decimal-le}
 use Rattle.std.specs.Prelude.{codes}
-use Rattle.fsfs_base.specs.Grammar.{begins}
-use Rattle.fsfs_base.specs.Numeral.{IsNumber}
-use Rattle.fsfs_base.specs.Reading.{text_at}
+use Rattle.fsfs_base.specs.Grammar.Relations.{begins}
+use Rattle.fsfs_base.specs.Grammar.Numeral.{IsNumber}
+use Rattle.fsfs_base.specs.Grammar.Reading.{text_at}
 use Rattle.fsfs_base.proofs.Readers.{Reads, next_reads, mapped_reads, either_reads, text_reads}
 use Rattle.fsfs_base.proofs.Numerals.{number_reads}
 use Rattle.fsfs_base.proofs.Unique.{numeral_decimal}
-use Rattle.fsfs_base.specs.RevNums.{last_rev}
-use Rattle.fsfs_revision.specs.Headers.{StandsAt, IsBaseLine, IsDeltaLine, HasPlainLine, HasDeltaLine, plain_line, base_line_at, delta_line_at}
+use Rattle.fsfs_base.specs.Fields.RevNums.{last_rev}
+use Rattle.fsfs_revision.specs.Rep.Headers.{StandsAt, IsBaseLine, IsDeltaLine, HasPlainLine, HasDeltaLine, plain_line, base_line_at, delta_line_at}
 
 base_line_reads : (n : ℕ) → Reads n IsBaseLine base_line_at
 base_line_reads =

@@ -6,7 +6,7 @@ use Rattle.std.proofs.lemmas.Grind.{common_steps}
 use Rattle.fsfs_base.specs.declared.small_fault.SmallFile.{SmallFile}
 use Rattle.fsfs_base.specs.declared.small_fault.SmallFile.TheVariants.{Manifest}
 use Rattle.fsfs_base.specs.declared.small_fault.SmallFault.{SmallFault}
-use Rattle.fsfs_base.specs.Grammar.{GoesOn, IsFaultAt}
+use Rattle.fsfs_base.specs.Grammar.Relations.{GoesOn, IsFaultAt}
 use Rattle.fsfs_base.proofs.Readers.{all_found, all_again, all_exact}
 use Rattle.fsfs_layout.specs.declared.layout.Layout.{Layout}
 use Rattle.fsfs_layout.specs.Small.{IsFaultOf}

@@ -2,8 +2,8 @@
 use Rattle.std.proofs.Common.{◌≡◌, List, [], ◌∷◌, sym, ap, subst, ◌∙◌, inl, inr}
 use Rattle.std.specs.Prelude.{Result, Ok, Err}
 use Rattle.fsfs_revision.specs.declared.wrong.Wrong.{Wrong}
-use Rattle.fsfs_revision.specs.Readings.{AndThen, HasOneAnswer}
-use Rattle.fsfs_revision.specs.Checks.{Check, AllPass, FirstFails, Judged}
+use Rattle.fsfs_revision.specs.Damage.Readings.{AndThen, HasOneAnswer}
+use Rattle.fsfs_revision.specs.Damage.Checks.{Check, AllPass, FirstFails, Judged}
 
 pub ok_same : {X : Type 0} (x y : X) → (let r : Result X Wrong = Ok x in r) ≡ Ok y → x ≡ y
 ok_same x y e = cc

@@ -5,7 +5,7 @@ use Rattle.fsfs_base.specs.declared.kind.Kind.{Kind}
 use Rattle.fsfs_base.specs.declared.kind.Kind.TheVariants.{File, Dir}
 use Rattle.fsfs_revision.specs.declared.damage.RevOffset.{RevOffset}
 use Rattle.fsfs_revision.specs.declared.wrong.Wrong.{Wrong}
-use Rattle.fsfs_revision.specs.Readings.{HasOneAnswer}
+use Rattle.fsfs_revision.specs.Damage.Readings.{HasOneAnswer}
 use Rattle.fsfs_revision.proofs.OneAnswer.{ok_ap, ok_no_err, err_ap, err_same, and_then_one, judged_one}
 use Rattle.fsfs_revision.specs.Told.{RevisionBytes}
 use Rattle.fsfs_noderev.specs.Fields.{IsIdText}
@@ -14,7 +14,7 @@ use Rattle.fsfs_noderev.specs.declared.rep.Rep.{Rep}
 use Rattle.fsfs_noderev.specs.declared.node_rev.NodeRev.{NodeRev}
 use Rattle.fsfs_noderev.proofs.FieldTexts.{id_one}
 use Rattle.fsfs_revision.proofs.HeaderLemmas.{head_same}
-use Rattle.fsfs_revision.specs.ShowsReading.{Pairs, PairsAt, DirEntry, kind_word, IsEntryName, IsEntryValue, IsEntry, pair_checks, EntryIn, AreEntries, FirstPairFails, EntriesIn, EntriesAt, EntriesOf, offset_of}
+use Rattle.fsfs_revision.specs.Shows.Reading.{Pairs, PairsAt, DirEntry, kind_word, IsEntryName, IsEntryValue, IsEntry, pair_checks, EntryIn, AreEntries, FirstPairFails, EntriesIn, EntriesAt, EntriesOf, offset_of}
 use Rattle.fsfs_revision.proofs.OneStep.{contents_one}
 use Rattle.fsfs_revision.proofs.OneRep.{pairs_at_one}
 

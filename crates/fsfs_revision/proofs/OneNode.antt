@@ -4,7 +4,7 @@ use Rattle.std.specs.Prelude.{Result, Ok}
 use Rattle.std.specs.List.{flat_map}
 use Rattle.fsfs_base.proofs.Readers.{all_again}
 use Rattle.fsfs_revision.specs.declared.damage.RevOffset.{RevOffset}
-use Rattle.fsfs_revision.specs.Readings.{HasOneAnswer}
+use Rattle.fsfs_revision.specs.Damage.Readings.{HasOneAnswer}
 use Rattle.fsfs_revision.proofs.OneAnswer.{and_then_one}
 use Rattle.fsfs_revision.specs.Told.{RevisionBytes, BytesOf}
 use Rattle.fsfs_noderev.specs.Lines.{line}
@@ -14,7 +14,7 @@ use Rattle.fsfs_revision.specs.Damages.{NodeIn, RootIn}
 use Rattle.fsfs_revision.specs.declared.trailer.Trailer.{Trailer}
 use Rattle.fsfs_revision.proofs.TrailerLemmas.{trailer_reads, one_trailer}
 use Rattle.fsfs_revision.proofs.DamageLemmas.{IsOne, node_in_one, root_in_one}
-use Rattle.fsfs_revision.specs.ShowsReading.{NodeAt, RootOf}
+use Rattle.fsfs_revision.specs.Shows.Reading.{NodeAt, RootOf}
 use Rattle.fsfs_revision.proofs.OneStep.{bytes_one}
 
 -- ---- a node-revision

@@ -1,16 +1,16 @@
 -- A representation and a dump are read in one way at most.
 use Rattle.std.proofs.Common.{◌≡◌, ℕ, List, sym, ◌∙◌}
-use Rattle.fsfs_revision.specs.Readings.{HasOneAnswer}
+use Rattle.fsfs_revision.specs.Damage.Readings.{HasOneAnswer}
 use Rattle.fsfs_revision.proofs.OneAnswer.{and_then_one, judged_one}
 use Rattle.fsfs_revision.specs.Told.{RevisionBytes, BytesOf}
 use Rattle.fsfs_base.proofs.Readers.{all_again}
 use Rattle.fsfs_noderev.specs.declared.rep.Rep.{Rep}
-use Rattle.fsfs_layout.specs.Dump.{IsDump}
-use Rattle.fsfs_layout.specs.HashReading.{dump_at}
+use Rattle.fsfs_layout.specs.Hash.Dump.{IsDump}
+use Rattle.fsfs_layout.specs.Hash.Reading.{dump_at}
 use Rattle.fsfs_layout.proofs.Dumps.{dump_reads, pairs_same}
-use Rattle.fsfs_revision.specs.Frames.{rev_of, rep_checks, IsTextOf, RepIn}
+use Rattle.fsfs_revision.specs.Rep.Frames.{rev_of, rep_checks, IsTextOf, RepIn}
 use Rattle.fsfs_revision.proofs.FaultLemmas.{whole_pass}
-use Rattle.fsfs_revision.specs.ShowsReading.{RepAt, Pairs, hash_checks, PairsIn, PairsAt}
+use Rattle.fsfs_revision.specs.Shows.Reading.{RepAt, Pairs, hash_checks, PairsIn, PairsAt}
 use Rattle.fsfs_revision.proofs.OneStep.{bytes_one}
 
 rep_in_one : (rep : Rep) (bytes : List ℕ) → HasOneAnswer (RepIn rep bytes)

@@ -4,13 +4,13 @@ use Rattle.std.specs.Prelude.{Result, Ok, Err, Option, Some, None}
 use Rattle.fsfs_revision.specs.declared.wrong.Refusal.{Refusal}
 use Rattle.fsfs_revision.specs.declared.wrong.Wrong.{Wrong}
 use Rattle.fsfs_revision.specs.declared.wrong.Wrong.TheVariants as wrongs
-use Rattle.fsfs_revision.specs.Readings.{HasOneAnswer}
+use Rattle.fsfs_revision.specs.Damage.Readings.{HasOneAnswer}
 use Rattle.fsfs_revision.proofs.OneAnswer.{ok_ap, err_ap}
 use Rattle.fsfs_revision.specs.Told.{RevisionBytes, BytesOf}
 use Rattle.fsfs_noderev.specs.declared.rep.Rep.{Rep}
 use Rattle.fsfs_noderev.specs.declared.rep.Contents.{Contents}
 use Rattle.fsfs_noderev.specs.declared.rep.Contents.TheVariants as contents
-use Rattle.fsfs_revision.specs.ShowsReading.{OfContents}
+use Rattle.fsfs_revision.specs.Shows.Reading.{OfContents}
 
 pub bytes_one : (look : RevisionBytes) (rev : ℕ) → HasOneAnswer (BytesOf look rev)
 bytes_one look rev (Ok a) (Ok b) g h = let e : a ≡ b = (let f = sym g ∙ h in cc) in ok_ap a b e

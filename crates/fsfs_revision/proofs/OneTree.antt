@@ -9,11 +9,11 @@ use Rattle.fsfs_base.specs.declared.kind.Kind.TheVariants.{File, Dir}
 use Rattle.fsfs_revision.specs.Told.{RevisionBytes}
 use Rattle.fsfs_noderev.specs.declared.node_id.NodeId.{NodeId}
 use Rattle.fsfs_noderev.specs.declared.node_rev.NodeRev.{NodeRev}
-use Rattle.fsfs_revision.specs.DamageDamages.{place_of}
+use Rattle.fsfs_revision.specs.Damage.Damages.{place_of}
 use Rattle.fsfs_revision.specs.declared.wrong.Wrong.{Wrong}
-use Rattle.fsfs_revision.specs.ShowsReading.{OfId, Met, Stands, Lacking, Blocked, MetAt, StandsAt}
-use Rattle.fsfs_revision.specs.Chains.{own_rev, Chain, First, Breaks, Goes, copy_root_of, IsCopiedIn, contents_rev}
-use Rattle.fsfs_revision.specs.Shown.{IsTextOf, Nearest, source_by, IsOfCopy, IsSource, IsShown, IsShownAs, Shows}
+use Rattle.fsfs_revision.specs.Shows.Reading.{OfId, Met, Stands, Lacking, Blocked, MetAt, StandsAt}
+use Rattle.fsfs_revision.specs.Shows.Chains.{own_rev, Chain, First, Breaks, Goes, copy_root_of, IsCopiedIn, contents_rev}
+use Rattle.fsfs_revision.specs.Shows.Shown.{IsTextOf, Nearest, source_by, IsOfCopy, IsSource, IsShown, IsShownAs, Shows}
 use Rattle.fsfs_revision.proofs.OneAnswer.{ok_same}
 use Rattle.fsfs_revision.proofs.OneWalk.{text_one, props_one, of_id_one, met_same, stands_same}
 

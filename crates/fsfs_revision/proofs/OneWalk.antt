@@ -8,8 +8,8 @@ use Rattle.fsfs_revision.specs.Told.{RevisionBytes}
 use Rattle.fsfs_noderev.specs.declared.node_id.NodeId.{NodeId}
 use Rattle.fsfs_noderev.specs.declared.node_rev.NodeRev.{NodeRev}
 use Rattle.fsfs_revision.specs.declared.wrong.Wrong.{Wrong}
-use Rattle.fsfs_revision.specs.Readings.{HasOneAnswer}
-use Rattle.fsfs_revision.specs.ShowsReading.{offset_of, NodeAt, RootOf, RepAt, PairsAt, TextOf, PropsOf, HasId, id_checks, OfId, DirEntry, kind_checks, HasKind, OfEntry, named, EntriesOf, OfNamed, ChildOf, Met, Stands, OrLacking, InDirectory, MetFrom, MetAt, StandsAt}
+use Rattle.fsfs_revision.specs.Damage.Readings.{HasOneAnswer}
+use Rattle.fsfs_revision.specs.Shows.Reading.{offset_of, NodeAt, RootOf, RepAt, PairsAt, TextOf, PropsOf, HasId, id_checks, OfId, DirEntry, kind_checks, HasKind, OfEntry, named, EntriesOf, OfNamed, ChildOf, Met, Stands, OrLacking, InDirectory, MetFrom, MetAt, StandsAt}
 use Rattle.fsfs_revision.proofs.OneAnswer.{ok_ap, err_ap, ok_same, and_then_one, judged_one}
 use Rattle.fsfs_revision.proofs.OneStep.{contents_one}
 use Rattle.fsfs_revision.proofs.OneNode.{node_at_one, root_of_one}

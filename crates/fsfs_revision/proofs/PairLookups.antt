@@ -8,7 +8,7 @@ use Rattle.std.specs.Map.{lookup}
 use Rattle.std.specs.FinMap.{slice_cmp-IsAntisymmetric, nat_cmp-IsAntisymmetric}
 use Rattle.fsfs_base.specs.Paths.{same_name}
 use Rattle.fsfs_base.proofs.PathLemmas.{same_name-refl, same_name-is}
-use Rattle.fsfs_revision.specs.ShowsReading.{Pairs}
+use Rattle.fsfs_revision.specs.Shows.Reading.{Pairs}
 
 abbrev pub text_cmp : List ℕ → List ℕ → Ordering
 text_cmp = slice_cmp nat_cmp

@@ -6,8 +6,8 @@ use Rattle.std.proofs.lemmas.Slice.Eq.{bytes_eq-Decides}
 use Rattle.std.proofs.lemmas.List.{length-take, length-drop, take-append-drop, take-take, take_all, drop-take, drop-drop}
 use Rattle.std.proofs.Math.Seq.{take-append_seam}
 use Rattle.fsfs_base.proofs.Readers.{text_reads}
-use Rattle.fsfs_base.specs.Reading.{text_at}
-use Rattle.fsfs_revision.specs.Headers.{StandsAt}
+use Rattle.fsfs_base.specs.Grammar.Reading.{text_at}
+use Rattle.fsfs_revision.specs.Rep.Headers.{StandsAt}
 use Rattle.fsfs_revision.proofs.HeaderLemmas.{stands_found, stands_not, stands_in, stands_within, stands_fits}
 
 -- what is told of the representation's revision

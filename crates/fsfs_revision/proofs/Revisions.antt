@@ -15,16 +15,16 @@ use Rattle.fsfs_noderev.specs.declared.node_rev.CopySource.{CopySource}
 use Rattle.fsfs_noderev.specs.declared.node_rev.NodeRev.{NodeRev}
 use Rattle.fsfs_revision.specs.declared.wrong.Wrong.{Wrong}
 use Rattle.fsfs_revision.proofs.OneAnswer.{ok_same}
-use Rattle.fsfs_revision.specs.ShowsReading.{Pairs, PairsAt, OfContents, ChildOf, PropsOf, Met, Stands, Lacking, Blocked, MetFrom, MetAt, StandsAt}
-use Rattle.fsfs_revision.specs.Chains.{own_rev, IsPred, Chain, First, copy_root_of, contents_rev}
-use Rattle.fsfs_revision.specs.IdRules.{IsOf, IsChild}
-use Rattle.fsfs_revision.specs.Shown.{IsTextOf, Nearest, copied_from, source_by, IsOfCopy, IsSource, IsShown, IsShownAs, Shows}
+use Rattle.fsfs_revision.specs.Shows.Reading.{Pairs, PairsAt, OfContents, ChildOf, PropsOf, Met, Stands, Lacking, Blocked, MetFrom, MetAt, StandsAt}
+use Rattle.fsfs_revision.specs.Shows.Chains.{own_rev, IsPred, Chain, First, copy_root_of, contents_rev}
+use Rattle.fsfs_revision.specs.Shows.IdRules.{IsOf, IsChild}
+use Rattle.fsfs_revision.specs.Shows.Shown.{IsTextOf, Nearest, copied_from, source_by, IsOfCopy, IsSource, IsShown, IsShownAs, Shows}
 use Rattle.fsfs_revision.proofs.OneWalk.{props_one, met_same, stands_same}
 use Rattle.fsfs_revision.proofs.OneTree.{chain_one, first_same, copied_same, near_same, text_same}
 use Rattle.fsfs_revision.proofs.TreeLaw.{below, root_home, stands_home, child_home, chain_le, root_le, shown_at, there, sound}
 use Rattle.fsfs_revision.proofs.Walks.{met_behind, child_stands}
-use Rattle.fsfs_revision.specs.CopyRoots.{later_root, IsRootedFrom, IsRootedAt}
-use Rattle.fsfs_revision.specs.Trees.{ShowTrees, ShownTreesAreRevisions}
+use Rattle.fsfs_revision.specs.Ancestry.CopyRoots.{later_root, IsRootedFrom, IsRootedAt}
+use Rattle.fsfs_revision.specs.Ancestry.Trees.{ShowTrees, ShownTreesAreRevisions}
 use Rattle.fsfs_revision.proofs.Roots.{is_less, is_not_less, rooted_met, rooted_stands, stands_rooted, rooted_child, rooted_split, rooted_one, later_up, later_up_here, later_by, IsLatest, rooted_latest}
 use Rattle.fsfs_revision.proofs.Earlier.{pred_same, no_pred, is_child, pred_dir}
 use Rattle.fsfs_revision.proofs.Behind.{chain_pred, shown_there, IsBehind, Same, Fresh, Moved, behind_at}

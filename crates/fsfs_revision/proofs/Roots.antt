@@ -10,13 +10,13 @@ use Rattle.fsfs_base.specs.declared.kind.Kind.TheVariants.{File, Dir}
 use Rattle.fsfs_revision.specs.Told.{RevisionBytes}
 use Rattle.fsfs_noderev.specs.declared.node_rev.NodeRev.{NodeRev}
 use Rattle.fsfs_revision.specs.declared.wrong.Wrong.{Wrong}
-use Rattle.fsfs_revision.specs.ShowsReading.{ChildOf, Met, Stands, OrLacking, InDirectory, MetFrom, StandsAt}
-use Rattle.fsfs_revision.specs.Chains.{copy_root_of, IsCopiedIn}
-use Rattle.fsfs_revision.specs.Shown.{Nearest}
+use Rattle.fsfs_revision.specs.Shows.Reading.{ChildOf, Met, Stands, OrLacking, InDirectory, MetFrom, StandsAt}
+use Rattle.fsfs_revision.specs.Shows.Chains.{copy_root_of, IsCopiedIn}
+use Rattle.fsfs_revision.specs.Shows.Shown.{Nearest}
 use Rattle.fsfs_revision.proofs.OneWalk.{stands_same}
 use Rattle.fsfs_revision.proofs.OneTree.{copied_same, near_same}
 use Rattle.fsfs_revision.proofs.Walks.{in_dir, child_stands}
-use Rattle.fsfs_revision.specs.CopyRoots.{later_root, IsRootedFrom, IsRootedAt}
+use Rattle.fsfs_revision.specs.Ancestry.CopyRoots.{later_root, IsRootedFrom, IsRootedAt}
 
 -- ---- numbers
 

@@ -8,13 +8,13 @@ use Rattle.fsfs_revision.specs.Told.{RevisionBytes}
 use Rattle.fsfs_noderev.specs.declared.node_id.NodeId.{NodeId}
 use Rattle.fsfs_noderev.specs.declared.node_rev.CopySource.{CopySource}
 use Rattle.fsfs_noderev.specs.declared.node_rev.NodeRev.{NodeRev}
-use Rattle.fsfs_revision.specs.ShowsReading.{ChildOf, StandsAt}
-use Rattle.fsfs_revision.specs.Chains.{own_rev, IsPred, copy_root_of}
-use Rattle.fsfs_revision.specs.IdRules.{IsOf, IsChild, root_after}
+use Rattle.fsfs_revision.specs.Shows.Reading.{ChildOf, StandsAt}
+use Rattle.fsfs_revision.specs.Shows.Chains.{own_rev, IsPred, copy_root_of}
+use Rattle.fsfs_revision.specs.Shows.IdRules.{IsOf, IsChild, root_after}
 use Rattle.fsfs_revision.proofs.TreeLaw.{child_home, stands_home, root_le}
 use Rattle.fsfs_revision.proofs.Walks.{child_stands}
-use Rattle.fsfs_revision.specs.CopyRoots.{later_root, IsRootedAt}
-use Rattle.fsfs_revision.specs.Trees.{ShowTrees}
+use Rattle.fsfs_revision.specs.Ancestry.CopyRoots.{later_root, IsRootedAt}
+use Rattle.fsfs_revision.specs.Ancestry.Trees.{ShowTrees}
 use Rattle.fsfs_revision.proofs.Roots.{is_less, is_not_less, rooted_child, later_by, IsCounted, self_counted, later_counted}
 use Rattle.fsfs_revision.proofs.Standing.{for_each}
 use Rattle.fsfs_revision.proofs.Earlier.{pred_same, no_pred, root_there, root_of_id, is_child, pred_dir, stands_of_id, earlier}

@@ -5,10 +5,10 @@ use Rattle.fsfs_base.specs.Paths.{PathName, Path}
 use Rattle.fsfs_base.specs.declared.kind.Kind.TheVariants.{Dir}
 use Rattle.fsfs_revision.specs.Told.{RevisionBytes}
 use Rattle.fsfs_noderev.specs.declared.node_rev.NodeRev.{NodeRev}
-use Rattle.fsfs_revision.specs.ShowsReading.{ChildOf, StandsAt}
-use Rattle.fsfs_revision.specs.Chains.{copy_root_of}
+use Rattle.fsfs_revision.specs.Shows.Reading.{ChildOf, StandsAt}
+use Rattle.fsfs_revision.specs.Shows.Chains.{copy_root_of}
 use Rattle.fsfs_revision.proofs.Walks.{child_stands}
-use Rattle.fsfs_revision.specs.CopyRoots.{later_root, IsRootedFrom, IsRootedAt}
+use Rattle.fsfs_revision.specs.Ancestry.CopyRoots.{later_root, IsRootedFrom, IsRootedAt}
 use Rattle.fsfs_revision.proofs.Roots.{stands_rooted}
 
 module _ (look : RevisionBytes) (r : ℕ) (Q : Path → NodeRev → Type 0)

@@ -4,9 +4,9 @@ use Rattle.std.specs.Prelude.{Result, Ok, Err, ◌==◌, false, IfSome}
 use Rattle.std.proofs.lemmas.List.{length-append, length-drop, length-take, take-append-drop, drop-append-le, take_all}
 use Rattle.std.proofs.lemmas.Fmt.{length-decimal-le}
 use Rattle.std.specs.Fmt.{decimal}
-use Rattle.fsfs_base.specs.Grammar.{Then, IsText, Mapped, Appends}
-use Rattle.fsfs_base.specs.Numeral.{IsNumber, IsNumeral}
-use Rattle.fsfs_base.specs.Cuts.{Lacks}
+use Rattle.fsfs_base.specs.Grammar.Relations.{Then, IsText, Mapped, Appends}
+use Rattle.fsfs_base.specs.Grammar.Numeral.{IsNumber, IsNumeral}
+use Rattle.fsfs_base.specs.Grammar.Cuts.{Lacks}
 use Rattle.fsfs_base.proofs.Readers.{ReadsAll, next_reads, mapped_reads, whole_reads, text_reads, all_found, all_again, ok_is}
 use Rattle.fsfs_base.proofs.Numerals.{number_reads}
 use Rattle.fsfs_base.proofs.Spelling.{plain_lacks}

@@ -17,13 +17,13 @@ use Rattle.fsfs_noderev.specs.declared.rep.Contents.TheVariants as contents
 use Rattle.fsfs_noderev.specs.declared.node_rev.CopyRoot.{CopyRoot}
 use Rattle.fsfs_noderev.specs.declared.node_rev.NodeRev.{NodeRev}
 use Rattle.fsfs_revision.specs.Nodes.{place_before, pred_before, rep_place_before, rep_before, source_before, rev_not_after, root_not_after, is_ordered, is_own_place, is_directory}
-use Rattle.fsfs_revision.specs.DamageDamages.{place_of}
+use Rattle.fsfs_revision.specs.Damage.Damages.{place_of}
 use Rattle.fsfs_revision.specs.declared.damage.RevOffset.{RevOffset}
 use Rattle.fsfs_revision.specs.declared.wrong.Wrong.{Wrong}
-use Rattle.fsfs_revision.specs.ShowsReading.{offset_of, RootOf, OfId, OfNamed, Pairs, DirEntry, AreEntries, EntriesAt, EntriesOf, OfContents, named, ChildOf, Met, Stands, Lacking, Blocked, OrLacking, InDirectory, MetFrom, MetAt, StandsAt}
-use Rattle.fsfs_revision.specs.Chains.{own_rev, Chain, First, Breaks, Goes, root_or_own, contents_rev}
-use Rattle.fsfs_revision.specs.Shown.{IsShown, IsShownAs, Shows}
-use Rattle.fsfs_revision.specs.TreeLaw.{IsSound}
+use Rattle.fsfs_revision.specs.Shows.Reading.{offset_of, RootOf, OfId, OfNamed, Pairs, DirEntry, AreEntries, EntriesAt, EntriesOf, OfContents, named, ChildOf, Met, Stands, Lacking, Blocked, OrLacking, InDirectory, MetFrom, MetAt, StandsAt}
+use Rattle.fsfs_revision.specs.Shows.Chains.{own_rev, Chain, First, Breaks, Goes, root_or_own, contents_rev}
+use Rattle.fsfs_revision.specs.Shows.Shown.{IsShown, IsShownAs, Shows}
+use Rattle.fsfs_revision.specs.Shows.TreeLaw.{IsSound}
 use Rattle.fsfs_revision.proofs.OneAnswer.{ok_same}
 use Rattle.fsfs_revision.proofs.OneWalk.{met_same}
 

@@ -8,8 +8,8 @@ use Rattle.fsfs_base.specs.declared.kind.Kind.TheVariants.{File, Dir}
 use Rattle.fsfs_revision.specs.Told.{RevisionBytes}
 use Rattle.fsfs_noderev.specs.declared.node_rev.NodeRev.{NodeRev}
 use Rattle.fsfs_revision.specs.declared.wrong.Wrong.{Wrong}
-use Rattle.fsfs_revision.specs.ShowsReading.{ChildOf, Met, Stands, OrLacking, InDirectory, MetFrom, MetAt, StandsAt}
-use Rattle.fsfs_revision.specs.Damaged.{FirstDamage, AtRoot, Below}
+use Rattle.fsfs_revision.specs.Shows.Reading.{ChildOf, Met, Stands, OrLacking, InDirectory, MetFrom, MetAt, StandsAt}
+use Rattle.fsfs_revision.specs.Shows.Damaged.{FirstDamage, AtRoot, Below}
 
 -- one step down, and what comes of it
 behind_child : (depth : ℕ) (R : Result (Option NodeRev) Wrong → Type 0) (S T : NodeRev → Result Met Wrong → Type 0) (v : NodeRev) (o : Option NodeRev) (r : Result Met Wrong)

@@ -4,8 +4,8 @@ use Rattle.fsfs_revision.specs.declared.wrong.Refusal.{Refusal}
 use Rattle.fsfs_revision.specs.Told.{Telling, Keeps}
 use Rattle.fsfs_noderev.specs.declared.rep.Rep.{Rep}
 use Rattle.fsfs_revision.specs.declared.wrong.ReadError.{ReadError}
-use Rattle.fsfs_revision.specs.Faults.{IsAbout}
-use Rattle.fsfs_revision.specs.Frames.{rev_of, text_of, IsWhole, IsFaultOf}
+use Rattle.fsfs_revision.specs.Rep.Faults.{IsAbout}
+use Rattle.fsfs_revision.specs.Rep.Frames.{rev_of, text_of, IsWhole, IsFaultOf}
 use Rattle.fsfs_revision.proofs.ReadingLemmas.{take_more_of}
 
 -- what is told of a representation's revision, later

@@ -1,6 +1,6 @@
 -- How many bytes a list of pairs takes at most, as of properties or of the entries of a directory.
 use Rattle.std.specs.Prelude.{◌+◌, ℕ, List, length, sum_by}
-use Rattle.fsfs_revision.specs.ShowsReading.{Pairs, DirEntry}
+use Rattle.fsfs_revision.specs.Shows.Reading.{Pairs, DirEntry}
 
 -- how many bytes a pair has at most in a dump, where its lengths are numbers of 64 bits
 abbrev pub pair_room : List ℕ × List ℕ → ℕ

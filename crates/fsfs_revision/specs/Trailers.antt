@@ -1,8 +1,8 @@
 -- The trailer of a revision: `\n<root offset> <changes offset>\n`.
 use Rattle.std.specs.Prelude.{◌≡◌, ◌≤◌, ◌<◌, ◌+◌, ℕ, List, [], ◌∷◌, ◌++◌, length, Result, Ok}
-use Rattle.fsfs_base.specs.Grammar.{Then, IsText, Mapped}
-use Rattle.fsfs_base.specs.Numeral.{IsNumber, number_at}
-use Rattle.fsfs_base.specs.Reading.{◌>>=◌, text_at, whole}
+use Rattle.fsfs_base.specs.Grammar.Relations.{Then, IsText, Mapped}
+use Rattle.fsfs_base.specs.Grammar.Numeral.{IsNumber, number_at}
+use Rattle.fsfs_base.specs.Grammar.Reading.{◌>>=◌, text_at, whole}
 use Rattle.fsfs_revision.specs.declared.trailer.Trailer.{Trailer}
 
 -- an offset, and the byte that ends it

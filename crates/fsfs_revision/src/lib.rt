@@ -27,45 +27,36 @@
 //! those trees are the trees of a history.
 #![tactic(auto)]
 
-mod ancestry_laws;
 mod book;
 mod damage;
-mod digester;
-mod digests;
-mod frame;
-mod header;
 mod laws;
 mod mem_book;
 mod node;
-mod place;
-mod rep_reader;
+mod rep;
 mod root;
 mod section;
-mod shows_laws;
 mod trailer;
-mod whole;
-mod windows;
 mod wrong;
 
-pub use ancestry_laws::{
-    later_bytes_change_nothing, predecessors_are_earlier, shown_trees_are_a_history,
-};
 pub use book::{Book, BookFault};
 pub use damage::{Damage, DamageKind, RepWhat, RevOffset};
-pub use digester::Digester;
-pub use frame::{ENDREP_LEN, PLAIN_LEN};
-pub use laws::revisions_are_found_by_grammar;
-pub use mem_book::{MemBook, MemFile, MemRev};
-pub use node::{is_before, is_revision_id, own_rev, read_node_at};
-pub use place::{bad_rep, rep_place};
-pub use rep_reader::RepReader;
-pub use root::{as_root, read_root};
-pub use section::Section;
-pub use shows_laws::{
+pub use laws::ancestry::{
+    later_bytes_change_nothing, predecessors_are_earlier, shown_trees_are_a_history,
+};
+pub use laws::places::revisions_are_found_by_grammar;
+pub use laws::shows::{
     damage_is_the_first, one_tree_is_shown, readings_answer_by_the_tree, readings_have_one_answer,
     shown_trees_are_sound, the_first_revision_shows_its_root,
 };
+pub use mem_book::{MemBook, MemFile, MemRev};
+pub use node::{is_before, is_revision_id, own_rev, read_node_at};
+pub use rep::digester::Digester;
+pub use rep::frame::{ENDREP_LEN, PLAIN_LEN};
+pub use rep::place::{bad_rep, rep_place};
+pub use rep::rep_reader::RepReader;
+pub use rep::whole::read_rep_bytes;
+pub use rep::windows::window;
+pub use root::{as_root, read_root};
+pub use section::Section;
 pub use trailer::{TRAILER_LIMIT, Trailer, put_trailer, read_tail, read_trailer};
-pub use whole::read_rep_bytes;
-pub use windows::window;
 pub use wrong::{ReadError, Refusal, Wrong};

@@ -2,7 +2,7 @@
 ghost use Rattle.std.specs.Prelude.{◌≡◌, ◌<◌, ◌≤◌, ◌+◌, ◌↔◌, Ok, Err, IsTrue, IsErr, IfOk, IfErr, OnErr, MatchResult, vec_len, length, take};
 ghost use Rattle.fsfs_base.specs.Counts.{Rose};
 ghost use Rattle.fsfs_base.specs.Faults.{fails_next};
-ghost use Rattle.fsfs_base.specs.RevNums.{last_rev};
+ghost use Rattle.fsfs_base.specs.Fields.RevNums.{last_rev};
 ghost use Rattle.fsfs_revision.specs.declared.book.BookFault.TheVariants.{Short, DiskFault};
 ghost use Rattle.fsfs_revision.specs.Told.{Gives, part_read, IsRefusalOf};
 ghost use Rattle.fsfs_revision.specs.MemBook.{bytes_in, props_in, read_of};

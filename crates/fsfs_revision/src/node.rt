@@ -1,9 +1,9 @@
 //! A node-revision that stands in a revision.
 ghost use Rattle.std.specs.Prelude.{◌≡◌, true, IfOk};
 ghost use Rattle.fsfs_revision.specs.Nodes.{is_lasting_part, is_revision_place, is_revision_id, is_some_rev, has_revision_pred, has_revision_rep, has_revision_root, is_of_revision, is_before as before, place_before, pred_before, rep_place_before, rep_before, source_before, rev_not_after, root_not_after, is_ordered};
-ghost use Rattle.fsfs_revision.specs.Causes.{IsQuiet};
-ghost use Rattle.fsfs_revision.specs.Chains.{own_rev};
-ghost use Rattle.fsfs_revision.specs.Readings.{Answers};
+ghost use Rattle.fsfs_revision.specs.Damage.Causes.{IsQuiet};
+ghost use Rattle.fsfs_revision.specs.Shows.Chains.{own_rev};
+ghost use Rattle.fsfs_revision.specs.Damage.Readings.{Answers};
 ghost use Rattle.fsfs_revision.specs.Damages.{NodeIn};
 
 use crate::{DamageKind, ReadError, RevOffset};

@@ -1,7 +1,7 @@
 //! The root of a revision.
 ghost use Rattle.std.specs.Prelude.{◌≡◌, ◌≤◌, ◌+◌, ◌-◌, ◌^◌, ◌<◌, ℕ, length, drop};
-ghost use Rattle.fsfs_revision.specs.Causes.{IsQuiet};
-ghost use Rattle.fsfs_revision.specs.Readings.{Answers};
+ghost use Rattle.fsfs_revision.specs.Damage.Causes.{IsQuiet};
+ghost use Rattle.fsfs_revision.specs.Damage.Readings.{Answers};
 ghost use Rattle.fsfs_revision.specs.Nodes.{is_own_place as own_place};
 ghost use Rattle.fsfs_revision.specs.Damages.{AsRoot, RootIn};
 

@@ -1,7 +1,7 @@
 //! The trailer that ends a revision.
 ghost use Rattle.std.specs.Prelude.{◌≡◌, ◌≤◌, ◌<◌, ◌+◌, ◌^◌, length, IfSome, Some, OnOk};
-ghost use Rattle.fsfs_base.specs.Grammar.{Appends};
-ghost use Rattle.fsfs_base.specs.Reading.{Gives};
+ghost use Rattle.fsfs_base.specs.Grammar.Relations.{Appends};
+ghost use Rattle.fsfs_base.specs.Grammar.Reading.{Gives};
 ghost use Rattle.fsfs_revision.specs.Trailers.{IsTrailer, EndsWith, trailer_at};
 ghost use Rattle.fsfs_revision.specs.declared.trailer.Trailer.{Trailer};
 

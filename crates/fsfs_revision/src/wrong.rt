@@ -1,6 +1,6 @@
 //! What is wrong with the bytes of revisions, and why nothing was read.
 ghost use Rattle.std.specs.Prelude.{◌≡◌};
-ghost use Rattle.fsfs_revision.specs.DamageDamages.{damaged};
+ghost use Rattle.fsfs_revision.specs.Damage.Damages.{damaged};
 ghost use Rattle.fsfs_revision.specs.declared.wrong.ReadError.TheVariants.{Wrong as IsWrong};
 
 use crate::damage::{Damage, DamageKind, RevOffset};

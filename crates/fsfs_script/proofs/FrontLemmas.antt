@@ -2,7 +2,7 @@
 use Rattle.std.proofs.Common.{◌≡◌, ◌≤◌, ◌+◌, ℕ, List, [], ◌∷◌, ◌++◌, length, take, drop, Option, Some, None, sym, ap, subst, ◌∙◌, append_assoc, arith}
 use Rattle.std.proofs.lemmas.List.{append-nil, length-append, take_all, drop_all}
 use Rattle.std.specs.Prelude.{Err}
-use Rattle.fsfs_base.specs.Cuts.{Lacks, cut}
+use Rattle.fsfs_base.specs.Grammar.Cuts.{Lacks, cut}
 use Rattle.fsfs_base.proofs.CutLemmas.{cut_found, cut_none}
 use Rattle.fsfs_script.specs.Places.{Place, newlines, passed, place_of}
 use Rattle.fsfs_script.specs.Reading.{line_at, Reads, Grows, IsTooMuch, IsFrontStop, EndsLine, GrowsLine}

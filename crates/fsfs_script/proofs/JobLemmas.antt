@@ -3,12 +3,12 @@ use Rattle.std.proofs.lemmas.Bool.{ltb-true, ltb-false}
 use Rattle.std.proofs.lemmas.List.{nil_from_length}
 use Rattle.std.proofs.Common.{◌≡◌, ◌<◌, length, true, false, arith, ℕ, List, [], ◌∷◌, ◌++◌, Option, Some, None, refl, sym, ap, subst, ◌∙◌, inl, inr}
 use Rattle.std.specs.Prelude.{Ok, Err, Bool}
-use Rattle.fsfs_script.specs.declared.job.Base.{Base}
-use Rattle.fsfs_script.specs.declared.job.CommitJob.{CommitJob}
-use Rattle.fsfs_script.specs.declared.job_lines_lines.OpeningLine.{OpeningLine}
-use Rattle.fsfs_script.specs.declared.refusal.Refusal.{Refusal}
-use Rattle.fsfs_script.specs.declared.refusal.Refusal.TheVariants as refusals
-use Rattle.fsfs_script.specs.declared.verbs.Stage.{Stage}
+use Rattle.fsfs_script.specs.declared.job_lines.job.Base.{Base}
+use Rattle.fsfs_script.specs.declared.job_lines.job.CommitJob.{CommitJob}
+use Rattle.fsfs_script.specs.declared.job_lines.lines.OpeningLine.{OpeningLine}
+use Rattle.fsfs_script.specs.declared.job_lines.refusal.Refusal.{Refusal}
+use Rattle.fsfs_script.specs.declared.job_lines.refusal.Refusal.TheVariants as refusals
+use Rattle.fsfs_script.specs.declared.job_lines.verbs.Stage.{Stage}
 use Rattle.fsfs_script.specs.Places.{Place, place_of, behind_empty_lines}
 use Rattle.fsfs_script.specs.Errors.{error_at, error_from}
 use Rattle.fsfs_script.specs.Reading.{Reads, skipped_at}
@@ -23,9 +23,9 @@ use Rattle.fsfs_script.specs.declared.script_error.ScriptError.{ScriptError}
 use Rattle.fsfs_script.proofs.PlaceLemmas.{told_parts}
 use Rattle.fsfs_script.proofs.ReadLemmas.{pair_is}
 use Rattle.fsfs_script.specs.declared.script_error.ScriptError.TheVariants as errors
-use Rattle.fsfs_script.specs.declared.job.Job.{Job}
-use Rattle.fsfs_script.specs.declared.job.Job.TheVariants as jobs
-use Rattle.fsfs_script.specs.declared.job_lines_lines.OpeningLine.TheVariants as openings
+use Rattle.fsfs_script.specs.declared.job_lines.job.Job.{Job}
+use Rattle.fsfs_script.specs.declared.job_lines.job.Job.TheVariants as jobs
+use Rattle.fsfs_script.specs.declared.job_lines.lines.OpeningLine.TheVariants as openings
 
 pub is_error : (P : ScriptError → Type 0) (line : ℕ) (refusal : Refusal) → P (error_at line refusal) → IsError P (error_at line refusal)
 is_error P line (refusals.Bad why) p = p

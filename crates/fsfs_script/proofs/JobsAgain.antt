@@ -2,20 +2,20 @@
 use Rattle.std.proofs.Common.{◌≡◌, ◌≢◌, ◌+◌, ℕ, false, List, [], ◌∷◌, ◌++◌, length, take, drop, Option, Some, None, refl, sym, ap, subst, ◌∙◌, append_assoc, arith}
 use Rattle.std.specs.Prelude.{Result, Ok, codes}
 use Rattle.fsfs_base.specs.Paths.{Path, path_text}
-use Rattle.fsfs_script.specs.Lines.{command_line_at, opening_line_at, to_line_at}
-use Rattle.fsfs_script.specs.Texts.{CanEdit, CanSay, CanValue, MayStand, edit_text, said_text, opening_text}
-use Rattle.fsfs_script.specs.declared.edit.Edit.{Edit}
-use Rattle.fsfs_script.specs.declared.edit.Edit.TheVariants as edits
-use Rattle.fsfs_script.specs.declared.job.CommitJob.{CommitJob}
-use Rattle.fsfs_script.specs.declared.job.Step.{Step}
-use Rattle.fsfs_script.specs.declared.job.Job.{Job}
-use Rattle.fsfs_script.specs.declared.job.Job.TheVariants as jobs
-use Rattle.fsfs_script.specs.declared.job_lines_lines.CommandLine.{CommandLine}
-use Rattle.fsfs_script.specs.declared.job_lines_lines.CommandLine.TheVariants as says
-use Rattle.fsfs_script.specs.declared.job_lines_lines.OpeningLine.TheVariants as openings
-use Rattle.fsfs_script.specs.declared.refusal.Refusal.{Refusal}
-use Rattle.fsfs_script.specs.declared.verbs.Stage.{Stage}
-use Rattle.fsfs_script.specs.declared.verbs.Stage.TheVariants.{AfterJob, AfterAuthor, InEdits}
+use Rattle.fsfs_script.specs.JobLines.Lines.{command_line_at, opening_line_at, to_line_at}
+use Rattle.fsfs_script.specs.JobLines.Texts.{CanEdit, CanSay, CanValue, MayStand, edit_text, said_text, opening_text}
+use Rattle.fsfs_script.specs.declared.job_lines.edit.Edit.{Edit}
+use Rattle.fsfs_script.specs.declared.job_lines.edit.Edit.TheVariants as edits
+use Rattle.fsfs_script.specs.declared.job_lines.job.CommitJob.{CommitJob}
+use Rattle.fsfs_script.specs.declared.job_lines.job.Step.{Step}
+use Rattle.fsfs_script.specs.declared.job_lines.job.Job.{Job}
+use Rattle.fsfs_script.specs.declared.job_lines.job.Job.TheVariants as jobs
+use Rattle.fsfs_script.specs.declared.job_lines.lines.CommandLine.{CommandLine}
+use Rattle.fsfs_script.specs.declared.job_lines.lines.CommandLine.TheVariants as says
+use Rattle.fsfs_script.specs.declared.job_lines.lines.OpeningLine.TheVariants as openings
+use Rattle.fsfs_script.specs.declared.job_lines.refusal.Refusal.{Refusal}
+use Rattle.fsfs_script.specs.declared.job_lines.verbs.Stage.{Stage}
+use Rattle.fsfs_script.specs.declared.job_lines.verbs.Stage.TheVariants.{AfterJob, AfterAuthor, InEdits}
 use Rattle.fsfs_script.proofs.LinesAgain.{line_again as said_again}
 use Rattle.fsfs_script.proofs.OpeningTexts.{opening_again, to_again}
 use Rattle.fsfs_script.proofs.LineSizes.{IsWithin, said_within, opening_within, to_within}

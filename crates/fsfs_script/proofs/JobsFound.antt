@@ -2,21 +2,21 @@
 use Rattle.std.proofs.Common.{◌≡◌, ◌+◌, ℕ, Bool, true, false, List, [], ◌∷◌, ◌++◌, Option, Some, None, refl, sym, ap, subst, ◌∙◌, append_assoc, arith}
 use Rattle.std.proofs.lemmas.List.{append-nil}
 use Rattle.std.specs.Prelude.{Result, Ok, Err, codes}
-use Rattle.fsfs_script.specs.Judging.{◌>>=◌, or_refusal}
-use Rattle.fsfs_script.specs.Lines.{opening_line_at, if_room}
-use Rattle.fsfs_script.specs.Verbs.{opening_named}
-use Rattle.fsfs_script.specs.Words.{checked, split}
-use Rattle.fsfs_script.specs.Texts.{CanValue, edit_text, opening_text}
-use Rattle.fsfs_script.specs.declared.job.CommitJob.{CommitJob}
-use Rattle.fsfs_script.specs.declared.job.Step.{Step}
-use Rattle.fsfs_script.specs.declared.job.Job.{Job}
-use Rattle.fsfs_script.specs.declared.job.Job.TheVariants as jobs
-use Rattle.fsfs_script.specs.declared.job_lines_lines.OpeningLine.{OpeningLine}
-use Rattle.fsfs_script.specs.declared.job_lines_lines.OpeningLine.TheVariants as openings
-use Rattle.fsfs_script.specs.declared.refusal.Refusal.{Refusal}
-use Rattle.fsfs_script.specs.declared.refusal.Refusal.TheVariants.{Bad, TooManyJobs}
-use Rattle.fsfs_script.specs.declared.refusal.Why.TheVariants as why
-use Rattle.fsfs_script.specs.declared.verbs.Stage.TheVariants.{AfterJob, AfterAuthor, InEdits}
+use Rattle.fsfs_script.specs.JobLines.Judging.{◌>>=◌, or_refusal}
+use Rattle.fsfs_script.specs.JobLines.Lines.{opening_line_at, if_room}
+use Rattle.fsfs_script.specs.JobLines.Verbs.{opening_named}
+use Rattle.fsfs_script.specs.JobLines.Words.{checked, split}
+use Rattle.fsfs_script.specs.JobLines.Texts.{CanValue, edit_text, opening_text}
+use Rattle.fsfs_script.specs.declared.job_lines.job.CommitJob.{CommitJob}
+use Rattle.fsfs_script.specs.declared.job_lines.job.Step.{Step}
+use Rattle.fsfs_script.specs.declared.job_lines.job.Job.{Job}
+use Rattle.fsfs_script.specs.declared.job_lines.job.Job.TheVariants as jobs
+use Rattle.fsfs_script.specs.declared.job_lines.lines.OpeningLine.{OpeningLine}
+use Rattle.fsfs_script.specs.declared.job_lines.lines.OpeningLine.TheVariants as openings
+use Rattle.fsfs_script.specs.declared.job_lines.refusal.Refusal.{Refusal}
+use Rattle.fsfs_script.specs.declared.job_lines.refusal.Refusal.TheVariants.{Bad, TooManyJobs}
+use Rattle.fsfs_script.specs.declared.job_lines.refusal.Why.TheVariants as why
+use Rattle.fsfs_script.specs.declared.job_lines.verbs.Stage.TheVariants.{AfterJob, AfterAuthor, InEdits}
 use Rattle.fsfs_script.proofs.WordTexts.{bound}
 use Rattle.fsfs_script.proofs.OpeningTexts.{opening_found}
 use Rattle.fsfs_script.proofs.LineSizes.{opening_within}

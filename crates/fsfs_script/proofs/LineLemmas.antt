@@ -4,11 +4,11 @@ use Rattle.std.proofs.lemmas.List.{append-nil, length-append}
 use Rattle.std.proofs.lemmas.Bool.{lt-ltb, le-ltb}
 use Rattle.std.proofs.lemmas.Option.{some_pair_parts}
 use Rattle.std.specs.Prelude.{Ok, Err}
-use Rattle.fsfs_base.specs.Cuts.{Lacks, cut, cut_on}
+use Rattle.fsfs_base.specs.Grammar.Cuts.{Lacks, cut, cut_on}
 use Rattle.fsfs_base.proofs.CutLemmas.{cut_again, cut_lacking, lacks_from}
-use Rattle.fsfs_script.specs.declared.refusal.Refusal.{Refusal}
-use Rattle.fsfs_script.specs.declared.refusal.Refusal.TheVariants.{Bad}
-use Rattle.fsfs_script.specs.declared.refusal.Why.TheVariants as why
+use Rattle.fsfs_script.specs.declared.job_lines.refusal.Refusal.{Refusal}
+use Rattle.fsfs_script.specs.declared.job_lines.refusal.Refusal.TheVariants.{Bad}
+use Rattle.fsfs_script.specs.declared.job_lines.refusal.Why.TheVariants as why
 use Rattle.fsfs_script.specs.Places.{Place, newlines, place_of, Keeps, Passes, IsAtEnd}
 use Rattle.fsfs_script.specs.Reading.{line_at, line_on, Reads, EndsLine, GrowsLine, IsLong}
 use Rattle.fsfs_script.specs.declared.stop.Stop.TheVariants as stops

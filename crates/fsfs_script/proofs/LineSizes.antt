@@ -5,21 +5,21 @@ use Rattle.std.proofs.lemmas.List.{length-append}
 use Rattle.std.proofs.lemmas.Fmt.{length-decimal-le}
 use Rattle.std.specs.Prelude.{decimal, codes, nat_lt, nat_le}
 use Rattle.std.specs.List.{list_all}
-use Rattle.fsfs_base.specs.Cuts.{Lacks}
+use Rattle.fsfs_base.specs.Grammar.Cuts.{Lacks}
 use Rattle.fsfs_base.proofs.CutLemmas.{lacks_from}
 use Rattle.fsfs_base.proofs.PathTextLemmas.{path_text_line}
-use Rattle.fsfs_base.specs.PropNames.{IsPropName}
+use Rattle.fsfs_base.specs.Fields.PropNames.{IsPropName}
 use Rattle.fsfs_base.specs.Paths.{Path, path_text}
 use Rattle.fsfs_base.specs.PathTexts.{is_control}
-use Rattle.fsfs_script.specs.Parts.{is_author}
-use Rattle.fsfs_script.specs.Texts.{CanPath, CanAuthor, CanBase, CanSay, CanOpen, base_text, said_text, opening_text}
-use Rattle.fsfs_script.specs.declared.edit.Edit.TheVariants as edits
-use Rattle.fsfs_script.specs.declared.job.Base.{Base}
-use Rattle.fsfs_script.specs.declared.job.Base.TheVariants.{Youngest, Number}
-use Rattle.fsfs_script.specs.declared.job_lines_lines.CommandLine.{CommandLine}
-use Rattle.fsfs_script.specs.declared.job_lines_lines.CommandLine.TheVariants as says
-use Rattle.fsfs_script.specs.declared.job_lines_lines.OpeningLine.{OpeningLine}
-use Rattle.fsfs_script.specs.declared.job_lines_lines.OpeningLine.TheVariants as openings
+use Rattle.fsfs_script.specs.JobLines.Parts.{is_author}
+use Rattle.fsfs_script.specs.JobLines.Texts.{CanPath, CanAuthor, CanBase, CanSay, CanOpen, base_text, said_text, opening_text}
+use Rattle.fsfs_script.specs.declared.job_lines.edit.Edit.TheVariants as edits
+use Rattle.fsfs_script.specs.declared.job_lines.job.Base.{Base}
+use Rattle.fsfs_script.specs.declared.job_lines.job.Base.TheVariants.{Youngest, Number}
+use Rattle.fsfs_script.specs.declared.job_lines.lines.CommandLine.{CommandLine}
+use Rattle.fsfs_script.specs.declared.job_lines.lines.CommandLine.TheVariants as says
+use Rattle.fsfs_script.specs.declared.job_lines.lines.OpeningLine.{OpeningLine}
+use Rattle.fsfs_script.specs.declared.job_lines.lines.OpeningLine.TheVariants as openings
 use Rattle.fsfs_script.proofs.WordTexts.{decimal_lacks, name_lacks}
 use Rattle.fsfs_script.proofs.LinesAgain.{lacking}
 

@@ -8,24 +8,24 @@ use Rattle.std.proofs.lemmas.Str.Ascii.{IsAscii-from_all}
 use Rattle.std.specs.List.{list_all, All}
 use Rattle.std.specs.Str.{is_utf8}
 use Rattle.std.specs.Prelude.{Result, Ok, Err, decimal, codes}
-use Rattle.fsfs_base.specs.Cuts.{Lacks}
-use Rattle.fsfs_base.specs.PropNames.{IsPropName}
+use Rattle.fsfs_base.specs.Grammar.Cuts.{Lacks}
+use Rattle.fsfs_base.specs.Fields.PropNames.{IsPropName}
 use Rattle.fsfs_base.specs.Paths.{Path, path_text}
-use Rattle.fsfs_script.specs.Judging.{◌>>=◌, or_refusal}
-use Rattle.fsfs_script.specs.Words.{split, text_of, checked, end_at, number_at, length_at, path_at, name_at, author_at}
-use Rattle.fsfs_script.specs.Verbs.{edit_named, log_or_edit, command_named}
-use Rattle.fsfs_script.specs.Lines.{log_line_at, copy_line_at, put_line_at, set_line_at, remove_line_at, command_rest_at, command_line_at}
-use Rattle.fsfs_script.specs.Texts.{CanPath, CanAuthor, CanSay, MayStand, said_text}
-use Rattle.fsfs_script.specs.declared.edit.Edit.{Edit}
-use Rattle.fsfs_script.specs.declared.edit.Edit.TheVariants as edits
-use Rattle.fsfs_script.specs.declared.job_lines_lines.CommandLine.{CommandLine}
-use Rattle.fsfs_script.specs.declared.job_lines_lines.CommandLine.TheVariants as says
-use Rattle.fsfs_script.specs.declared.refusal.Refusal.{Refusal}
-use Rattle.fsfs_script.specs.declared.refusal.Refusal.TheVariants.{Bad, TextTooLong, PropTooLong}
-use Rattle.fsfs_script.specs.declared.verbs.Verb.{Verb}
-use Rattle.fsfs_script.specs.declared.verbs.Verb.TheVariants as verb
-use Rattle.fsfs_script.specs.declared.verbs.Stage.{Stage}
-use Rattle.fsfs_script.specs.declared.verbs.Stage.TheVariants.{AfterJob, AfterAuthor, InEdits}
+use Rattle.fsfs_script.specs.JobLines.Judging.{◌>>=◌, or_refusal}
+use Rattle.fsfs_script.specs.JobLines.Words.{split, text_of, checked, end_at, number_at, length_at, path_at, name_at, author_at}
+use Rattle.fsfs_script.specs.JobLines.Verbs.{edit_named, log_or_edit, command_named}
+use Rattle.fsfs_script.specs.JobLines.Lines.{log_line_at, copy_line_at, put_line_at, set_line_at, remove_line_at, command_rest_at, command_line_at}
+use Rattle.fsfs_script.specs.JobLines.Texts.{CanPath, CanAuthor, CanSay, MayStand, said_text}
+use Rattle.fsfs_script.specs.declared.job_lines.edit.Edit.{Edit}
+use Rattle.fsfs_script.specs.declared.job_lines.edit.Edit.TheVariants as edits
+use Rattle.fsfs_script.specs.declared.job_lines.lines.CommandLine.{CommandLine}
+use Rattle.fsfs_script.specs.declared.job_lines.lines.CommandLine.TheVariants as says
+use Rattle.fsfs_script.specs.declared.job_lines.refusal.Refusal.{Refusal}
+use Rattle.fsfs_script.specs.declared.job_lines.refusal.Refusal.TheVariants.{Bad, TextTooLong, PropTooLong}
+use Rattle.fsfs_script.specs.declared.job_lines.verbs.Verb.{Verb}
+use Rattle.fsfs_script.specs.declared.job_lines.verbs.Verb.TheVariants as verb
+use Rattle.fsfs_script.specs.declared.job_lines.verbs.Stage.{Stage}
+use Rattle.fsfs_script.specs.declared.job_lines.verbs.Stage.TheVariants.{AfterJob, AfterAuthor, InEdits}
 use Rattle.fsfs_script.proofs.WordTexts.{tail, split_last, split_more, number_again, length_again, path_at_again, name_at_again, name_lacks, decimal_lacks}
 use Rattle.fsfs_script.proofs.LineTexts.{verb_word}
 

@@ -5,11 +5,11 @@ use Rattle.std.specs.List.{AllByRecursion, list_all}
 use Rattle.std.proofs.lemmas.Str.{is_utf8-from_IsUtf8, IsUtf8-from_is_utf8}
 use Rattle.std.specs.Prelude.{Ok, Err}
 use Rattle.std.specs.Str.{is_utf8, IsUtf8}
-use Rattle.fsfs_script.specs.Words.{checked}
-use Rattle.fsfs_script.specs.declared.refusal.Refusal.TheVariants.{Bad}
-use Rattle.fsfs_script.specs.declared.refusal.Why.TheVariants as why
-use Rattle.fsfs_base.specs.PropNames.{begins_name, continues_name, IsPropName}
-use Rattle.fsfs_script.specs.Parts.{is_prop_name, name_of}
+use Rattle.fsfs_script.specs.JobLines.Words.{checked}
+use Rattle.fsfs_script.specs.declared.job_lines.refusal.Refusal.TheVariants.{Bad}
+use Rattle.fsfs_script.specs.declared.job_lines.refusal.Why.TheVariants as why
+use Rattle.fsfs_base.specs.Fields.PropNames.{begins_name, continues_name, IsPropName}
+use Rattle.fsfs_script.specs.JobLines.Parts.{is_prop_name, name_of}
 
 all_continue : (cs : List ℕ) → list_all continues_name cs ≡ true → AllByRecursion (λ d. continues_name d ≡ true) cs
 all_continue [] e = tt

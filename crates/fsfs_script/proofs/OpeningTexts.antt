@@ -5,23 +5,23 @@ use Rattle.std.proofs.lemmas.List.{append-nil}
 use Rattle.std.proofs.lemmas.Slice.Eq.{bytes_eq-Decides}
 use Rattle.std.specs.Str.{bytes_eq, is_utf8}
 use Rattle.std.specs.Prelude.{Result, Ok, Err, decimal, codes, option_map}
-use Rattle.fsfs_base.specs.Cuts.{Lacks}
+use Rattle.fsfs_base.specs.Grammar.Cuts.{Lacks}
 use Rattle.fsfs_base.specs.Paths.{Path, path_text}
-use Rattle.fsfs_script.specs.Judging.{◌>>=◌, or_refusal}
-use Rattle.fsfs_script.specs.Parts.{number_of, base_of}
-use Rattle.fsfs_script.specs.Words.{split, text_of, checked, end_at, base_at, path_at}
-use Rattle.fsfs_script.specs.Verbs.{opening_named}
-use Rattle.fsfs_script.specs.Lines.{job_line_at, read_line_at, opening_rest_at, if_room, opening_line_at, to_line_at}
-use Rattle.fsfs_script.specs.Texts.{CanPath, CanBase, CanOpen, base_text, opening_text}
-use Rattle.fsfs_script.specs.declared.job.Base.{Base}
-use Rattle.fsfs_script.specs.declared.job.Base.TheVariants.{Youngest, Number}
-use Rattle.fsfs_script.specs.declared.job_lines_lines.OpeningLine.{OpeningLine}
-use Rattle.fsfs_script.specs.declared.job_lines_lines.OpeningLine.TheVariants as says
-use Rattle.fsfs_script.specs.declared.refusal.Refusal.{Refusal}
-use Rattle.fsfs_script.specs.declared.refusal.Refusal.TheVariants.{Bad, TooManyJobs}
-use Rattle.fsfs_script.specs.declared.refusal.Why.TheVariants as why
-use Rattle.fsfs_script.specs.declared.verbs.OpeningVerb.{OpeningVerb}
-use Rattle.fsfs_script.specs.declared.verbs.OpeningVerb.TheVariants as verb
+use Rattle.fsfs_script.specs.JobLines.Judging.{◌>>=◌, or_refusal}
+use Rattle.fsfs_script.specs.JobLines.Parts.{number_of, base_of}
+use Rattle.fsfs_script.specs.JobLines.Words.{split, text_of, checked, end_at, base_at, path_at}
+use Rattle.fsfs_script.specs.JobLines.Verbs.{opening_named}
+use Rattle.fsfs_script.specs.JobLines.Lines.{job_line_at, read_line_at, opening_rest_at, if_room, opening_line_at, to_line_at}
+use Rattle.fsfs_script.specs.JobLines.Texts.{CanPath, CanBase, CanOpen, base_text, opening_text}
+use Rattle.fsfs_script.specs.declared.job_lines.job.Base.{Base}
+use Rattle.fsfs_script.specs.declared.job_lines.job.Base.TheVariants.{Youngest, Number}
+use Rattle.fsfs_script.specs.declared.job_lines.lines.OpeningLine.{OpeningLine}
+use Rattle.fsfs_script.specs.declared.job_lines.lines.OpeningLine.TheVariants as says
+use Rattle.fsfs_script.specs.declared.job_lines.refusal.Refusal.{Refusal}
+use Rattle.fsfs_script.specs.declared.job_lines.refusal.Refusal.TheVariants.{Bad, TooManyJobs}
+use Rattle.fsfs_script.specs.declared.job_lines.refusal.Why.TheVariants as why
+use Rattle.fsfs_script.specs.declared.job_lines.verbs.OpeningVerb.{OpeningVerb}
+use Rattle.fsfs_script.specs.declared.job_lines.verbs.OpeningVerb.TheVariants as verb
 use Rattle.fsfs_script.proofs.WordTexts.{bound, ok_is, some_of, taken, tail, split_found, split_last, split_more, rest_path, decimal_utf8, decimal_lacks, decimal_filled, path_at_again, longer, number_value, number_text, no_head}
 use Rattle.fsfs_script.proofs.LineTexts.{end_is, behind_space}
 use Rattle.fsfs_script.proofs.LinesAgain.{lacking, plain_utf8, split_tail}

@@ -5,9 +5,9 @@ use Rattle.std.proofs.lemmas.Bool.{eqb-true, eq-eqb, ltb-false, le-ltb}
 use Rattle.fsfs_base.specs.Paths.{Path, path_text}
 use Rattle.fsfs_base.specs.PathTexts.{IsPath}
 use Rattle.fsfs_base.specs.PathReading.{names_fault_at}
-use Rattle.fsfs_base.specs.declared.bad_path.BadPath.{BadPath}
+use Rattle.fsfs_base.specs.declared.paths.bad_path.BadPath.{BadPath}
 use Rattle.fsfs_base.proofs.PathTextLemmas.{pieces, join_reads, join_passes, joined_path, path_joined, root_only, absolute}
-use Rattle.fsfs_script.specs.Parts.{IsPathOf, unless_fault, names_of, path_of}
+use Rattle.fsfs_script.specs.JobLines.Parts.{IsPathOf, unless_fault, names_of, path_of}
 
 filled : (c : ℕ) (text : List ℕ) → (c ∷ text) ≢ []
 filled c text e = cc

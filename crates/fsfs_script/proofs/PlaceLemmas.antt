@@ -4,7 +4,7 @@ use Rattle.std.proofs.lemmas.Option.{same_Some}
 use Rattle.std.proofs.lemmas.List.{take-append-drop, length-take-le, length-drop, drop-take, drop-drop}
 use Rattle.std.proofs.lemmas.List.Sums.{sum_by-append}
 use Rattle.std.proofs.Common.{cond}
-use Rattle.fsfs_base.specs.Cuts.{Lacks}
+use Rattle.fsfs_base.specs.Grammar.Cuts.{Lacks}
 use Rattle.fsfs_base.specs.Streams.{Takes}
 use Rattle.fsfs_script.specs.Places.{Place, newlines, passed, place_of, Fills, Keeps, Passes, IsAtEnd}
 

@@ -1,10 +1,10 @@
 -- What is read in two steps.
 use Rattle.std.proofs.Common.{◌≡◌, ℕ, List, Option, Some, None, refl, sym, ap, subst}
 use Rattle.std.specs.Prelude.{Result, Ok, Err}
-use Rattle.fsfs_script.specs.Judging.{◌>>=◌, Fails}
-use Rattle.fsfs_script.specs.declared.refusal.Refusal.{Refusal}
-use Rattle.fsfs_script.specs.declared.refusal.LineError.{LineError}
-use Rattle.fsfs_script.specs.declared.refusal.LineError.TheVariants as lines
+use Rattle.fsfs_script.specs.JobLines.Judging.{◌>>=◌, Fails}
+use Rattle.fsfs_script.specs.declared.job_lines.refusal.Refusal.{Refusal}
+use Rattle.fsfs_script.specs.declared.job_lines.refusal.LineError.{LineError}
+use Rattle.fsfs_script.specs.declared.job_lines.refusal.LineError.TheVariants as lines
 use Rattle.fsfs_script.specs.Places.{Place}
 use Rattle.fsfs_script.specs.Errors.{stop_from}
 use Rattle.fsfs_script.specs.Reading.{line_at, Reads}

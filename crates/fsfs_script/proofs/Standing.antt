@@ -1,6 +1,6 @@
 -- Texts that stand at places, one behind another.
 use Rattle.std.proofs.Common.{◌≡◌, ◌+◌, ℕ, List, [], ◌∷◌, ◌++◌, refl, sym, ap, ◌∙◌, append_assoc, arith}
-use Rattle.fsfs_base.specs.Cuts.{Lacks}
+use Rattle.fsfs_base.specs.Grammar.Cuts.{Lacks}
 use Rattle.fsfs_script.specs.Places.{Place, newlines}
 use Rattle.fsfs_script.specs.JobTexts.{Stands}
 use Rattle.fsfs_script.proofs.PlaceLemmas.{newlines-append, newlines_lacking}

@@ -4,8 +4,8 @@ use Rattle.std.proofs.lemmas.List.{append-nil, drop_all}
 use Rattle.std.proofs.Math.Seq.{take-append_seam, drop-append_seam}
 use Rattle.std.proofs.lemmas.Bool.{lt-ltb, eq-eqb, ne_eqb}
 use Rattle.std.specs.Prelude.{Ok, Err}
-use Rattle.fsfs_script.specs.declared.refusal.Refusal.TheVariants.{Bad}
-use Rattle.fsfs_script.specs.declared.refusal.Why.TheVariants as why
+use Rattle.fsfs_script.specs.declared.job_lines.refusal.Refusal.TheVariants.{Bad}
+use Rattle.fsfs_script.specs.declared.job_lines.refusal.Why.TheVariants as why
 use Rattle.fsfs_script.specs.Places.{Place, newlines, passed, place_of, Keeps, Passes, IsAtEnd, behind_newlines, behind_empty_lines}
 use Rattle.fsfs_script.specs.Reading.{newline_at, newline_on, text_at, skipped_at, IsStop, Reads, TakesSome}
 use Rattle.fsfs_script.specs.declared.stop.Stop.{Stop}

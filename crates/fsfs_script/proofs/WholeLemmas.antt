@@ -2,7 +2,7 @@
 use Rattle.std.proofs.Common.{◌≡◌, ◌+◌, ◌-◌, ℕ, true, false, List, [], ◌∷◌, ◌++◌, length, Option, Some, None, refl, ap, subst, ◌∙◌, arith}
 use Rattle.std.proofs.lemmas.List.{length-append}
 use Rattle.std.specs.Prelude.{Ok, Err, ◌==◌}
-use Rattle.fsfs_script.specs.declared.job.Job.{Job}
+use Rattle.fsfs_script.specs.declared.job_lines.job.Job.{Job}
 use Rattle.fsfs_script.specs.Places.{Place, behind_empty_lines, place_of}
 use Rattle.fsfs_script.specs.Jobs.{HasJob, IsRefusedNext, ReadsNext}
 use Rattle.fsfs_script.specs.Scripts.{HasJobs, BreaksBehind, beginning}

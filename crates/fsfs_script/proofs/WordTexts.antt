@@ -11,22 +11,22 @@ use Rattle.std.proofs.lemmas.Fmt.{IsAscii-decimal}
 use Rattle.std.specs.Prelude.{Result, Ok, Err, decimal, codes}
 use Rattle.std.specs.List.{AllByRecursion, All}
 use Rattle.std.specs.Str.{is_utf8, IsAscii}
-use Rattle.fsfs_base.specs.Numeral.{digit, IsPlain, numeral_at}
-use Rattle.fsfs_base.specs.Cuts.{Lacks, cut}
+use Rattle.fsfs_base.specs.Grammar.Numeral.{digit, IsPlain, numeral_at}
+use Rattle.fsfs_base.specs.Grammar.Cuts.{Lacks, cut}
 use Rattle.fsfs_base.proofs.CutLemmas.{cut_again, cut_found, cut_lacking}
 use Rattle.fsfs_base.proofs.Numerals.{numeral_found, numeral_again}
 use Rattle.fsfs_base.proofs.Spelling.{plain_lacks}
 use Rattle.fsfs_base.proofs.Unique.{numeral_decimal, decimal_plain}
-use Rattle.fsfs_base.specs.PropNames.{begins_name, continues_name, IsPropName}
+use Rattle.fsfs_base.specs.Fields.PropNames.{begins_name, continues_name, IsPropName}
 use Rattle.fsfs_base.specs.Paths.{Path, path_text}
 use Rattle.fsfs_base.proofs.PathTextLemmas.{absolute}
-use Rattle.fsfs_script.specs.Judging.{◌>>=◌, or_refusal}
-use Rattle.fsfs_script.specs.Parts.{number_of, path_of, is_prop_name, name_of, is_author}
-use Rattle.fsfs_script.specs.Words.{split, split_on, text_of, checked, number_at, length_at, path_at, name_at, author_at}
-use Rattle.fsfs_script.specs.Texts.{CanPath, CanAuthor}
-use Rattle.fsfs_script.specs.declared.refusal.Refusal.{Refusal}
-use Rattle.fsfs_script.specs.declared.refusal.Refusal.TheVariants.{Bad}
-use Rattle.fsfs_script.specs.declared.refusal.Why.TheVariants as why
+use Rattle.fsfs_script.specs.JobLines.Judging.{◌>>=◌, or_refusal}
+use Rattle.fsfs_script.specs.JobLines.Parts.{number_of, path_of, is_prop_name, name_of, is_author}
+use Rattle.fsfs_script.specs.JobLines.Words.{split, split_on, text_of, checked, number_at, length_at, path_at, name_at, author_at}
+use Rattle.fsfs_script.specs.JobLines.Texts.{CanPath, CanAuthor}
+use Rattle.fsfs_script.specs.declared.job_lines.refusal.Refusal.{Refusal}
+use Rattle.fsfs_script.specs.declared.job_lines.refusal.Refusal.TheVariants.{Bad}
+use Rattle.fsfs_script.specs.declared.job_lines.refusal.Why.TheVariants as why
 use Rattle.fsfs_script.proofs.PathReadings.{path_found, path_again}
 use Rattle.fsfs_script.proofs.NameReadings.{name_again, name_passes}
 

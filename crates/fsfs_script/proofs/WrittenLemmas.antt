@@ -4,22 +4,22 @@ use Rattle.std.proofs.lemmas.Bool.{eqb-true}
 use Rattle.std.proofs.lemmas.List.{take-append-drop, length-take-le, length-drop}
 use Rattle.std.specs.List.{list_all}
 use Rattle.std.specs.Prelude.{Result, Ok, Err, codes, decimal}
-use Rattle.fsfs_base.specs.Cuts.{Lacks, cut}
+use Rattle.fsfs_base.specs.Grammar.Cuts.{Lacks, cut}
 use Rattle.fsfs_base.proofs.CutLemmas.{cut_found}
 use Rattle.fsfs_base.specs.Paths.{path_text}
-use Rattle.fsfs_script.specs.Judging.{◌>>=◌}
-use Rattle.fsfs_script.specs.Lines.{command_line_at, to_line_at}
-use Rattle.fsfs_script.specs.Verbs.{command_named}
-use Rattle.fsfs_script.specs.Texts.{CanEdit, CanAuthor, CanSay, CanWhole, MayStand, edit_line, edit_body, edit_text, said_text}
-use Rattle.fsfs_script.specs.declared.edit.Edit.{Edit}
-use Rattle.fsfs_script.specs.declared.edit.Edit.TheVariants as edits
-use Rattle.fsfs_script.specs.declared.job_lines_lines.CommandLine.{CommandLine}
-use Rattle.fsfs_script.specs.declared.job_lines_lines.CommandLine.TheVariants as says
-use Rattle.fsfs_script.specs.declared.refusal.Refusal.{Refusal}
-use Rattle.fsfs_script.specs.declared.refusal.Refusal.TheVariants.{Bad}
-use Rattle.fsfs_script.specs.declared.refusal.Why.TheVariants as why
-use Rattle.fsfs_script.specs.declared.verbs.Stage.{Stage}
-use Rattle.fsfs_script.specs.declared.verbs.Stage.TheVariants.{AfterJob, AfterAuthor, InEdits}
+use Rattle.fsfs_script.specs.JobLines.Judging.{◌>>=◌}
+use Rattle.fsfs_script.specs.JobLines.Lines.{command_line_at, to_line_at}
+use Rattle.fsfs_script.specs.JobLines.Verbs.{command_named}
+use Rattle.fsfs_script.specs.JobLines.Texts.{CanEdit, CanAuthor, CanSay, CanWhole, MayStand, edit_line, edit_body, edit_text, said_text}
+use Rattle.fsfs_script.specs.declared.job_lines.edit.Edit.{Edit}
+use Rattle.fsfs_script.specs.declared.job_lines.edit.Edit.TheVariants as edits
+use Rattle.fsfs_script.specs.declared.job_lines.lines.CommandLine.{CommandLine}
+use Rattle.fsfs_script.specs.declared.job_lines.lines.CommandLine.TheVariants as says
+use Rattle.fsfs_script.specs.declared.job_lines.refusal.Refusal.{Refusal}
+use Rattle.fsfs_script.specs.declared.job_lines.refusal.Refusal.TheVariants.{Bad}
+use Rattle.fsfs_script.specs.declared.job_lines.refusal.Why.TheVariants as why
+use Rattle.fsfs_script.specs.declared.job_lines.verbs.Stage.{Stage}
+use Rattle.fsfs_script.specs.declared.job_lines.verbs.Stage.TheVariants.{AfterJob, AfterAuthor, InEdits}
 use Rattle.fsfs_script.proofs.WordTexts.{bound, tail}
 use Rattle.fsfs_script.proofs.LineTexts.{line_found as said_found}
 use Rattle.fsfs_script.proofs.LinesAgain.{lacking, plain_utf8, split_tail}

@@ -1,15 +1,15 @@
 -- The commands of a script at a place: what the first line says, and what belongs to it.
 use Rattle.std.specs.Prelude.{ℕ, List, Some, Result, Ok, Bool}
 use Rattle.fsfs_base.specs.Paths.{Path}
-use Rattle.fsfs_script.specs.Judging.{◌>>=◌}
-use Rattle.fsfs_script.specs.Lines.{opening_line_at, command_line_at, to_line_at}
-use Rattle.fsfs_script.specs.declared.edit.Edit.{Edit}
-use Rattle.fsfs_script.specs.declared.edit.Edit.TheVariants as edits
-use Rattle.fsfs_script.specs.declared.job_lines_lines.OpeningLine.{OpeningLine}
-use Rattle.fsfs_script.specs.declared.job_lines_lines.CommandLine.{CommandLine}
-use Rattle.fsfs_script.specs.declared.job_lines_lines.CommandLine.TheVariants as lines
-use Rattle.fsfs_script.specs.declared.refusal.Refusal.{Refusal}
-use Rattle.fsfs_script.specs.declared.verbs.Stage.{Stage}
+use Rattle.fsfs_script.specs.JobLines.Judging.{◌>>=◌}
+use Rattle.fsfs_script.specs.JobLines.Lines.{opening_line_at, command_line_at, to_line_at}
+use Rattle.fsfs_script.specs.declared.job_lines.edit.Edit.{Edit}
+use Rattle.fsfs_script.specs.declared.job_lines.edit.Edit.TheVariants as edits
+use Rattle.fsfs_script.specs.declared.job_lines.lines.OpeningLine.{OpeningLine}
+use Rattle.fsfs_script.specs.declared.job_lines.lines.CommandLine.{CommandLine}
+use Rattle.fsfs_script.specs.declared.job_lines.lines.CommandLine.TheVariants as lines
+use Rattle.fsfs_script.specs.declared.job_lines.refusal.Refusal.{Refusal}
+use Rattle.fsfs_script.specs.declared.job_lines.verbs.Stage.{Stage}
 use Rattle.fsfs_script.specs.Places.{Place}
 use Rattle.fsfs_script.specs.Reading.{line_at, text_at}
 use Rattle.fsfs_script.specs.declared.commands.Command.TheVariants as commands

@@ -1,9 +1,9 @@
 -- Why reading stops, as it is told.
 use Rattle.std.specs.Prelude.{ℕ}
-use Rattle.fsfs_script.specs.declared.refusal.Refusal.{Refusal}
-use Rattle.fsfs_script.specs.declared.refusal.Refusal.TheVariants as refusals
-use Rattle.fsfs_script.specs.declared.refusal.LineError.{LineError}
-use Rattle.fsfs_script.specs.declared.refusal.LineError.TheVariants as lines
+use Rattle.fsfs_script.specs.declared.job_lines.refusal.Refusal.{Refusal}
+use Rattle.fsfs_script.specs.declared.job_lines.refusal.Refusal.TheVariants as refusals
+use Rattle.fsfs_script.specs.declared.job_lines.refusal.LineError.{LineError}
+use Rattle.fsfs_script.specs.declared.job_lines.refusal.LineError.TheVariants as lines
 use Rattle.fsfs_script.specs.declared.stop.Stop.{Stop}
 use Rattle.fsfs_script.specs.declared.stop.Stop.TheVariants as stops
 use Rattle.fsfs_script.specs.declared.script_error.ScriptError.{ScriptError}

@@ -1,15 +1,15 @@
 -- Whole jobs: commands one after another from `job` to `commit`; and where the first is refused.
 use Rattle.std.specs.Prelude.{◌≡◌, ◌⊎◌, ℕ, ◌-◌, ◌<◌, List, [], ◌∷◌, ◌++◌, length, Option, Some, None, Result, Ok, Err, Bool}
-use Rattle.fsfs_script.specs.declared.job.Base.{Base}
-use Rattle.fsfs_script.specs.declared.job.CommitJob.{CommitJob}
-use Rattle.fsfs_script.specs.declared.job.ReadJob.{ReadJob}
-use Rattle.fsfs_script.specs.declared.job.Job.{Job}
-use Rattle.fsfs_script.specs.declared.job.Job.TheVariants as jobs
-use Rattle.fsfs_script.specs.declared.job_lines_lines.OpeningLine.{OpeningLine}
-use Rattle.fsfs_script.specs.declared.job_lines_lines.OpeningLine.TheVariants as openings
-use Rattle.fsfs_script.specs.declared.refusal.Refusal.{Refusal}
-use Rattle.fsfs_script.specs.declared.verbs.Stage.{Stage}
-use Rattle.fsfs_script.specs.declared.verbs.Stage.TheVariants.{AfterJob, AfterAuthor, InEdits}
+use Rattle.fsfs_script.specs.declared.job_lines.job.Base.{Base}
+use Rattle.fsfs_script.specs.declared.job_lines.job.CommitJob.{CommitJob}
+use Rattle.fsfs_script.specs.declared.job_lines.job.ReadJob.{ReadJob}
+use Rattle.fsfs_script.specs.declared.job_lines.job.Job.{Job}
+use Rattle.fsfs_script.specs.declared.job_lines.job.Job.TheVariants as jobs
+use Rattle.fsfs_script.specs.declared.job_lines.lines.OpeningLine.{OpeningLine}
+use Rattle.fsfs_script.specs.declared.job_lines.lines.OpeningLine.TheVariants as openings
+use Rattle.fsfs_script.specs.declared.job_lines.refusal.Refusal.{Refusal}
+use Rattle.fsfs_script.specs.declared.job_lines.verbs.Stage.{Stage}
+use Rattle.fsfs_script.specs.declared.job_lines.verbs.Stage.TheVariants.{AfterJob, AfterAuthor, InEdits}
 use Rattle.fsfs_script.specs.Places.{Place, behind_empty_lines}
 use Rattle.fsfs_script.specs.Errors.{error_at}
 use Rattle.fsfs_script.specs.Commands.{opening_at, next_at}

@@ -1,6 +1,6 @@
 -- Laws of scripts: what a place answers is decided, and jobs are read just as they are written.
 use Rattle.std.specs.Prelude.{◌≡◌, ℕ, List, [], Option, Some, None, Result, Ok, Err, Bool, false}
-use Rattle.fsfs_script.specs.declared.job.Job.{Job}
+use Rattle.fsfs_script.specs.declared.job_lines.job.Job.{Job}
 use Rattle.fsfs_script.specs.Places.{Place, behind_empty_lines}
 use Rattle.fsfs_script.specs.Jobs.{HasJob, IsRefusedNext}
 use Rattle.fsfs_script.specs.JobTexts.{IsWritten}

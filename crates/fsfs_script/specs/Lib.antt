@@ -1,10 +1,4 @@
-pub mod Judging
-pub mod Parts
-pub mod Words
-pub mod Verbs
-pub mod Lines
-pub mod Texts
-pub mod JobLinesLaws
+pub mod JobLines
 pub mod Places
 pub mod Errors
 pub mod Reading

@@ -1,10 +1,10 @@
 -- Lines and texts at a place, and what it means that a function read them.
 use Rattle.std.specs.Prelude.{◌≡◌, ℕ, ◌+◌, ◌<◌, ◌≤◌, List, [], ◌∷◌, ◌++◌, length, take, Option, Some, None, Result, Ok, Err, Bool, MatchBool, nat_lt, ◌==◌, if◌then◌else◌}
-use Rattle.fsfs_base.specs.Cuts.{Lacks, cut}
-use Rattle.fsfs_script.specs.Judging.{◌>>=◌}
-use Rattle.fsfs_script.specs.declared.refusal.Refusal.{Refusal}
-use Rattle.fsfs_script.specs.declared.refusal.Refusal.TheVariants.{Bad}
-use Rattle.fsfs_script.specs.declared.refusal.Why.TheVariants as why
+use Rattle.fsfs_base.specs.Grammar.Cuts.{Lacks, cut}
+use Rattle.fsfs_script.specs.JobLines.Judging.{◌>>=◌}
+use Rattle.fsfs_script.specs.declared.job_lines.refusal.Refusal.{Refusal}
+use Rattle.fsfs_script.specs.declared.job_lines.refusal.Refusal.TheVariants.{Bad}
+use Rattle.fsfs_script.specs.declared.job_lines.refusal.Why.TheVariants as why
 use Rattle.fsfs_script.specs.Places.{Place, passed, behind_empty_lines}
 use Rattle.fsfs_script.specs.declared.stop.Stop.{Stop}
 use Rattle.fsfs_script.specs.declared.stop.Stop.TheVariants as stops

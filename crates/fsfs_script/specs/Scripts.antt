@@ -1,7 +1,7 @@
 -- Whole scripts: jobs one after another, at most 4,096, up to the end or the first refusal; and how they are written.
 use Rattle.std.specs.Prelude.{◌≡◌, ◌≤◌, ◌==◌, ◌-◌, ℕ, List, [], ◌∷◌, length}
 use Rattle.std.specs.List.{AllByRecursion}
-use Rattle.fsfs_script.specs.declared.job.Job.{Job}
+use Rattle.fsfs_script.specs.declared.job_lines.job.Job.{Job}
 use Rattle.fsfs_script.specs.Places.{Place, behind_empty_lines}
 use Rattle.fsfs_script.specs.Jobs.{HasJob, IsRefusedNext}
 use Rattle.fsfs_script.specs.JobTexts.{Stands, IsWritten}

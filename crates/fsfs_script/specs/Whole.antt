@@ -1,6 +1,6 @@
 -- What reading a whole script answers.
 use Rattle.std.specs.Prelude.{◌≡◌, ℕ, List, [], Option, Some, None, Result, Ok, Err}
-use Rattle.fsfs_script.specs.declared.job.Job.{Job}
+use Rattle.fsfs_script.specs.declared.job_lines.job.Job.{Job}
 use Rattle.fsfs_script.specs.Jobs.{IsError}
 use Rattle.fsfs_script.specs.Laws.{IsOutcome}
 use Rattle.fsfs_script.specs.declared.script_error.ScriptError.{ScriptError}

@@ -4,29 +4,21 @@
 
 mod ahead;
 mod commands;
-mod edit;
-mod job;
-pub mod job_lines_laws;
-mod job_lines_lines;
+pub mod job_lines;
 mod jobs;
 pub mod laws;
 mod lines;
-mod parts;
-mod refusal;
 mod script;
 mod script_error;
 mod stop;
-mod texts;
-mod verbs;
 mod whole;
-mod words;
 
-pub use edit::{CopyFrom, Edit, PutText, SetProp};
-pub use job::{Base, CommitJob, Job, ReadJob, Step, Steps};
-pub use job_lines_lines::{CommandLine, OpeningLine, command_line, opening_line, to_line};
-pub use refusal::{LineError, Refusal, Why};
+pub use job_lines::edit::{CopyFrom, Edit, PutText, SetProp};
+pub use job_lines::job::{Base, CommitJob, Job, ReadJob, Step, Steps};
+pub use job_lines::lines::{CommandLine, OpeningLine, command_line, opening_line, to_line};
+pub use job_lines::refusal::{LineError, Refusal, Why};
+pub use job_lines::texts::{Author, Text};
+pub use job_lines::verbs::Stage;
 pub use script::Script;
 pub use script_error::{BadScript, ScriptError};
-pub use texts::{Author, Text};
-pub use verbs::Stage;
 pub use whole::{Jobs, read_script};

@@ -1,7 +1,7 @@
 //! Lines and texts of a source.
 ghost use Rattle.std.specs.Prelude.{◌≡◌, ◌<◌, ◌≤◌, length, IfOk, IfErr, OnOk};
 ghost use Rattle.fsfs_base.specs.Counts.{HasCause};
-ghost use Rattle.fsfs_script.specs.declared.refusal.Refusal.TheVariants.{Bad};
+ghost use Rattle.fsfs_script.specs.declared.job_lines.refusal.Refusal.TheVariants.{Bad};
 ghost use Rattle.fsfs_script.specs.declared.stop.Stop.TheVariants.{Refused};
 ghost use Rattle.fsfs_script.specs.Places.{place_of};
 ghost use Rattle.fsfs_script.specs.Errors.{IfRead};

@@ -20,7 +20,7 @@ pub struct Jobs {
 
 impl Model for Jobs {
     ghost use Rattle.std.specs.Prelude.{List};
-    ghost use Rattle.fsfs_script.specs.declared.job.Job.{Job};
+    ghost use Rattle.fsfs_script.specs.declared.job_lines.job.Job.{Job};
 
     ghost Value = { List Job };
 

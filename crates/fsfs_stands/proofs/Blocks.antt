@@ -14,8 +14,8 @@ use Rattle.fsfs_tree.specs.Trees.{IsTree}
 use Rattle.fsfs_base.specs.declared.kind.Kind.TheVariants.{File, Dir}
 use Rattle.fsfs_tree.proofs.TreeLemmas.{exact_paths}
 use Rattle.fsfs_base.proofs.PathLemmas.{same_name-refl, covers-refl, covers-antisym, covers-longer, split_at}
-use Rattle.fsfs_revision.specs.ShowsReading.{DirEntry, named}
-use Rattle.fsfs_revision.specs.ByTree.{IsEntryByTree}
+use Rattle.fsfs_revision.specs.Shows.Reading.{DirEntry, named}
+use Rattle.fsfs_revision.specs.Shows.ByTree.{IsEntryByTree}
 use Rattle.fsfs_base.proofs.TwoTests.{both_hold}
 use Rattle.fsfs_stands.proofs.SortedEntries.{all_append, IsBelow, below_is, sorted_append, find_append, keys_found}
 use Rattle.fsfs_stands.proofs.EntryNames.{NamesRise}

@@ -9,17 +9,17 @@ use Rattle.fsfs_noderev.specs.declared.node_id.NodeId.{NodeId}
 use Rattle.fsfs_noderev.specs.declared.node_rev.CopySource.{CopySource}
 use Rattle.fsfs_noderev.specs.declared.node_rev.NodeRev.{NodeRev}
 use Rattle.fsfs_revision.specs.declared.wrong.Wrong.{Wrong}
-use Rattle.fsfs_revision.specs.Readings.{HasOneAnswer, AndThen}
-use Rattle.fsfs_revision.specs.ShowsReading.{OfId, Met, Stands, Lacking, Blocked, MetAt, StandsAt}
-use Rattle.fsfs_revision.specs.Chains.{own_rev, IsPred, Chain, First, Breaks, Goes, copy_root_of}
-use Rattle.fsfs_revision.specs.Shown.{copied_from, source_by, IsOfCopy, IsSource, IsShown, IsShownAs}
+use Rattle.fsfs_revision.specs.Damage.Readings.{HasOneAnswer, AndThen}
+use Rattle.fsfs_revision.specs.Shows.Reading.{OfId, Met, Stands, Lacking, Blocked, MetAt, StandsAt}
+use Rattle.fsfs_revision.specs.Shows.Chains.{own_rev, IsPred, Chain, First, Breaks, Goes, copy_root_of}
+use Rattle.fsfs_revision.specs.Shows.Shown.{copied_from, source_by, IsOfCopy, IsSource, IsShown, IsShownAs}
 use Rattle.fsfs_revision.proofs.OneAnswer.{ok_same, ok_no_err}
 use Rattle.fsfs_revision.proofs.OneTree.{copied_same, near_same}
 use Rattle.fsfs_revision.proofs.OneWalk.{of_id_one, met_at_one}
 use Rattle.fsfs_revision.proofs.TreeLaw.{stands_home, chain_le, root_le}
-use Rattle.fsfs_revision.specs.CopyRoots.{IsRootedAt}
+use Rattle.fsfs_revision.specs.Ancestry.CopyRoots.{IsRootedAt}
 use Rattle.fsfs_stands.specs.Steps.{Point, IsPointIn, Nowhere, Back, Across, lead_by, IsBefore, OfSource, AcrossCopy, Leads, HistoryStep}
-use Rattle.fsfs_revision.specs.Trees.{ShowTrees}
+use Rattle.fsfs_revision.specs.Ancestry.Trees.{ShowTrees}
 use Rattle.fsfs_stands.specs.Laws.{IsAt, IsStepByTrees, StepsAreByTrees}
 use Rattle.fsfs_revision.proofs.Roots.{is_less, is_not_less, rooted_stands, IsLatest, rooted_latest}
 use Rattle.fsfs_revision.proofs.Earlier.{earlier}

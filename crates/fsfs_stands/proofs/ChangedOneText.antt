@@ -7,11 +7,11 @@ use Rattle.fsfs_base.specs.declared.kind.Kind.TheVariants.{File}
 use Rattle.fsfs_base.specs.declared.action.Action.{Action}
 use Rattle.fsfs_base.specs.declared.action.Action.TheVariants.{Add, Delete, Replace, Modify}
 use Rattle.fsfs_revision.specs.declared.wrong.Wrong.{Wrong}
-use Rattle.fsfs_revision.specs.Readings.{HasOneAnswer}
+use Rattle.fsfs_revision.specs.Damage.Readings.{HasOneAnswer}
 use Rattle.fsfs_revision.proofs.OneAnswer.{ok_same, ok_no_err, err_same, and_then_one}
 use Rattle.fsfs_revision.specs.Told.{RevisionBytes}
-use Rattle.fsfs_noderev.specs.declared.item.ChangeItem.{ChangeItem}
-use Rattle.fsfs_revision.specs.ShowsReading.{OfId, MetAt}
+use Rattle.fsfs_noderev.specs.declared.changes.item.ChangeItem.{ChangeItem}
+use Rattle.fsfs_revision.specs.Shows.Reading.{OfId, MetAt}
 use Rattle.fsfs_revision.proofs.OneWalk.{of_id_one, met_at_one}
 use Rattle.fsfs_stands.specs.declared.look_fault.LookFault.TheVariants as faults
 use Rattle.fsfs_stands.specs.Texts.{End, Refused, Stopped}

@@ -12,8 +12,8 @@ use Rattle.fsfs_noderev.specs.declared.rep.Contents.{Contents}
 use Rattle.fsfs_noderev.specs.declared.rep.Contents.TheVariants as contents
 use Rattle.fsfs_noderev.specs.declared.node_rev.NodeRev.{NodeRev}
 use Rattle.fsfs_revision.specs.declared.damage.RevOffset.{RevOffset}
-use Rattle.fsfs_layout.specs.Dump.{put, put_all}
-use Rattle.fsfs_revision.specs.ShowsReading.{Pairs, DirEntry, named, AreEntries, OfContents, EntriesAt, EntriesOf, offset_of}
+use Rattle.fsfs_layout.specs.Hash.Dump.{put, put_all}
+use Rattle.fsfs_revision.specs.Shows.Reading.{Pairs, DirEntry, named, AreEntries, OfContents, EntriesAt, EntriesOf, offset_of}
 use Rattle.fsfs_revision.proofs.OneAnswer.{ok_same}
 
 -- each name is before those behind it

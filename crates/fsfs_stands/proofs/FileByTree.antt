@@ -10,9 +10,9 @@ use Rattle.fsfs_tree.specs.Answers as answers
 use Rattle.fsfs_tree.specs.Answers.{Found, found_at}
 use Rattle.fsfs_noderev.specs.declared.node_rev.NodeRev.{NodeRev}
 use Rattle.fsfs_revision.specs.declared.wrong.Wrong.{Wrong}
-use Rattle.fsfs_revision.specs.ShowsReading.{Met, Stands, Lacking, Blocked, MetAt, StandsAt}
-use Rattle.fsfs_revision.specs.Shown.{Shows}
-use Rattle.fsfs_revision.specs.ByTree.{IsTextByTree}
+use Rattle.fsfs_revision.specs.Shows.Reading.{Met, Stands, Lacking, Blocked, MetAt, StandsAt}
+use Rattle.fsfs_revision.specs.Shows.Shown.{Shows}
+use Rattle.fsfs_revision.specs.Shows.ByTree.{IsTextByTree}
 use Rattle.fsfs_revision.proofs.ByTree.{by_tree}
 use Rattle.fsfs_stands.specs.declared.look_fault.LookFault.TheVariants as faults
 use Rattle.fsfs_stands.specs.Texts.{End, Whole, Refused, Stopped, Nothing}

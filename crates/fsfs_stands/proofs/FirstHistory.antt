@@ -4,8 +4,8 @@ use Rattle.std.specs.Prelude.{Option, Some, Ok, codes, slice_get, Contains}
 use Rattle.std.proofs.lemmas.Option.{same_Some}
 use Rattle.std.specs.FinMap.{get, empty, insert, get-empty, get-insert}
 use Rattle.jiff_core.specs.declared.civil.datetime.DateTime.{DateTime}
-use Rattle.fsfs_base.specs.Numeral.{IsNumber, numeral_at, plain_at}
-use Rattle.fsfs_base.specs.Dates.{IsDateText}
+use Rattle.fsfs_base.specs.Grammar.Numeral.{IsNumber, numeral_at, plain_at}
+use Rattle.fsfs_base.specs.Fields.Dates.{IsDateText}
 use Rattle.fsfs_base.specs.Paths.{Path, path_cmp, path_cmp_total}
 use Rattle.fsfs_tree.specs.Nodes.{Node, empty_node}
 use Rattle.fsfs_tree.specs.Revisions.{Revision}
@@ -13,12 +13,12 @@ use Rattle.fsfs_tree.specs.Dated.{date_name}
 use Rattle.fsfs_base.specs.declared.kind.Kind.TheVariants.{Dir}
 use Rattle.fsfs_tree.specs.declared.change_map.Change.{Change}
 use Rattle.fsfs_revision.specs.Told.{RevisionBytes}
-use Rattle.fsfs_layout.specs.Dump.{Field, Pair, IsDump}
+use Rattle.fsfs_layout.specs.Hash.Dump.{Field, Pair, IsDump}
 use Rattle.fsfs_noderev.proofs.RepTexts.{number_spells}
 use Rattle.fsfs_layout.specs.CreatedFiles.{date_properties}
-use Rattle.fsfs_revision.specs.Shown.{IsShownAs, Shows}
+use Rattle.fsfs_revision.specs.Shows.Shown.{IsShownAs, Shows}
 use Rattle.fsfs_base.specs.FirstRevision.{first_bytes}
-use Rattle.fsfs_revision.specs.FirstRevision.{first_tree}
+use Rattle.fsfs_revision.specs.Shows.FirstRevision.{first_tree}
 use Rattle.fsfs_revision.proofs.FirstRevision.{first_shown, first_rules, trailer, trailer_ends}
 use Rattle.fsfs_stands.specs.Changes.{HasItems, AreChangesOf}
 use Rattle.fsfs_stands.specs.History.{ShowsRevision}

@@ -6,7 +6,7 @@ use Rattle.fsfs_base.specs.Files.{Files}
 use Rattle.fsfs_tree.specs.Revisions.{Revision, tree_of, node_in}
 use Rattle.fsfs_tree.specs.Nodes.{TreeFunction}
 use Rattle.fsfs_revision.specs.RevBytes.{rev_bytes}
-use Rattle.fsfs_revision.specs.Shown.{Shows}
+use Rattle.fsfs_revision.specs.Shows.Shown.{Shows}
 use Rattle.fsfs_stands.specs.Files.{StandsFor}
 use Rattle.fsfs_stands.specs.ChangedLaws.{ShowChanges, ChangedPathsAreFlat}
 use Rattle.fsfs_stands.proofs.ChangedByTrees.{changed_by}

@@ -10,8 +10,8 @@ use Rattle.fsfs_tree.specs.Answers as answers
 use Rattle.fsfs_tree.specs.Answers.{Found, through, found_from, found_at}
 use Rattle.fsfs_noderev.specs.declared.node_rev.NodeRev.{NodeRev}
 use Rattle.fsfs_revision.specs.declared.wrong.Wrong.{Wrong}
-use Rattle.fsfs_revision.specs.ShowsReading.{ChildOf, Met, Stands, Lacking, Blocked, OrLacking, InDirectory, MetFrom, MetAt, StandsAt}
-use Rattle.fsfs_revision.specs.Shown.{IsShown, Shows}
+use Rattle.fsfs_revision.specs.Shows.Reading.{ChildOf, Met, Stands, Lacking, Blocked, OrLacking, InDirectory, MetFrom, MetAt, StandsAt}
+use Rattle.fsfs_revision.specs.Shows.Shown.{IsShown, Shows}
 use Rattle.fsfs_revision.proofs.ByTree.{by_tree}
 use Rattle.fsfs_revision.proofs.Walks.{met_behind, in_dir, child_stands, take_front}
 

@@ -9,9 +9,9 @@ use Rattle.fsfs_tree.specs.Dated.{last_of}
 use Rattle.fsfs_tree.specs.Histories.{IsHistory}
 use Rattle.fsfs_revision.specs.Told.{RevisionBytes}
 use Rattle.fsfs_revision.specs.RevBytes.{rev_bytes, props_bytes}
-use Rattle.fsfs_revision.specs.Shown.{Shows}
-use Rattle.fsfs_revision.specs.IdRules.{IdRule}
-use Rattle.fsfs_revision.specs.Trees.{ShowTrees}
+use Rattle.fsfs_revision.specs.Shows.Shown.{Shows}
+use Rattle.fsfs_revision.specs.Shows.IdRules.{IdRule}
+use Rattle.fsfs_revision.specs.Ancestry.Trees.{ShowTrees}
 use Rattle.fsfs_revision.proofs.Revisions.{shown_revisions}
 use Rattle.fsfs_stands.specs.History.{ShowsHistory}
 use Rattle.fsfs_stands.specs.Files.{StandsFor}

@@ -3,7 +3,7 @@ use Rattle.std.proofs.Common.{◌≡◌, ◌≤◌, ℕ, List, [], ◌∷◌, �
 use Rattle.std.specs.Prelude.{Option, Some, Ok, unwrap_or, codes, decimal}
 use Rattle.std.specs.FinMap.{get}
 use Rattle.std.proofs.Math.Nat.{zero-mod, zero-div}
-use Rattle.fsfs_base.specs.Numeral.{IsNumber, IsNumeral, value_after}
+use Rattle.fsfs_base.specs.Grammar.Numeral.{IsNumber, IsNumeral, value_after}
 use Rattle.fsfs_base.proofs.Unique.{decimal_plain, numeral_decimal}
 use Rattle.fsfs_base.specs.Files.{Files}
 use Rattle.fsfs_layout.specs.Formats.{IsFormat}
@@ -11,7 +11,7 @@ use Rattle.fsfs_layout.specs.Opening.{text_at}
 use Rattle.fsfs_layout.specs.Small.{IsUuid, IsRevLine, IsMinUnpackedRev, IsBase36Line}
 use Rattle.fsfs_layout.specs.Names.{in_shard}
 use Rattle.fsfs_layout.specs.declared.layout.Layout.{Layout}
-use Rattle.fsfs_layout.specs.declared.format_file.Format.TheVariants.{Sharded}
+use Rattle.fsfs_layout.specs.declared.small_files.format_file.Format.TheVariants.{Sharded}
 use Rattle.fsfs_layout.proofs.Writing.{sharded_layout, our_format, uuid_line}
 use Rattle.fsfs_revision.specs.RevBytes.{floor_in, or_missing, by_floor, rev_bytes, props_bytes}
 use Rattle.fsfs_revision.proofs.FloorLemmas.{floor_is}

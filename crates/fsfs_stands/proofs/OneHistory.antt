@@ -10,15 +10,15 @@ use Rattle.fsfs_base.proofs.ResultLemmas.{not_none}
 use Rattle.fsfs_tree.specs.declared.change_map.Change.{Change}
 use Rattle.fsfs_revision.specs.Told.{RevisionBytes}
 use Rattle.fsfs_revision.specs.declared.wrong.Refusal.{Refusal}
-use Rattle.fsfs_layout.specs.Dump.{IsDump}
+use Rattle.fsfs_layout.specs.Hash.Dump.{IsDump}
 use Rattle.fsfs_noderev.specs.declared.node_rev.NodeRev.{NodeRev}
 use Rattle.fsfs_layout.specs.Opening.{small_texts}
 use Rattle.fsfs_layout.specs.declared.layout.Layout.{Layout}
 use Rattle.fsfs_layout.proofs.OpeningLemmas.{one_youngest, one_layout}
 use Rattle.fsfs_revision.specs.Trailers.{IsTrailer}
 use Rattle.fsfs_revision.proofs.TrailerLemmas.{one_trailer}
-use Rattle.fsfs_noderev.specs.Changes.{HasNewPath, AreRevisionChanges}
-use Rattle.fsfs_noderev.specs.declared.item.ChangeItem.{ChangeItem}
+use Rattle.fsfs_noderev.specs.Changes.Texts.{HasNewPath, AreRevisionChanges}
+use Rattle.fsfs_noderev.specs.declared.changes.item.ChangeItem.{ChangeItem}
 use Rattle.fsfs_noderev.proofs.ItemLists.{items_one}
 use Rattle.fsfs_revision.proofs.OneNode.{end_one}
 use Rattle.fsfs_revision.proofs.OneRep.{dump_one}

@@ -1,10 +1,10 @@
 -- An id has one text.
 use Rattle.std.proofs.Common.{◌≡◌, ℕ, ◌≤◌, Bool, true, false, List, ◌∷◌, ◌++◌, sym, ap, ◌∙◌, arith}
 use Rattle.std.specs.Prelude.{codes}
-use Rattle.fsfs_base.specs.Numeral.{IsPlain}
-use Rattle.fsfs_base.specs.Cuts.{IsCutOf}
+use Rattle.fsfs_base.specs.Grammar.Numeral.{IsPlain}
+use Rattle.fsfs_base.specs.Grammar.Cuts.{IsCutOf}
 use Rattle.fsfs_base.proofs.Unique.{numeral_same}
-use Rattle.fsfs_base.specs.RevNums.{last_rev}
+use Rattle.fsfs_base.specs.Fields.RevNums.{last_rev}
 use Rattle.fsfs_noderev.specs.Fields.{IsIdText}
 use Rattle.fsfs_noderev.specs.Ids.{New, Old, Made, At, In, IsPart, IsPlace, id_value}
 use Rattle.fsfs_noderev.specs.declared.node_id.NodeId.{NodeId}

@@ -2,17 +2,17 @@
 use Rattle.std.proofs.Common.{◌≡◌, ℕ, ◌+◌, List, [], ◌∷◌, ◌++◌, length, drop, refl, sym, ap, subst, ◌∙◌, append_assoc, arith}
 use Rattle.std.specs.Prelude.{◌≢◌, Option, Some, None, Result, Ok, Err}
 use Rattle.std.proofs.lemmas.List.{length-append, append-nil}
-use Rattle.fsfs_base.specs.Grammar.{Begins}
+use Rattle.fsfs_base.specs.Grammar.Relations.{Begins}
 use Rattle.fsfs_revision.specs.declared.damage.DamageKind.TheVariants as what
-use Rattle.fsfs_revision.specs.DamageDamages.{place_of, damaged}
+use Rattle.fsfs_revision.specs.Damage.Damages.{place_of, damaged}
 use Rattle.fsfs_revision.specs.declared.wrong.Wrong.{Wrong}
-use Rattle.fsfs_revision.specs.Readings.{HasOneAnswer}
+use Rattle.fsfs_revision.specs.Damage.Readings.{HasOneAnswer}
 use Rattle.fsfs_revision.proofs.OneAnswer.{ok_ap, and_then_one, judged_one}
 use Rattle.fsfs_revision.specs.Told.{RevisionBytes, BytesOf}
 use Rattle.fsfs_revision.specs.Damages.{trailer_checks}
-use Rattle.fsfs_noderev.specs.Items.{IsItem}
-use Rattle.fsfs_noderev.specs.Changes.{HasNewPath, Items, IsItemFault}
-use Rattle.fsfs_noderev.specs.declared.item.ChangeItem.{ChangeItem}
+use Rattle.fsfs_noderev.specs.Changes.Items.{IsItem}
+use Rattle.fsfs_noderev.specs.Changes.Texts.{HasNewPath, Items, IsItemFault}
+use Rattle.fsfs_noderev.specs.declared.changes.item.ChangeItem.{ChangeItem}
 use Rattle.fsfs_noderev.proofs.ItemTexts.{item_one, item_alone}
 use Rattle.fsfs_noderev.proofs.ItemLists.{items_one, fault_clash}
 use Rattle.fsfs_revision.proofs.OneNode.{end_one}

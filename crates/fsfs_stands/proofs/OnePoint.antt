@@ -6,10 +6,10 @@ use Rattle.fsfs_revision.specs.Told.{RevisionBytes}
 use Rattle.fsfs_noderev.specs.declared.node_id.NodeId.{NodeId}
 use Rattle.fsfs_noderev.specs.declared.node_rev.NodeRev.{NodeRev}
 use Rattle.fsfs_revision.specs.declared.wrong.Wrong.{Wrong}
-use Rattle.fsfs_revision.specs.Readings.{HasOneAnswer}
-use Rattle.fsfs_revision.specs.ShowsReading.{ChildOf, Met, Stands, Lacking, Blocked, MetAt}
-use Rattle.fsfs_revision.specs.Chains.{copy_root_of}
-use Rattle.fsfs_revision.specs.Shown.{source_by}
+use Rattle.fsfs_revision.specs.Damage.Readings.{HasOneAnswer}
+use Rattle.fsfs_revision.specs.Shows.Reading.{ChildOf, Met, Stands, Lacking, Blocked, MetAt}
+use Rattle.fsfs_revision.specs.Shows.Chains.{copy_root_of}
+use Rattle.fsfs_revision.specs.Shows.Shown.{source_by}
 use Rattle.fsfs_revision.proofs.OneAnswer.{ok_ap, err_ap, and_then_one}
 use Rattle.fsfs_revision.proofs.OneAnswer.{ok_same, ok_no_err, err_same}
 use Rattle.fsfs_revision.proofs.OneNode.{root_of_one}
@@ -18,7 +18,7 @@ use Rattle.fsfs_stands.specs.declared.look_fault.LookFault.TheVariants as faults
 use Rattle.fsfs_stands.specs.Texts.{End, Whole, Refused}
 use Rattle.fsfs_stands.specs.Agreeing.{IsFront, Agree, HasOneText}
 use Rattle.fsfs_stands.proofs.OneText.{agree_behind, nothing_one, at_path_one, wrong_same}
-use Rattle.fsfs_revision.specs.CopyRoots.{later_root, IsRootedFrom, IsRootedAt}
+use Rattle.fsfs_revision.specs.Ancestry.CopyRoots.{later_root, IsRootedFrom, IsRootedAt}
 use Rattle.fsfs_stands.specs.Steps.{Point, IsPointIn, PointAt, Lead, Nowhere, Back, Across, lead_of, IsBefore, OfSource, AcrossCopy, Leads, HistoryStep}
 use Rattle.fsfs_tree.specs.HistoryTexts.{history_head}
 use Rattle.fsfs_stands.specs.HistoryTexts.{line_of, PointsText, OfLast, OfNext, OfWrong, Stops, HeadedText, MetHistory}

@@ -8,7 +8,7 @@ use Rattle.fsfs_revision.specs.Told.{RevisionBytes}
 use Rattle.fsfs_tree.specs.Answers.{last_name, kind_mark}
 use Rattle.fsfs_noderev.specs.declared.node_rev.NodeRev.{NodeRev}
 use Rattle.fsfs_revision.specs.declared.wrong.Wrong.{Wrong}
-use Rattle.fsfs_revision.specs.ShowsReading.{DirEntry, EntriesOf, OfEntry, Met, Stands, Lacking, Blocked}
+use Rattle.fsfs_revision.specs.Shows.Reading.{DirEntry, EntriesOf, OfEntry, Met, Stands, Lacking, Blocked}
 use Rattle.fsfs_revision.proofs.OneAnswer.{ok_same, ok_no_err, err_same}
 use Rattle.fsfs_revision.proofs.OneEntry.{entries_one}
 use Rattle.fsfs_revision.proofs.OneWalk.{text_one, of_entry_one, met_at_one}

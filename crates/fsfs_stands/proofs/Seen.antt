@@ -10,9 +10,9 @@ use Rattle.fsfs_tree.specs.Revisions.{Revision}
 use Rattle.fsfs_tree.specs.Dated.{last_of}
 use Rattle.fsfs_revision.specs.Told.{RevisionBytes}
 use Rattle.fsfs_revision.specs.RevBytes.{rev_bytes, props_bytes}
-use Rattle.fsfs_noderev.specs.declared.item.ChangeItem.{ChangeItem}
-use Rattle.fsfs_revision.specs.IdRules.{IdRule}
-use Rattle.fsfs_revision.specs.Bounded.{AreSameUpTo}
+use Rattle.fsfs_noderev.specs.declared.changes.item.ChangeItem.{ChangeItem}
+use Rattle.fsfs_revision.specs.Shows.IdRules.{IdRule}
+use Rattle.fsfs_revision.specs.Ancestry.Bounded.{AreSameUpTo}
 use Rattle.fsfs_revision.proofs.Bounded.{back_same, of_id_same, stands_same_bytes, shows_same}
 use Rattle.fsfs_revision.proofs.BoundedIds.{ids_same}
 use Rattle.fsfs_stands.specs.Changes.{IsKindOf, Said, Named, There, NotThere, IsChangeOf, FitsTree, AreChangesOf}

@@ -9,18 +9,18 @@ use Rattle.fsfs_tree.specs.Answers as answers
 use Rattle.fsfs_tree.specs.Answers.{Found, found_at}
 use Rattle.fsfs_noderev.specs.declared.node_rev.NodeRev.{NodeRev}
 use Rattle.fsfs_revision.specs.declared.wrong.Wrong.{Wrong}
-use Rattle.fsfs_revision.specs.ShowsReading.{Met, Stands, Lacking, Blocked, MetAt}
+use Rattle.fsfs_revision.specs.Shows.Reading.{Met, Stands, Lacking, Blocked, MetAt}
 use Rattle.fsfs_stands.specs.declared.look_fault.LookFault.TheVariants as faults
 use Rattle.fsfs_stands.specs.Texts.{End, Whole, Refused, Stopped}
 use Rattle.fsfs_stands.specs.ByTree.{IsOf}
 use Rattle.fsfs_stands.proofs.FileByTree.{nothing_is}
 use Rattle.fsfs_stands.proofs.FoundAt.{IsFoundAs, never_wrong, found_as}
 use Rattle.fsfs_stands.proofs.TreeByTree.{of_behind}
-use Rattle.fsfs_revision.specs.CopyRoots.{IsRootedAt}
+use Rattle.fsfs_revision.specs.Ancestry.CopyRoots.{IsRootedAt}
 use Rattle.fsfs_stands.specs.Steps.{Point, HistoryStep}
 use Rattle.fsfs_tree.specs.HistoryTexts.{history_head, point_line, history_text}
 use Rattle.fsfs_stands.specs.HistoryTexts.{line_of, PointsText, OfLast, OfNext, OfWrong, Stops, HeadedText, MetHistory, HistoryText}
-use Rattle.fsfs_revision.specs.Trees.{ShowTrees}
+use Rattle.fsfs_revision.specs.Ancestry.Trees.{ShowTrees}
 use Rattle.fsfs_stands.specs.Laws.{IsAt, IsStepByTrees, IsPointByTrees, IsHistoryOf, HistoriesAreByTrees}
 use Rattle.fsfs_stands.proofs.ByTrees.{steps_by_trees}
 

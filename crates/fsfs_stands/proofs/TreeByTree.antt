@@ -13,8 +13,8 @@ use Rattle.fsfs_tree.specs.Answers as answers
 use Rattle.fsfs_tree.specs.Answers.{Found, found_at, last_name, kind_mark, tree_line, tree_text}
 use Rattle.fsfs_noderev.specs.declared.node_rev.NodeRev.{NodeRev}
 use Rattle.fsfs_revision.specs.declared.wrong.Wrong.{Wrong}
-use Rattle.fsfs_revision.specs.ShowsReading.{DirEntry, named, EntriesOf, OfEntry, OfNamed, ChildOf, Met, Stands, Lacking, Blocked, MetFrom, MetAt, StandsAt}
-use Rattle.fsfs_revision.specs.Shown.{Shows}
+use Rattle.fsfs_revision.specs.Shows.Reading.{DirEntry, named, EntriesOf, OfEntry, OfNamed, ChildOf, Met, Stands, Lacking, Blocked, MetFrom, MetAt, StandsAt}
+use Rattle.fsfs_revision.specs.Shows.Shown.{Shows}
 use Rattle.fsfs_revision.proofs.ByTree.{by_tree}
 use Rattle.fsfs_revision.proofs.TreeLaw.{sound}
 use Rattle.fsfs_revision.proofs.Walks.{met_behind, in_dir, child_stands}

@@ -8,10 +8,10 @@ use Rattle.fsfs_tree.specs.Nodes.{Node, Content, Bytes, Closed, TreeFunction}
 use Rattle.fsfs_revision.specs.Told.{RevisionBytes}
 use Rattle.fsfs_tree.specs.Answers.{Found, Stands, Lacking, Blocked, found_at, tree_text}
 use Rattle.fsfs_noderev.specs.declared.node_rev.NodeRev.{NodeRev}
-use Rattle.fsfs_revision.specs.DamageDamages.{place_of}
+use Rattle.fsfs_revision.specs.Damage.Damages.{place_of}
 use Rattle.fsfs_revision.specs.declared.wrong.Wrong.TheVariants as wrongs
-use Rattle.fsfs_revision.specs.ShowsReading.{StandsAt}
-use Rattle.fsfs_revision.specs.Shown.{Shows}
+use Rattle.fsfs_revision.specs.Shows.Reading.{StandsAt}
+use Rattle.fsfs_revision.specs.Shows.Shown.{Shows}
 use Rattle.fsfs_stands.specs.declared.look_fault.LookFault.{LookFault}
 use Rattle.fsfs_stands.specs.declared.look_fault.LookFault.TheVariants as faults
 use Rattle.fsfs_stands.specs.Texts.{End, Whole, Refused, Stopped}

@@ -6,10 +6,10 @@ use Rattle.fsfs_base.specs.Paths.{path_cmp}
 use Rattle.fsfs_tree.specs.declared.change_map.Change.{Change}
 use Rattle.fsfs_tree.specs.Nodes.{TreeFunction}
 use Rattle.fsfs_tree.specs.Revisions.{Revision, tree_of}
-use Rattle.fsfs_revision.specs.Readings.{HasOneAnswer}
+use Rattle.fsfs_revision.specs.Damage.Readings.{HasOneAnswer}
 use Rattle.fsfs_revision.specs.Told.{RevisionBytes}
 use Rattle.fsfs_revision.specs.RevBytes.{rev_bytes}
-use Rattle.fsfs_revision.specs.Shown.{Shows}
+use Rattle.fsfs_revision.specs.Shows.Shown.{Shows}
 use Rattle.fsfs_stands.specs.Changes.{AreChangesOf}
 use Rattle.fsfs_stands.specs.Files.{StandsFor}
 use Rattle.fsfs_stands.specs.Texts.{End}

@@ -14,9 +14,9 @@ use Rattle.fsfs_noderev.specs.declared.node_rev.NodeRev.{NodeRev}
 use Rattle.fsfs_revision.specs.Nodes.{is_revision_id}
 use Rattle.fsfs_revision.specs.Trailers.{EndsWith}
 use Rattle.fsfs_revision.specs.declared.trailer.Trailer.{Trailer}
-use Rattle.fsfs_noderev.specs.Changes.{AreRevisionChanges}
-use Rattle.fsfs_noderev.specs.declared.item.ChangeItem.{ChangeItem}
-use Rattle.fsfs_revision.specs.ShowsReading.{offset_of, OfId, StandsAt}
+use Rattle.fsfs_noderev.specs.Changes.Texts.{AreRevisionChanges}
+use Rattle.fsfs_noderev.specs.declared.changes.item.ChangeItem.{ChangeItem}
+use Rattle.fsfs_revision.specs.Shows.Reading.{offset_of, OfId, StandsAt}
 
 -- the bytes of a revision have these items between the place that the trailer names and the trailer
 pub record HasItems (bytes : List ℕ) (items : List ChangeItem) : Type 0 where

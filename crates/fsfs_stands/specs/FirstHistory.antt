@@ -1,7 +1,7 @@
 -- What shows the history of a new repository.
 use Rattle.std.specs.Prelude.{◌≡◌, ℕ, List, Ok}
 use Rattle.jiff_core.specs.declared.civil.datetime.DateTime.{DateTime}
-use Rattle.fsfs_base.specs.Dates.{IsDateText}
+use Rattle.fsfs_base.specs.Fields.Dates.{IsDateText}
 use Rattle.fsfs_tree.specs.Answers.{new_history}
 use Rattle.fsfs_revision.specs.Told.{RevisionBytes}
 use Rattle.fsfs_layout.specs.CreatedFiles.{date_properties}

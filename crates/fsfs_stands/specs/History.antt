@@ -4,9 +4,9 @@ use Rattle.std.specs.FinMap.{get}
 use Rattle.fsfs_tree.specs.Revisions.{Revision}
 use Rattle.fsfs_tree.specs.Dated.{IsDated, last_of}
 use Rattle.fsfs_revision.specs.Told.{RevisionBytes}
-use Rattle.fsfs_layout.specs.Dump.{IsDump}
-use Rattle.fsfs_revision.specs.Shown.{Shows}
-use Rattle.fsfs_revision.specs.IdRules.{IdRule}
+use Rattle.fsfs_layout.specs.Hash.Dump.{IsDump}
+use Rattle.fsfs_revision.specs.Shows.Shown.{Shows}
+use Rattle.fsfs_revision.specs.Shows.IdRules.{IdRule}
 use Rattle.fsfs_stands.specs.Changes.{AreChangesOf}
 
 -- the bytes of revision r and of its property file show this revision

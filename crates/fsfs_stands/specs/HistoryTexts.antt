@@ -3,7 +3,7 @@ use Rattle.std.specs.Prelude.{◌≡◌, ℕ, List, ◌++◌, Some, None, Ok, Er
 use Rattle.fsfs_base.specs.Paths.{Path}
 use Rattle.fsfs_revision.specs.Told.{RevisionBytes}
 use Rattle.fsfs_revision.specs.declared.wrong.Wrong.{Wrong}
-use Rattle.fsfs_revision.specs.ShowsReading.{Met, Stands, Lacking, Blocked}
+use Rattle.fsfs_revision.specs.Shows.Reading.{Met, Stands, Lacking, Blocked}
 use Rattle.fsfs_stands.specs.declared.look_fault.LookFault.TheVariants as faults
 use Rattle.fsfs_stands.specs.Texts.{End, Whole, Refused, Stopped, Nothing, AtPath}
 use Rattle.fsfs_stands.specs.Steps.{Point, point_rev, IsPointIn, HistoryStep}

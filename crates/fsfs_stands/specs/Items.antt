@@ -3,15 +3,15 @@
 use Rattle.std.specs.Prelude.{◌≡◌, ℕ, ◌+◌, List, drop, Option, Some, None, Result, Ok, Err}
 use Rattle.fsfs_revision.specs.declared.damage.DamageKind.TheVariants as what
 use Rattle.fsfs_revision.specs.declared.wrong.Wrong.{Wrong}
-use Rattle.fsfs_revision.specs.Checks.{Judged}
-use Rattle.fsfs_revision.specs.DamageDamages.{place_of, damaged}
-use Rattle.fsfs_revision.specs.Readings.{AndThen}
+use Rattle.fsfs_revision.specs.Damage.Checks.{Judged}
+use Rattle.fsfs_revision.specs.Damage.Damages.{place_of, damaged}
+use Rattle.fsfs_revision.specs.Damage.Readings.{AndThen}
 use Rattle.fsfs_revision.specs.Told.{RevisionBytes, BytesOf}
 use Rattle.fsfs_revision.specs.declared.trailer.Trailer.{Trailer}
 use Rattle.fsfs_revision.specs.Trailers.{EndsWith}
 use Rattle.fsfs_revision.specs.Damages.{trailer_checks}
-use Rattle.fsfs_noderev.specs.Changes.{HasNewPath, AreRevisionChanges, IsItemFault}
-use Rattle.fsfs_noderev.specs.declared.item.ChangeItem.{ChangeItem}
+use Rattle.fsfs_noderev.specs.Changes.Texts.{HasNewPath, AreRevisionChanges, IsItemFault}
+use Rattle.fsfs_noderev.specs.declared.changes.item.ChangeItem.{ChangeItem}
 
 -- the data, and where they begin: from the place that the trailer names up to the trailer
 pub record IsData (bytes : List ℕ) (d : ℕ × List ℕ) : Type 0 where

@@ -5,13 +5,13 @@ use Rattle.fsfs_tree.specs.Nodes.{Node, TreeFunction}
 use Rattle.fsfs_tree.specs.PathHistories.{leads_to, path_history}
 use Rattle.fsfs_revision.specs.Told.{RevisionBytes}
 use Rattle.fsfs_tree.specs.Answers.{Found, Stands, Lacking, Blocked, found_at}
-use Rattle.fsfs_revision.specs.Readings.{HasOneAnswer}
+use Rattle.fsfs_revision.specs.Damage.Readings.{HasOneAnswer}
 use Rattle.fsfs_revision.specs.declared.wrong.Wrong.{Wrong}
 use Rattle.fsfs_stands.specs.Texts.{End}
 use Rattle.fsfs_stands.specs.Agreeing.{HasOneText}
 use Rattle.fsfs_stands.specs.ByTree.{IsOf, IsRefusedFor, IsNotFoundAt, IsNotDirAt}
-use Rattle.fsfs_revision.specs.CopyRoots.{IsRootedAt}
-use Rattle.fsfs_revision.specs.Trees.{ShowTrees}
+use Rattle.fsfs_revision.specs.Ancestry.CopyRoots.{IsRootedAt}
+use Rattle.fsfs_revision.specs.Ancestry.Trees.{ShowTrees}
 use Rattle.fsfs_stands.specs.Steps.{Point, point_rev, HistoryStep}
 use Rattle.fsfs_tree.specs.HistoryTexts.{history_text}
 use Rattle.fsfs_stands.specs.HistoryTexts.{HistoryText}

@@ -1,9 +1,9 @@
 -- The files of a new repository, and what they stand for.
 use Rattle.std.specs.Prelude.{◌≡◌, ℕ, List, length}
 use Rattle.jiff_core.specs.declared.civil.datetime.DateTime.{DateTime}
-use Rattle.fsfs_base.specs.Dates.{IsDateAt, IsDateText}
+use Rattle.fsfs_base.specs.Fields.Dates.{IsDateAt, IsDateText}
 use Rattle.fsfs_base.specs.Files.{Files}
-use Rattle.fsfs_base.specs.Cuts.{Lacks}
+use Rattle.fsfs_base.specs.Grammar.Cuts.{Lacks}
 use Rattle.fsfs_layout.specs.declared.layout.Layout.{Layout}
 use Rattle.fsfs_layout.specs.CreatedFiles.{created_files, created_over, identifier_text, Holds}
 use Rattle.fsfs_tree.specs.Answers.{new_history}

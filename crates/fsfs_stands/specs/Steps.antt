@@ -9,11 +9,11 @@ use Rattle.fsfs_revision.specs.Told.{RevisionBytes}
 use Rattle.fsfs_noderev.specs.declared.node_id.NodeId.{NodeId}
 use Rattle.fsfs_noderev.specs.declared.node_rev.NodeRev.{NodeRev}
 use Rattle.fsfs_revision.specs.declared.wrong.Wrong.{Wrong}
-use Rattle.fsfs_revision.specs.Readings.{AndThen}
-use Rattle.fsfs_revision.specs.ShowsReading.{OfId, Met, Stands, Lacking, Blocked, MetAt}
-use Rattle.fsfs_revision.specs.Chains.{own_rev}
-use Rattle.fsfs_revision.specs.Shown.{source_by}
-use Rattle.fsfs_revision.specs.CopyRoots.{IsRootedAt}
+use Rattle.fsfs_revision.specs.Damage.Readings.{AndThen}
+use Rattle.fsfs_revision.specs.Shows.Reading.{OfId, Met, Stands, Lacking, Blocked, MetAt}
+use Rattle.fsfs_revision.specs.Shows.Chains.{own_rev}
+use Rattle.fsfs_revision.specs.Shows.Shown.{source_by}
+use Rattle.fsfs_revision.specs.Ancestry.CopyRoots.{IsRootedAt}
 
 -- the path, the node-revision that stood there, and the latest copy root there
 pub record Point : Type 0 where

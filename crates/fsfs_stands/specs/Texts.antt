@@ -7,7 +7,7 @@ use Rattle.std.specs.Prelude.{◌≡◌, ◌⊎◌, ℕ, List, [], Ok, Err}
 use Rattle.fsfs_base.specs.Paths.{Path}
 use Rattle.fsfs_revision.specs.Told.{RevisionBytes}
 use Rattle.fsfs_revision.specs.declared.wrong.Wrong.{Wrong}
-use Rattle.fsfs_revision.specs.ShowsReading.{Met, MetAt}
+use Rattle.fsfs_revision.specs.Shows.Reading.{Met, MetAt}
 use Rattle.fsfs_stands.specs.declared.look_fault.LookFault.{LookFault}
 use Rattle.fsfs_stands.specs.declared.look_fault.LookFault.TheVariants as faults
 

@@ -11,9 +11,9 @@ use Rattle.fsfs_disk.specs.Trace.{Trace, files_now, labels_now}
 use Rattle.fsfs_base.specs.Streams.{Adds}
 use Rattle.fsfs_base.specs.Output.{AddsFront, Prints}
 use Rattle.fsfs_cli.specs.Lines.{line_of}
-use Rattle.fsfs_cli.specs.declared.faults_fault.Fault.{Fault}
-use Rattle.fsfs_cli.specs.declared.faults_fault.Fault.TheVariants.{Request}
-use Rattle.fsfs_cli.specs.declared.request_fault.RequestFault.TheVariants.{AlreadyRepo, NotRepo}
+use Rattle.fsfs_cli.specs.declared.faults.fault.Fault.{Fault}
+use Rattle.fsfs_cli.specs.declared.faults.fault.Fault.TheVariants.{Request}
+use Rattle.fsfs_cli.specs.declared.faults.request_fault.RequestFault.TheVariants.{AlreadyRepo, NotRepo}
 use Rattle.fsfs_revision.specs.RevBytes.{rev_bytes}
 use Rattle.fsfs_tree.specs.FaultWords.{already_repo, not_repo}
 use Rattle.fsfs_tree.specs.Answers.{Answer, Reply, refuses, prints, refuses_look, tree_reply, text_reply, history_reply, found_at, asked_revision, of_revision}

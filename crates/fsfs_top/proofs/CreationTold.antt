@@ -13,10 +13,10 @@ use Rattle.fsfs_disk.specs.Crash.{AllImages, Leaves}
 use Rattle.fsfs_disk.proofs.CrashLemmas.{leaves_with}
 use Rattle.fsfs_layout.specs.CreatedFiles.{identifier_text, random_identifier}
 use Rattle.fsfs_create.specs.Creation.{IsCreated, IsNoneOrWhole, IsUnpublished, IsNoRepository, CreateFails}
-use Rattle.fsfs_base.specs.declared.create_fault.CreateFault.{CreateFault}
-use Rattle.fsfs_base.specs.declared.create_fault.CreateFault.TheVariants as create
-use Rattle.fsfs_cli.specs.FaultsFaults.{fault_from_create}
-use Rattle.fsfs_cli.specs.declared.faults_fault.Fault.{Fault}
+use Rattle.fsfs_base.specs.declared.places.create_fault.CreateFault.{CreateFault}
+use Rattle.fsfs_base.specs.declared.places.create_fault.CreateFault.TheVariants as create
+use Rattle.fsfs_cli.specs.CommandFaults.{fault_from_create}
+use Rattle.fsfs_cli.specs.declared.faults.fault.Fault.{Fault}
 use Rattle.fsfs_top.specs.Command.{Drawn, Created, IsNoneOrCreated, identifier_of}
 use Rattle.fsfs_top.specs.Scenes.{HostScene}
 

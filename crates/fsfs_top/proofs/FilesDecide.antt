@@ -6,10 +6,10 @@ use Rattle.fsfs_base.specs.Failures.{Rose}
 use Rattle.fsfs_base.specs.Files.{Files}
 use Rattle.fsfs_base.specs.Paths.{Path}
 use Rattle.fsfs_disk.specs.Trace.{Trace, files_now}
-use Rattle.fsfs_cli.specs.FaultsFaults.{fault_from_open, fault_from_look, IsFromLook}
-use Rattle.fsfs_cli.specs.declared.faults_fault.Fault.{Fault}
-use Rattle.fsfs_cli.specs.declared.faults_fault.Fault.TheVariants.{Request, Memory}
-use Rattle.fsfs_cli.specs.declared.request_fault.RequestFault.TheVariants.{NoRev}
+use Rattle.fsfs_cli.specs.CommandFaults.{fault_from_open, fault_from_look, IsFromLook}
+use Rattle.fsfs_cli.specs.declared.faults.fault.Fault.{Fault}
+use Rattle.fsfs_cli.specs.declared.faults.fault.Fault.TheVariants.{Request, Memory}
+use Rattle.fsfs_cli.specs.declared.faults.request_fault.RequestFault.TheVariants.{NoRev}
 use Rattle.fsfs_layout.specs.declared.layout.Layout.{Layout}
 use Rattle.fsfs_layout.proofs.OpeningLemmas.{one_youngest, one_layout}
 use Rattle.fsfs_look.specs.declared.look_error.LookError.TheVariants as errors
@@ -18,8 +18,8 @@ use Rattle.fsfs_look.specs.Written.{Writes}
 use Rattle.fsfs_layout.specs.Opening.{small_texts, IsOpened}
 use Rattle.fsfs_create.specs.Deciding.{Decides, IsOutside as IsOpenOutside}
 use Rattle.fsfs_layout.specs.declared.opened.Opened.{Opened}
-use Rattle.fsfs_base.specs.declared.open_fault.OpenFault.{OpenFault}
-use Rattle.fsfs_base.specs.declared.open_fault.OpenFault.TheVariants as opening
+use Rattle.fsfs_base.specs.declared.places.open_fault.OpenFault.{OpenFault}
+use Rattle.fsfs_base.specs.declared.places.open_fault.OpenFault.TheVariants as opening
 use Rattle.fsfs_stands.specs.Texts.{End, Whole, Refused}
 use Rattle.fsfs_stands.specs.declared.look_fault.LookFault.{LookFault}
 use Rattle.fsfs_stands.specs.declared.look_fault.LookFault.TheVariants as refusal

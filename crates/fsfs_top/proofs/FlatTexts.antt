@@ -10,9 +10,9 @@ use Rattle.fsfs_tree.specs.Revisions.{Revision, node_in, tree_of}
 use Rattle.fsfs_base.specs.declared.kind.Kind.{Kind}
 use Rattle.fsfs_base.specs.declared.kind.Kind.TheVariants.{File, Dir}
 use Rattle.fsfs_cli.specs.Lines.{line_of, status_of}
-use Rattle.fsfs_cli.specs.FaultsFaults.{fault_from_look}
-use Rattle.fsfs_cli.specs.declared.faults_fault.Fault.TheVariants.{Request}
-use Rattle.fsfs_cli.specs.declared.request_fault.RequestFault.TheVariants.{NoRev}
+use Rattle.fsfs_cli.specs.CommandFaults.{fault_from_look}
+use Rattle.fsfs_cli.specs.declared.faults.fault.Fault.TheVariants.{Request}
+use Rattle.fsfs_cli.specs.declared.faults.request_fault.RequestFault.TheVariants.{NoRev}
 use Rattle.fsfs_revision.specs.Told.{RevisionBytes}
 use Rattle.fsfs_revision.specs.RevBytes.{rev_bytes, props_bytes}
 use Rattle.fsfs_tree.specs.FaultWords.{not_found, not_dir, not_file, delta, two_numbers}
@@ -22,7 +22,7 @@ use Rattle.fsfs_tree.specs.ChangedTexts.{changed_text}
 use Rattle.fsfs_tree.specs.HistoryTexts.{history_text}
 use Rattle.fsfs_tree.specs.PathHistories.{path_history}
 use Rattle.fsfs_tree.specs.Dated.{last_of}
-use Rattle.fsfs_revision.specs.DamageDamages.{place_of}
+use Rattle.fsfs_revision.specs.Damage.Damages.{place_of}
 use Rattle.fsfs_revision.specs.declared.wrong.Wrong.TheVariants as wrongs
 use Rattle.fsfs_stands.specs.Files.{StandsFor}
 use Rattle.fsfs_stands.specs.ByTree.{IsOf, IsTreeOf, IsFileOf, IsContent, IsNotFoundAt, IsNotDirAt, AreShownIds}
@@ -33,8 +33,8 @@ use Rattle.fsfs_stands.specs.declared.look_fault.LookFault.{LookFault}
 use Rattle.fsfs_stands.specs.declared.look_fault.LookFault.TheVariants as faults
 use Rattle.fsfs_stands.proofs.TreeByTree.{trees_by_tree}
 use Rattle.fsfs_stands.proofs.FileByTree.{files_by_tree}
-use Rattle.fsfs_look.specs.PropTexts.{AuthorText, DateText, LogText, InfoText}
-use Rattle.fsfs_look.specs.Laws.{ShowsProps}
+use Rattle.fsfs_look.specs.Revprops.Texts.{AuthorText, DateText, LogText, InfoText}
+use Rattle.fsfs_look.specs.Revprops.Laws.{ShowsProps}
 use Rattle.fsfs_look.proofs.ByProps.{authors_by, dates_by, logs_by, infos_by}
 use Rattle.fsfs_stands.specs.ChangedTexts.{ChangedText}
 use Rattle.fsfs_stands.proofs.Flat.{changed_flat}

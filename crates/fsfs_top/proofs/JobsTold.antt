@@ -3,11 +3,11 @@ use Rattle.std.proofs.Common.{◌≡◌, ◌⊎◌, ℕ, Bool, List, inl, inr, �
 use Rattle.std.specs.Prelude.{Option, Some, None, option_map, Result}
 use Rattle.fsfs_base.specs.Failures.{Rose}
 use Rattle.fsfs_disk.specs.Trace.{Trace, labels_now}
-use Rattle.fsfs_disk.specs.Removals.{HasSameLabels}
+use Rattle.fsfs_disk.specs.Transactions.Removals.{HasSameLabels}
 use Rattle.fsfs_cli.specs.Readings.{Asks}
 use Rattle.fsfs_cli.specs.declared.request.Task.TheVariants.{RunJobs}
 use Rattle.fsfs_cli.specs.declared.tool.Tool.TheVariants.{Jobs}
-use Rattle.fsfs_cli.specs.declared.faults_fault.Fault.{Fault}
+use Rattle.fsfs_cli.specs.declared.faults.fault.Fault.{Fault}
 use Rattle.fsfs_turn.specs.Mountings.{RoseBy}
 use Rattle.fsfs_workers.specs.Listed.{LeavesListed}
 use Rattle.fsfs_workers.proofs.ListedLemmas.{none_begun, none_is_left}

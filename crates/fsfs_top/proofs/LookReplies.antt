@@ -11,12 +11,12 @@ use Rattle.fsfs_tree.specs.Dated.{last_of}
 use Rattle.fsfs_disk.specs.Trace.{Trace, files_now, labels_now}
 use Rattle.fsfs_base.specs.Streams.{Adds}
 use Rattle.fsfs_cli.specs.Lines.{line_of, status_of}
-use Rattle.fsfs_cli.specs.FaultsFaults.{fault_from_open, fault_from_look}
-use Rattle.fsfs_cli.specs.declared.faults_fault.Fault.{Fault}
-use Rattle.fsfs_cli.specs.declared.faults_fault.Fault.TheVariants.{Request, Outside, Memory}
-use Rattle.fsfs_cli.specs.declared.request_fault.RequestFault.TheVariants.{AlreadyRepo, NotRepo, NoRev, NoTxn}
-use Rattle.fsfs_cli.specs.declared.outside_fault.OutsideFault.{OutsideFault}
-use Rattle.fsfs_cli.specs.declared.outside_fault.OutsideFault.TheVariants.{Mount, Disk, Write}
+use Rattle.fsfs_cli.specs.CommandFaults.{fault_from_open, fault_from_look}
+use Rattle.fsfs_cli.specs.declared.faults.fault.Fault.{Fault}
+use Rattle.fsfs_cli.specs.declared.faults.fault.Fault.TheVariants.{Request, Outside, Memory}
+use Rattle.fsfs_cli.specs.declared.faults.request_fault.RequestFault.TheVariants.{AlreadyRepo, NotRepo, NoRev, NoTxn}
+use Rattle.fsfs_cli.specs.declared.faults.outside_fault.OutsideFault.{OutsideFault}
+use Rattle.fsfs_cli.specs.declared.faults.outside_fault.OutsideFault.TheVariants.{Mount, Disk, Write}
 use Rattle.fsfs_look.specs.declared.look_error.LookError.{LookError}
 use Rattle.fsfs_look.specs.declared.look_error.LookError.TheVariants as errors
 use Rattle.fsfs_look.specs.Written.{Writes}
@@ -26,17 +26,17 @@ use Rattle.fsfs_layout.specs.Opening.{SmallTexts, small_texts, IsFsfs, IsOpened,
 use Rattle.fsfs_create.specs.OpenFaults.{OpensBecause}
 use Rattle.fsfs_create.specs.Deciding.{IsOutside as IsOpenOutside}
 use Rattle.fsfs_create.specs.Creation.{CreateFails, IsUnpublished, IsNoRepository}
-use Rattle.fsfs_base.specs.declared.create_fault.CreateFault.TheVariants as create
-use Rattle.fsfs_base.specs.declared.place.DiskPlace.TheVariants.{Read, Remove}
-use Rattle.fsfs_base.specs.declared.place.DiskPlace.TheVariants as places
-use Rattle.fsfs_disk.specs.declared.removing.RemovalFault.TheVariants as removal
-use Rattle.fsfs_disk.specs.Txns.{pair_of, AreTxns}
+use Rattle.fsfs_base.specs.declared.places.create_fault.CreateFault.TheVariants as create
+use Rattle.fsfs_base.specs.declared.places.place.DiskPlace.TheVariants.{Read, Remove}
+use Rattle.fsfs_base.specs.declared.places.place.DiskPlace.TheVariants as places
+use Rattle.fsfs_disk.specs.declared.transactions.removing.RemovalFault.TheVariants as removal
+use Rattle.fsfs_disk.specs.Transactions.Txns.{pair_of, AreTxns}
 use Rattle.fsfs_disk.proofs.OneListing.{one_listing}
-use Rattle.fsfs_disk.specs.Removals.{first_lacking}
+use Rattle.fsfs_disk.specs.Transactions.Removals.{first_lacking}
 use Rattle.fsfs_stands.specs.Files.{StandsFor}
 use Rattle.fsfs_layout.specs.declared.opened.Opened.{Opened}
-use Rattle.fsfs_base.specs.declared.open_fault.OpenFault.{OpenFault}
-use Rattle.fsfs_base.specs.declared.open_fault.OpenFault.TheVariants as opening
+use Rattle.fsfs_base.specs.declared.places.open_fault.OpenFault.{OpenFault}
+use Rattle.fsfs_base.specs.declared.places.open_fault.OpenFault.TheVariants as opening
 use Rattle.fsfs_stands.specs.Agreeing.{IsFront}
 use Rattle.fsfs_stands.specs.Texts.{End, Whole, Refused, Stopped}
 use Rattle.fsfs_cli.specs.Requests.{printed_path}

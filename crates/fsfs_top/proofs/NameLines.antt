@@ -2,8 +2,8 @@
 use Rattle.std.proofs.Common.{◌≡◌, ◌+◌, ◌<◌, ℕ, List, [], ◌∷◌, ◌++◌, length, map, take, drop, refl, sym, ap, ◌∙◌, append_assoc, append-nil}
 use Rattle.std.proofs.lemmas.List.{take-append-drop, map-append, take_more}
 use Rattle.std.specs.Prelude.{codes, slice_index_or}
-use Rattle.fsfs_base.specs.declared.txn_name.TxnName.{TxnName}
-use Rattle.fsfs_disk.specs.Txns.{text_of}
+use Rattle.fsfs_base.specs.declared.fields.txn_name.TxnName.{TxnName}
+use Rattle.fsfs_disk.specs.Transactions.Txns.{text_of}
 use Rattle.fsfs_top.specs.TxnAnswers.{names_text}
 
 names_append : (xs ys : List (List ℕ)) → names_text (xs ++ ys) ≡ names_text xs ++ names_text ys

@@ -1,13 +1,13 @@
 -- What a command did is what its row says of the task that its words ask for.
 use Rattle.std.proofs.Common.{◌≡◌, ℕ, List, [], inl, inr, refl, sym, ap, subst, ◌∙◌}
 use Rattle.std.specs.Prelude.{Option, Some, None, IfSome, option_map, unwrap_or}
-use Rattle.fsfs_cli.specs.FaultsFaults.{fault_from_words}
-use Rattle.fsfs_cli.specs.declared.faults_fault.Fault.{Fault}
-use Rattle.fsfs_cli.specs.declared.faults_fault.Fault.TheVariants.{Memory}
-use Rattle.fsfs_base.specs.declared.create_fault.CreateFault.TheVariants as create
-use Rattle.fsfs_base.specs.declared.open_fault.OpenFault.TheVariants as opening
+use Rattle.fsfs_cli.specs.CommandFaults.{fault_from_words}
+use Rattle.fsfs_cli.specs.declared.faults.fault.Fault.{Fault}
+use Rattle.fsfs_cli.specs.declared.faults.fault.Fault.TheVariants.{Memory}
+use Rattle.fsfs_base.specs.declared.places.create_fault.CreateFault.TheVariants as create
+use Rattle.fsfs_base.specs.declared.places.open_fault.OpenFault.TheVariants as opening
 use Rattle.fsfs_cli.specs.Readings.{Asks}
-use Rattle.fsfs_cli.specs.declared.fault.WordsFault.{WordsFault}
+use Rattle.fsfs_cli.specs.declared.faults.words_fault.WordsFault.{WordsFault}
 use Rattle.fsfs_cli.specs.declared.request.Look.{Look as SomeLook}
 use Rattle.fsfs_cli.specs.declared.request.Task.{Task}
 use Rattle.fsfs_cli.specs.declared.request.Task.TheVariants.{Create, ListTxns, RemoveTxns, Look, RunJobs}

@@ -10,17 +10,17 @@ use Rattle.fsfs_disk.proofs.CrashLemmas.{keeps_firm, leaves_then, leaves_with, o
 use Rattle.fsfs_disk.proofs.LeftLemmas.{amid_same, both_then, keeps_labels_at, same_both, both_with}
 use Rattle.fsfs_layout.specs.Opening.{small_texts, IsOpened}
 use Rattle.fsfs_layout.specs.declared.opened.Opened.{Opened}
-use Rattle.fsfs_cli.specs.FaultsFaults.{fault_from_open}
-use Rattle.fsfs_cli.specs.declared.faults_fault.Fault.{Fault}
-use Rattle.fsfs_base.specs.declared.open_fault.OpenFault.{OpenFault}
-use Rattle.fsfs_base.specs.declared.open_fault.OpenFault.TheVariants as opening
+use Rattle.fsfs_cli.specs.CommandFaults.{fault_from_open}
+use Rattle.fsfs_cli.specs.declared.faults.fault.Fault.{Fault}
+use Rattle.fsfs_base.specs.declared.places.open_fault.OpenFault.{OpenFault}
+use Rattle.fsfs_base.specs.declared.places.open_fault.OpenFault.TheVariants as opening
 use Rattle.fsfs_create.specs.OpenFaults.{OpensBecause}
 use Rattle.fsfs_create.specs.Deciding.{Decides}
-use Rattle.fsfs_disk.specs.Txns.{txn_label, AreTxns}
-use Rattle.fsfs_disk.specs.Removals.{first_lacking, labels_left, HasLabels, IfFailed, IsImageOf, Removes, WasKept, HasSameLabels}
+use Rattle.fsfs_disk.specs.Transactions.Txns.{txn_label, AreTxns}
+use Rattle.fsfs_disk.specs.Transactions.Removals.{first_lacking, labels_left, HasLabels, IfFailed, IsImageOf, Removes, WasKept, HasSameLabels}
 use Rattle.fsfs_disk.proofs.InTurn.{old_kept}
-use Rattle.fsfs_disk.specs.declared.removing.RemovalFault.{RemovalFault}
-use Rattle.fsfs_disk.specs.declared.removing.RemovalFault.TheVariants.{NoTxn, Failed}
+use Rattle.fsfs_disk.specs.declared.transactions.removing.RemovalFault.{RemovalFault}
+use Rattle.fsfs_disk.specs.declared.transactions.removing.RemovalFault.TheVariants.{NoTxn, Failed}
 use Rattle.fsfs_top.specs.TxnAnswers.{same_txn, has_txn, without_txn, first_missing}
 use Rattle.fsfs_top.specs.Looks.{OpensAs, DoesNotOpen}
 use Rattle.fsfs_top.specs.Scenes.{HostScene, Scene, SinkScene}

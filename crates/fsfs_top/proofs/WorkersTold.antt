@@ -3,7 +3,7 @@ use Rattle.std.proofs.Common.{◌≡◌, ℕ, Bool, inl, inr, arith}
 use Rattle.std.specs.Prelude.{Result}
 use Rattle.fsfs_base.specs.Failures.{added_count}
 use Rattle.fsfs_workers.specs.Lines.{RoseBy}
-use Rattle.fsfs_cli.specs.declared.faults_fault.Fault.{Fault}
+use Rattle.fsfs_cli.specs.declared.faults.fault.Fault.{Fault}
 use Rattle.fsfs_workers.specs.Runs.{RunScene}
 use Rattle.fsfs_workers.proofs.RunLemmas.{runs_weaker, opens_weaker}
 use Rattle.fsfs_workers.specs.ByWorkers.{RunsBeside, NotOpened, NotRead, NoRoom, Done, Lost, scene_where}

@@ -5,18 +5,18 @@ use Rattle.fsfs_base.specs.Files.{Files}
 use Rattle.fsfs_disk.specs.Trace.{Trace}
 use Rattle.fsfs_base.specs.Streams.{Adds}
 use Rattle.fsfs_base.specs.Output.{AddsFront}
-use Rattle.fsfs_cli.specs.FaultsFaults.{fault_from_create, fault_from_words}
+use Rattle.fsfs_cli.specs.CommandFaults.{fault_from_create, fault_from_words}
 use Rattle.fsfs_cli.specs.Lines.{line_of, status_of}
-use Rattle.fsfs_cli.specs.declared.faults_fault.Fault.{Fault}
-use Rattle.fsfs_cli.specs.declared.faults_fault.Fault.TheVariants.{Outside}
-use Rattle.fsfs_cli.specs.declared.outside_fault.OutsideFault.TheVariants.{Mount}
+use Rattle.fsfs_cli.specs.declared.faults.fault.Fault.{Fault}
+use Rattle.fsfs_cli.specs.declared.faults.fault.Fault.TheVariants.{Outside}
+use Rattle.fsfs_cli.specs.declared.faults.outside_fault.OutsideFault.TheVariants.{Mount}
 use Rattle.fsfs_layout.specs.CreatedFiles.{identifier_text, random_identifier}
 use Rattle.fsfs_create.specs.Creation.{CreateFails, IsCreated, IsNoneOrWhole, IsNoRepository, IsUnpublished}
 use Rattle.fsfs_create.specs.NewStore.{IsNewStore}
-use Rattle.fsfs_base.specs.declared.create_fault.CreateFault.{CreateFault}
+use Rattle.fsfs_base.specs.declared.places.create_fault.CreateFault.{CreateFault}
 use Rattle.fsfs_cli.specs.Words.{asked}
 use Rattle.fsfs_cli.specs.Readings.{Asks, Refuses}
-use Rattle.fsfs_cli.specs.declared.fault.WordsFault.{WordsFault}
+use Rattle.fsfs_cli.specs.declared.faults.words_fault.WordsFault.{WordsFault}
 use Rattle.fsfs_cli.specs.declared.request.Task.{Task}
 use Rattle.fsfs_cli.specs.declared.request.Task.TheVariants.{Create, ListTxns, RemoveTxns, Look, RunJobs}
 use Rattle.fsfs_cli.specs.declared.tool.Tool.{Tool}

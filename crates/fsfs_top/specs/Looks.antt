@@ -7,12 +7,12 @@ use Rattle.fsfs_revision.specs.Told.{RevisionBytes, Telling, Knows}
 use Rattle.fsfs_disk.specs.Trace.{Trace, files_now}
 use Rattle.fsfs_base.specs.Streams.{Adds}
 use Rattle.fsfs_base.specs.Output.{AddsFront}
-use Rattle.fsfs_cli.specs.FaultsFaults.{fault_from_open, fault_from_look, IsFromLook}
-use Rattle.fsfs_cli.specs.declared.faults_fault.Fault.{Fault}
-use Rattle.fsfs_cli.specs.declared.faults_fault.Fault.TheVariants.{Request, Repository, Outside, Memory}
-use Rattle.fsfs_cli.specs.declared.request_fault.RequestFault.TheVariants.{NotRepo, NoRev}
-use Rattle.fsfs_cli.specs.declared.repository_fault.RepositoryFault.TheVariants.{OtherFormat, Linear}
-use Rattle.fsfs_cli.specs.declared.outside_fault.OutsideFault.TheVariants.{Mount, Disk, Write}
+use Rattle.fsfs_cli.specs.CommandFaults.{fault_from_open, fault_from_look, IsFromLook}
+use Rattle.fsfs_cli.specs.declared.faults.fault.Fault.{Fault}
+use Rattle.fsfs_cli.specs.declared.faults.fault.Fault.TheVariants.{Request, Repository, Outside, Memory}
+use Rattle.fsfs_cli.specs.declared.faults.request_fault.RequestFault.TheVariants.{NotRepo, NoRev}
+use Rattle.fsfs_cli.specs.declared.faults.repository_fault.RepositoryFault.TheVariants.{OtherFormat, Linear}
+use Rattle.fsfs_cli.specs.declared.faults.outside_fault.OutsideFault.TheVariants.{Mount, Disk, Write}
 use Rattle.fsfs_revision.specs.RevBytes.{rev_bytes, props_bytes}
 use Rattle.fsfs_look.specs.Written.{Writes, IfDisk, IfWrite}
 use Rattle.fsfs_look.specs.declared.look_error.LookError.{LookError}
@@ -22,13 +22,13 @@ use Rattle.fsfs_create.specs.OpenFaults.{OpensBecause}
 use Rattle.fsfs_create.specs.Deciding.{IsOutside as IsOpenOutside}
 use Rattle.fsfs_layout.specs.declared.layout.Layout.{Layout}
 use Rattle.fsfs_layout.specs.declared.opened.Opened.{Opened}
-use Rattle.fsfs_base.specs.declared.open_fault.OpenFault.{OpenFault}
-use Rattle.fsfs_base.specs.declared.place.DiskPlace.TheVariants.{Read}
+use Rattle.fsfs_base.specs.declared.places.open_fault.OpenFault.{OpenFault}
+use Rattle.fsfs_base.specs.declared.places.place.DiskPlace.TheVariants.{Read}
 use Rattle.fsfs_stands.specs.Texts.{End, Whole, Refused}
 use Rattle.fsfs_stands.specs.TreeTexts.{TreeText}
 use Rattle.fsfs_stands.specs.FileTexts.{FileText}
 use Rattle.fsfs_stands.specs.declared.look_fault.LookFault.{LookFault}
-use Rattle.fsfs_look.specs.PropTexts.{AuthorText, DateText, LogText, InfoText}
+use Rattle.fsfs_look.specs.Revprops.Texts.{AuthorText, DateText, LogText, InfoText}
 use Rattle.fsfs_stands.specs.ChangedTexts.{ChangedText}
 use Rattle.fsfs_stands.specs.HistoryTexts.{HistoryText}
 use Rattle.fsfs_cli.specs.Requests.{printed_path}

@@ -6,7 +6,7 @@ use Rattle.fsfs_base.specs.Paths.{Path}
 use Rattle.fsfs_revision.specs.Told.{RevisionBytes}
 use Rattle.fsfs_tree.specs.Revisions.{Revision}
 use Rattle.fsfs_tree.specs.Dated.{last_of}
-use Rattle.fsfs_base.specs.Dates.{IsDateAt}
+use Rattle.fsfs_base.specs.Fields.Dates.{IsDateAt}
 use Rattle.fsfs_disk.specs.Labels.{Label}
 use Rattle.fsfs_disk.specs.Trace.{Trace, files_now, labels_now}
 use Rattle.fsfs_base.specs.Streams.{Adds}
@@ -27,7 +27,7 @@ use Rattle.fsfs_cli.specs.declared.request.Printed.TheVariants.{Tree, Text, Auth
 use Rattle.fsfs_cli.specs.declared.request.Task.{Task}
 use Rattle.fsfs_cli.specs.declared.request.Task.TheVariants.{Create, ListTxns, RemoveTxns, Look, RunJobs}
 use Rattle.fsfs_cli.specs.declared.tool.Tool.{Tool}
-use Rattle.fsfs_disk.specs.Txns.{AreTxns}
+use Rattle.fsfs_disk.specs.Transactions.Txns.{AreTxns}
 use Rattle.fsfs_top.specs.Transactions.{txns_of}
 use Rattle.fsfs_top.specs.Scenes.{Scene, SinkScene}
 

@@ -7,15 +7,15 @@ use Rattle.fsfs_tree.specs.Revisions.{Revision}
 use Rattle.fsfs_stands.specs.Files.{StandsFor}
 use Rattle.fsfs_turn.specs.Mountings.{RoseBy}
 use Rattle.fsfs_turn.specs.Opening.{LeftoversAgree}
-use Rattle.fsfs_disk.specs.Removals.{WasKept}
-use Rattle.fsfs_cli.specs.FaultsFaults.{fault_from_words}
+use Rattle.fsfs_disk.specs.Transactions.Removals.{WasKept}
+use Rattle.fsfs_cli.specs.CommandFaults.{fault_from_words}
 use Rattle.fsfs_cli.specs.Lines.{status_of}
-use Rattle.fsfs_cli.specs.declared.faults_fault.Fault.{Fault}
-use Rattle.fsfs_cli.specs.declared.faults_fault.Fault.TheVariants.{Outside}
-use Rattle.fsfs_cli.specs.declared.outside_fault.OutsideFault.TheVariants.{Mount}
+use Rattle.fsfs_cli.specs.declared.faults.fault.Fault.{Fault}
+use Rattle.fsfs_cli.specs.declared.faults.fault.Fault.TheVariants.{Outside}
+use Rattle.fsfs_cli.specs.declared.faults.outside_fault.OutsideFault.TheVariants.{Mount}
 use Rattle.fsfs_cli.specs.Words.{asked}
 use Rattle.fsfs_cli.specs.Readings.{Asks, Refuses}
-use Rattle.fsfs_cli.specs.declared.fault.WordsFault.{WordsFault}
+use Rattle.fsfs_cli.specs.declared.faults.words_fault.WordsFault.{WordsFault}
 use Rattle.fsfs_cli.specs.declared.request.Task.TheVariants.{RunJobs}
 use Rattle.fsfs_cli.specs.declared.tool.Tool.TheVariants.{Jobs}
 use Rattle.fsfs_workers.specs.Runs.{RunScene, RunsScript}

@@ -4,19 +4,19 @@ use Rattle.fsfs_base.specs.Failures.{Rose}
 use Rattle.fsfs_disk.specs.Labels.{Label, Txn, Pack, HotCopy}
 use Rattle.fsfs_disk.specs.Crash.{AreAll, Leaves, LeavesBoth}
 use Rattle.fsfs_disk.specs.Trace.{Trace, files_now, labels_now}
-use Rattle.fsfs_cli.specs.FaultsFaults.{fault_from_open}
-use Rattle.fsfs_cli.specs.declared.faults_fault.Fault.{Fault}
-use Rattle.fsfs_cli.specs.declared.faults_fault.Fault.TheVariants.{Request, Outside, Memory}
-use Rattle.fsfs_cli.specs.declared.request_fault.RequestFault.TheVariants as request
-use Rattle.fsfs_cli.specs.declared.outside_fault.OutsideFault.TheVariants.{Mount, Disk}
+use Rattle.fsfs_cli.specs.CommandFaults.{fault_from_open}
+use Rattle.fsfs_cli.specs.declared.faults.fault.Fault.{Fault}
+use Rattle.fsfs_cli.specs.declared.faults.fault.Fault.TheVariants.{Request, Outside, Memory}
+use Rattle.fsfs_cli.specs.declared.faults.request_fault.RequestFault.TheVariants as request
+use Rattle.fsfs_cli.specs.declared.faults.outside_fault.OutsideFault.TheVariants.{Mount, Disk}
 use Rattle.fsfs_create.specs.OpenFaults.{OpensBecause}
 use Rattle.fsfs_layout.specs.declared.opened.Opened.{Opened}
-use Rattle.fsfs_base.specs.declared.open_fault.OpenFault.{OpenFault}
-use Rattle.fsfs_base.specs.declared.place.DiskPlace.TheVariants as place
-use Rattle.fsfs_disk.specs.Txns.{AreTxns}
-use Rattle.fsfs_disk.specs.Removals.{IsImageOf, Removes, WasKept, HasSameLabels}
-use Rattle.fsfs_disk.specs.declared.removing.RemovalFault.{RemovalFault}
-use Rattle.fsfs_disk.specs.declared.removing.RemovalFault.TheVariants.{NoTxn, Failed}
+use Rattle.fsfs_base.specs.declared.places.open_fault.OpenFault.{OpenFault}
+use Rattle.fsfs_base.specs.declared.places.place.DiskPlace.TheVariants as place
+use Rattle.fsfs_disk.specs.Transactions.Txns.{AreTxns}
+use Rattle.fsfs_disk.specs.Transactions.Removals.{IsImageOf, Removes, WasKept, HasSameLabels}
+use Rattle.fsfs_disk.specs.declared.transactions.removing.RemovalFault.{RemovalFault}
+use Rattle.fsfs_disk.specs.declared.transactions.removing.RemovalFault.TheVariants.{NoTxn, Failed}
 use Rattle.fsfs_top.specs.TxnAnswers.{names_text}
 use Rattle.fsfs_top.specs.Looks.{OpensAs, DoesNotOpen, NotOpened, PrintsLine, DecidesOpening}
 use Rattle.fsfs_top.specs.Scenes.{HostScene, Scene, SinkScene}

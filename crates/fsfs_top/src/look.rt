@@ -3,9 +3,9 @@ ghost use Rattle.std.specs.Prelude.{◌≡◌, ◌≢◌, ◌≤◌, ◌<◌, �
 ghost use Rattle.fsfs_revision.specs.Told.{Keeps};
 ghost use Rattle.fsfs_base.specs.Failures.{Rose};
 ghost use Rattle.fsfs_disk.specs.Trace.{FirmNames, files_now, FailsAt};
-ghost use Rattle.fsfs_cli.specs.FaultsFaults.{IsFromLook};
-ghost use Rattle.fsfs_cli.specs.declared.faults_fault.Fault.TheVariants.{Request};
-ghost use Rattle.fsfs_cli.specs.declared.request_fault.RequestFault.TheVariants.{NoRev};
+ghost use Rattle.fsfs_cli.specs.CommandFaults.{IsFromLook};
+ghost use Rattle.fsfs_cli.specs.declared.faults.fault.Fault.TheVariants.{Request};
+ghost use Rattle.fsfs_cli.specs.declared.faults.request_fault.RequestFault.TheVariants.{NoRev};
 ghost use Rattle.fsfs_look.specs.Written.{Writes, HasDiskCause, HasSinkCause};
 ghost use Rattle.fsfs_layout.specs.Opening.{small_texts, IsOpened};
 ghost use Rattle.fsfs_top.specs.Command.{fault_of};

@@ -5,7 +5,7 @@ ghost use Rattle.fsfs_top.specs.Command.{fault_of};
 ghost use Rattle.fsfs_top.specs.Looks.{revision_line, uuid_line, PrintsLine};
 ghost use Rattle.fsfs_top.specs.Scenes.{SinkScene};
 ghost use Rattle.fsfs_top.specs.TxnAnswers.{names_text};
-ghost use Rattle.fsfs_disk.specs.Txns.{text_of};
+ghost use Rattle.fsfs_disk.specs.Transactions.Txns.{text_of};
 
 use arrayvec::ArrayString;
 use fsfs_base::{Failed, RevNum, Sink, TxnName, print};

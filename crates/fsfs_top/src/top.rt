@@ -3,7 +3,7 @@ ghost use Rattle.std.specs.Prelude.{◌≡◌, ◌≢◌, ◌⊎◌, ◌≤◌, 
 ghost use Rattle.fsfs_base.specs.Failures.{Rose};
 ghost use Rattle.fsfs_disk.specs.Trace.{Trace, files_now};
 ghost use Rattle.fsfs_disk.specs.Crash.{AllImages, IsFirm, Leaves};
-ghost use Rattle.fsfs_disk.specs.Removals.{HasSameLabels};
+ghost use Rattle.fsfs_disk.specs.Transactions.Removals.{HasSameLabels};
 ghost use Rattle.fsfs_create.specs.Creation.{IsUnpublished, HasRepository};
 ghost use Rattle.fsfs_cli.specs.Readings.{Asks};
 ghost use Rattle.fsfs_cli.specs.declared.request.Task.TheVariants.{Create, RemoveTxns, RunJobs};
@@ -14,7 +14,7 @@ ghost use Rattle.fsfs_top.specs.Command.{Created, Did, IsNoneOrCreated, IsNoneOr
 ghost use Rattle.fsfs_top.specs.Replies.{Replies, Gives, MadeStands};
 ghost use Rattle.fsfs_top.specs.Scenes.{host_scene, sink_scene, source_scene, scene};
 ghost use Rattle.fsfs_top.specs.Transactions.{LeavesRemoval};
-ghost use Rattle.fsfs_cli.specs.declared.faults_fault.Fault.{Fault};
+ghost use Rattle.fsfs_cli.specs.declared.faults.fault.Fault.{Fault};
 
 use crate::jobs::run_jobs;
 use crate::look::look_at;

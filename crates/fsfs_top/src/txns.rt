@@ -3,7 +3,7 @@ ghost use Rattle.std.specs.Prelude.{◌≡◌, ◌≢◌, ◌≤◌, ℕ, List, 
 ghost use Rattle.fsfs_base.specs.Failures.{Rose};
 ghost use Rattle.fsfs_disk.specs.Trace.{FirmNames, files_now, FailsAt};
 ghost use Rattle.fsfs_disk.specs.Crash.{AreAll, Leaves, LeavesBoth};
-ghost use Rattle.fsfs_disk.specs.Removals.{IsImageOf, WasKept};
+ghost use Rattle.fsfs_disk.specs.Transactions.Removals.{IsImageOf, WasKept};
 ghost use Rattle.fsfs_top.specs.Command.{fault_of};
 ghost use Rattle.fsfs_top.specs.Scenes.{host_scene, scene, sink_scene};
 ghost use Rattle.fsfs_top.specs.Transactions.{Lists, ListsOpened, ListsTxns, OpeningIsDecided, RemovesOpened, RemovesTxns, removal_fault};

@@ -6,7 +6,7 @@ use Rattle.std.specs.BTreeMap.{is_at}
 use Rattle.std.specs.Cmp.Lexicographic.{slice_cmp}
 use Rattle.std.specs.Ordering.{nat_cmp}
 use Rattle.jiff_core.specs.declared.civil.datetime.DateTime.{DateTime}
-use Rattle.fsfs_base.specs.Dates.{IsDateText}
+use Rattle.fsfs_base.specs.Fields.Dates.{IsDateText}
 use Rattle.fsfs_tree.specs.Revisions.{Revision}
 
 -- the number of a history's last revision

@@ -3,8 +3,8 @@
 use Rattle.std.specs.Prelude.{ℕ, ℤ, pos, List, [], ◌++◌, unsigned_abs, codes, Option, Some, None}
 use Rattle.jiff_core.specs.Calendar.{days_from_civil, weekday_number}
 use Rattle.jiff_fmt.specs.Rfc2822.{weekday_text, month_text}
-use Rattle.fsfs_base.specs.Dates.{two_digits, four_digits}
-use Rattle.fsfs_base.specs.DateReading.{Numbers, numbers_at}
+use Rattle.fsfs_base.specs.Fields.Dates.{two_digits, four_digits}
+use Rattle.fsfs_base.specs.Fields.DateReading.{Numbers, numbers_at}
 
 -- of a year from 0 to 9999
 abbrev pub year_digits : ℤ → List ℕ

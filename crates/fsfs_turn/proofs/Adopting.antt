@@ -3,7 +3,7 @@ use Rattle.std.proofs.Common.{◌≡◌, ◌⊎◌, ◌<◌, ◌≤◌, ◌+◌,
 use Rattle.std.specs.Prelude.{Option, Some, None, IfSome, OnOk, OnErr, Result, Ok, Err}
 use Rattle.std.proofs.lemmas.List.{take_all, length-take}
 use Rattle.fsfs_tree.specs.Revisions.{Revision}
-use Rattle.fsfs_model.specs.Transactions.{IsNext}
+use Rattle.fsfs_model.specs.Flat.Transactions.{IsNext}
 use Rattle.fsfs_layout.specs.declared.layout.Layout.{Layout}
 use Rattle.fsfs_disk.specs.Trace.{Trace, Operation, Done, Attempted, add_operation, change_of, files_after, ImageAfter, TornBy, Performs, FailsToPut, StaysAt}
 use Rattle.fsfs_disk.specs.Trace as real
@@ -14,9 +14,9 @@ use Rattle.fsfs_machine.specs.declared.contents.NameChange.TheVariants.{Put}
 use Rattle.fsfs_machine.specs.declared.machine.Recorded.{Recorded}
 use Rattle.fsfs_machine.specs.declared.machine.Coming.{Coming}
 use Rattle.fsfs_machine.specs.declared.machine.Txn.{Txn}
-use Rattle.fsfs_base.specs.declared.place.DiskPlace.{DiskPlace}
-use Rattle.fsfs_base.specs.declared.place.DiskPlace.TheVariants.{Commit}
-use Rattle.fsfs_base.specs.declared.place.CommitPlace.TheVariants.{PutRev}
+use Rattle.fsfs_base.specs.declared.places.place.DiskPlace.{DiskPlace}
+use Rattle.fsfs_base.specs.declared.places.place.DiskPlace.TheVariants.{Commit}
+use Rattle.fsfs_base.specs.declared.places.place.CommitPlace.TheVariants.{PutRev}
 use Rattle.fsfs_machine.specs.declared.machine.Section.TheVariants.{Begun, RevPut, Over}
 use Rattle.fsfs_machine.specs.declared.machine.Lock.TheVariants.{Held}
 use Rattle.fsfs_machine.specs.declared.machine.Went.{Went}

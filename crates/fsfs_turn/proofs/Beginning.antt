@@ -8,7 +8,7 @@ use Rattle.fsfs_disk.specs.Trace.{Operation, Done, files_after, ImageSince}
 use Rattle.fsfs_disk.specs.Trace as real
 use Rattle.fsfs_base.specs.Files.{Files}
 use Rattle.fsfs_tree.specs.Dated.{date_name}
-use Rattle.fsfs_layout.specs.Dump.{IsDump}
+use Rattle.fsfs_layout.specs.Hash.Dump.{IsDump}
 use Rattle.fsfs_layout.specs.CreatedFiles.{format_text, date_properties}
 use Rattle.fsfs_base.specs.FirstRevision.{first_bytes}
 use Rattle.fsfs_stands.specs.History.{ShowsHistory}

@@ -13,10 +13,10 @@ use Rattle.fsfs_machine.specs.declared.contents.Contents.{Contents}
 use Rattle.fsfs_machine.specs.declared.contents.Contents.TheVariants.{PropsFile, Number, Junk}
 use Rattle.fsfs_machine.specs.declared.contents.NameChange.{NameChange}
 use Rattle.fsfs_machine.specs.declared.contents.NameChange.TheVariants.{Put, Rename, Firm}
-use Rattle.fsfs_base.specs.declared.place.DiskPlace.{DiskPlace}
-use Rattle.fsfs_base.specs.declared.place.DiskPlace.TheVariants.{Begin, Commit}
-use Rattle.fsfs_base.specs.declared.place.BeginPlace.TheVariants as begin
-use Rattle.fsfs_base.specs.declared.place.CommitPlace.TheVariants.{PutProps, FirmRev, PutCurrent, RenameCurrent, FirmCurrent}
+use Rattle.fsfs_base.specs.declared.places.place.DiskPlace.{DiskPlace}
+use Rattle.fsfs_base.specs.declared.places.place.DiskPlace.TheVariants.{Begin, Commit}
+use Rattle.fsfs_base.specs.declared.places.place.BeginPlace.TheVariants as begin
+use Rattle.fsfs_base.specs.declared.places.place.CommitPlace.TheVariants.{PutProps, FirmRev, PutCurrent, RenameCurrent, FirmCurrent}
 use Rattle.fsfs_machine.specs.declared.machine.Section.{Section}
 use Rattle.fsfs_machine.specs.declared.machine.Section.TheVariants.{CountRead, CountPut, CountRenamed, RevPut, PropsPut, RevFirm, CurrentPut, CurrentRenamed}
 use Rattle.fsfs_machine.specs.declared.machine.Lock.TheVariants.{Held}

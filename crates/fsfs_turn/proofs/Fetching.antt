@@ -8,8 +8,8 @@ use Rattle.fsfs_layout.specs.declared.layout.Layout.{Layout}
 use Rattle.fsfs_disk.specs.Trace.{Trace, files_now, file_at, IsRead, IsSize}
 use Rattle.fsfs_machine.specs.declared.contents.FileName.TheVariants.{Rev}
 use Rattle.fsfs_machine.specs.declared.machine.Recorded.{Recorded}
-use Rattle.fsfs_base.specs.declared.place.DiskPlace.{DiskPlace}
-use Rattle.fsfs_base.specs.declared.place.DiskPlace.TheVariants.{Read}
+use Rattle.fsfs_base.specs.declared.places.place.DiskPlace.{DiskPlace}
+use Rattle.fsfs_base.specs.declared.places.place.DiskPlace.TheVariants.{Read}
 use Rattle.fsfs_machine.specs.declared.machine.Went.{Went}
 use Rattle.fsfs_machine.specs.declared.machine.Went.TheVariants.{Fine, Before}
 use Rattle.fsfs_machine.specs.declared.machine.Outcome.{Outcome}

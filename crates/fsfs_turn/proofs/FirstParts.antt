@@ -3,7 +3,7 @@ use Rattle.std.proofs.Common.{◌≤◌, ℕ, arith}
 use Rattle.fsfs_base.specs.Paths.{PathName, Path}
 use Rattle.fsfs_revision.specs.Told.{RevisionBytes}
 use Rattle.fsfs_noderev.specs.declared.node_rev.NodeRev.{NodeRev}
-use Rattle.fsfs_revision.specs.IdRules.{IdRule, IsOf, IsChild, CopyPartFrom, Directory, Before, Drawn}
+use Rattle.fsfs_revision.specs.Shows.IdRules.{IdRule, IsOf, IsChild, CopyPartFrom, Directory, Before, Drawn}
 
 module _ (look : RevisionBytes) (low top : ℕ) (le : low ≤ top) (w : IdRule look top) where
   up : (v : NodeRev) → IsOf look low v → IsOf look top v

@@ -8,7 +8,7 @@ use Rattle.fsfs_layout.specs.declared.layout.Layout.{Layout}
 use Rattle.fsfs_layout.specs.FileNames.{only_name}
 use Rattle.fsfs_layout.specs.Small.{IsRevLine}
 use Rattle.fsfs_layout.specs.declared.only_file.OnlyFile.TheVariants as only
-use Rattle.fsfs_layout.specs.Dump.{IsDump}
+use Rattle.fsfs_layout.specs.Hash.Dump.{IsDump}
 use Rattle.fsfs_disk.specs.Labels.{Label, has_label, with_label, without_label}
 use Rattle.fsfs_disk.specs.Trace.{Trace, KeepLabel, DropLabel, file_at, files_now, labels_now, IsRead, IsSize, Performs, PerformsIfThere, FailsAt, FailsToPut, FailsToAdopt}
 use Rattle.fsfs_disk.specs.Trace as real
@@ -18,7 +18,7 @@ use Rattle.fsfs_machine.specs.declared.machine.Recorded.{Recorded}
 use Rattle.fsfs_machine.specs.declared.machine.Coming.{Coming}
 use Rattle.fsfs_machine.specs.declared.machine.Drawn.{Drawn}
 use Rattle.fsfs_machine.specs.declared.machine.Txn.{Txn}
-use Rattle.fsfs_base.specs.declared.place.DiskPlace.{DiskPlace}
+use Rattle.fsfs_base.specs.declared.places.place.DiskPlace.{DiskPlace}
 use Rattle.fsfs_machine.specs.declared.machine.Section.TheVariants.{Begun, CurrentFirm, Doubtful}
 use Rattle.fsfs_machine.specs.declared.machine.Step.TheVariants as step
 use Rattle.fsfs_machine.specs.declared.machine.Went.{Went}

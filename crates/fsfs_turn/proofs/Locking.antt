@@ -6,7 +6,7 @@ use Rattle.fsfs_layout.specs.declared.layout.Layout.{Layout}
 use Rattle.fsfs_disk.specs.Trace.{Trace}
 use Rattle.fsfs_machine.specs.declared.machine.Recorded.{Recorded}
 use Rattle.fsfs_machine.specs.declared.machine.Coming.{Coming}
-use Rattle.fsfs_base.specs.declared.place.DiskPlace.{DiskPlace}
+use Rattle.fsfs_base.specs.declared.places.place.DiskPlace.{DiskPlace}
 use Rattle.fsfs_machine.specs.declared.machine.Pass.{Pass}
 use Rattle.fsfs_machine.specs.declared.machine.Section.{Section}
 use Rattle.fsfs_machine.specs.declared.machine.Section.TheVariants.{Begun, CurrentFirm, Doubtful, Over}

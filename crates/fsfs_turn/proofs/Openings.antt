@@ -5,11 +5,11 @@ use Rattle.std.proofs.lemmas.List.{take_all, length-take}
 use Rattle.std.proofs.lemmas.Option.{slice_get_within}
 use Rattle.std.specs.Prelude.{Option, Some, None, Result, Ok, Err, unwrap_or, slice_get, nat_lt}
 use Rattle.std.specs.FinMap.{get}
-use Rattle.fsfs_base.specs.Numeral.{IsNumber}
+use Rattle.fsfs_base.specs.Grammar.Numeral.{IsNumber}
 use Rattle.fsfs_base.specs.Files.{Files}
 use Rattle.fsfs_tree.specs.Dated.{last_of}
 use Rattle.fsfs_tree.specs.Revisions.{Revision}
-use Rattle.fsfs_layout.specs.Dump.{IsDump}
+use Rattle.fsfs_layout.specs.Hash.Dump.{IsDump}
 use Rattle.fsfs_layout.specs.FileNames.{only_name}
 use Rattle.fsfs_layout.specs.Opening.{text_at}
 use Rattle.fsfs_layout.specs.Small.{IsMinUnpackedRev}
@@ -20,7 +20,7 @@ use Rattle.fsfs_revision.specs.Told.{RevisionBytes}
 use Rattle.fsfs_revision.specs.RevBytes.{floor_in, packed_bytes, or_missing, by_floor, rev_file, rev_bytes, props_bytes}
 use Rattle.fsfs_revision.proofs.FloorLemmas.{floor_is}
 use Rattle.fsfs_fetch.specs.Kept.{agrees}
-use Rattle.fsfs_revision.specs.Bounded.{AreSameUpTo}
+use Rattle.fsfs_revision.specs.Ancestry.Bounded.{AreSameUpTo}
 use Rattle.fsfs_revision.proofs.BoundedIds.{ids_same}
 use Rattle.fsfs_stands.specs.Changes.{AreChangesOf}
 use Rattle.fsfs_stands.specs.History.{ShowsRevision}

@@ -16,10 +16,10 @@ use Rattle.fsfs_layout.specs.declared.repository_file.RepositoryFile.TheVariants
 use Rattle.fsfs_layout.proofs.Apart.{names_apart}
 use Rattle.fsfs_disk.specs.Trace.{Trace, NameChange, Operation, Done, Attempted, Put, Adopt, Rename, Remove, FirmNames, KeepLabel, DropLabel, change_of, files_after, files_now, IsImage, ImageAfter, TornBy, ImageSince}
 use Rattle.fsfs_disk.proofs.CrashLemmas.{image_now, files_are_image}
-use Rattle.fsfs_base.specs.declared.place.DiskPlace.{DiskPlace}
-use Rattle.fsfs_base.specs.declared.place.DiskPlace.TheVariants.{Begin, Commit}
-use Rattle.fsfs_base.specs.declared.place.BeginPlace.TheVariants as begin
-use Rattle.fsfs_base.specs.declared.place.CommitPlace.TheVariants.{PutProps, FirmRev, PutCurrent, RenameCurrent, FirmCurrent}
+use Rattle.fsfs_base.specs.declared.places.place.DiskPlace.{DiskPlace}
+use Rattle.fsfs_base.specs.declared.places.place.DiskPlace.TheVariants.{Begin, Commit}
+use Rattle.fsfs_base.specs.declared.places.place.BeginPlace.TheVariants as begin
+use Rattle.fsfs_base.specs.declared.places.place.CommitPlace.TheVariants.{PutProps, FirmRev, PutCurrent, RenameCurrent, FirmCurrent}
 use Rattle.fsfs_machine.specs.declared.contents.FileName.{FileName}
 use Rattle.fsfs_machine.specs.declared.contents.FileName.TheVariants.{Current, CurrentNext, Counter, CounterNext, Floor, Rev, Props}
 use Rattle.fsfs_machine.specs.declared.machine.Txn.{Txn}

@@ -12,13 +12,13 @@ use Rattle.fsfs_layout.specs.Small.{IsRevLine, IsBase36Line}
 use Rattle.fsfs_layout.specs.declared.layout.Layout.{Layout}
 use Rattle.fsfs_layout.specs.declared.only_file.OnlyFile.TheVariants as only
 use Rattle.fsfs_revision.specs.RevBytes.{or_missing, rev_bytes, props_bytes}
-use Rattle.fsfs_revision.specs.Bounded.{AreSameUpTo}
+use Rattle.fsfs_revision.specs.Ancestry.Bounded.{AreSameUpTo}
 use Rattle.fsfs_revision.proofs.BoundedIds.{ids_same}
 use Rattle.fsfs_stands.specs.History.{ShowsRevision, ShowsHistory}
 use Rattle.fsfs_stands.proofs.Seen.{revision_same}
 use Rattle.fsfs_disk.specs.Trace.{Trace, files_now}
 use Rattle.fsfs_disk.specs.Trace as real
-use Rattle.fsfs_base.specs.declared.place.DiskPlace.{DiskPlace}
+use Rattle.fsfs_base.specs.declared.places.place.DiskPlace.{DiskPlace}
 use Rattle.fsfs_stands.specs.Files.{StandsFor}
 use Rattle.fsfs_machine.specs.declared.contents.FileName.TheVariants.{Counter}
 use Rattle.fsfs_machine.specs.declared.contents.Contents.TheVariants.{Number}

@@ -2,7 +2,7 @@
 use Rattle.std.specs.Prelude.{◌⊎◌, ℕ, List}
 use Rattle.fsfs_tree.specs.Revisions.{Revision}
 use Rattle.fsfs_disk.specs.Trace.{Put}
-use Rattle.fsfs_base.specs.declared.place.DiskPlace.{DiskPlace}
+use Rattle.fsfs_base.specs.declared.places.place.DiskPlace.{DiskPlace}
 use Rattle.fsfs_machine.specs.declared.machine.Txn.{Txn}
 use Rattle.fsfs_turn.specs.declared.adoption.Adoption.{Adoption}
 use Rattle.fsfs_turn.specs.Views.{View, IsDue, MayAdopt}

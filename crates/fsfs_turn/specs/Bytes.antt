@@ -5,8 +5,8 @@ use Rattle.fsfs_tree.specs.Dated.{IsDated, last_of}
 use Rattle.fsfs_revision.specs.declared.wrong.Refusal.{Refusal}
 use Rattle.fsfs_revision.specs.declared.wrong.Refusal.TheVariants.{Missing}
 use Rattle.fsfs_revision.specs.Told.{RevisionBytes}
-use Rattle.fsfs_revision.specs.Shown.{Shows}
-use Rattle.fsfs_revision.specs.IdRules.{IdRule}
+use Rattle.fsfs_revision.specs.Shows.Shown.{Shows}
+use Rattle.fsfs_revision.specs.Shows.IdRules.{IdRule}
 use Rattle.fsfs_stands.specs.Changes.{AreChangesOf}
 use Rattle.fsfs_machine.specs.declared.machine.Recorded.{Recorded}
 use Rattle.fsfs_machine.specs.Machine.{revisions}

@@ -6,7 +6,7 @@ use Rattle.std.specs.Cmp.Lexicographic.{nat_list_eq_equiv, pointwise}
 use Rattle.std.proofs.lemmas.List.{length-take}
 use Rattle.std.proofs.lemmas.Option.{slice_get_within}
 use Rattle.fsfs_base.specs.Files.{Files}
-use Rattle.fsfs_layout.specs.Dump.{IsDump}
+use Rattle.fsfs_layout.specs.Hash.Dump.{IsDump}
 use Rattle.fsfs_layout.specs.FileNames.{only_name}
 use Rattle.fsfs_layout.specs.Opening.{text_at}
 use Rattle.fsfs_layout.specs.Small.{IsRevLine, IsMinUnpackedRev}
@@ -19,7 +19,7 @@ use Rattle.fsfs_fetch.specs.Kept.{agrees}
 use Rattle.fsfs_fetch.specs.Views.{Reach, Ends, IsKnown}
 use Rattle.fsfs_revision.specs.declared.wrong.Refusal.{Refusal}
 use Rattle.fsfs_disk.specs.Trace.{Trace, files_now}
-use Rattle.fsfs_base.specs.declared.place.DiskPlace.{DiskPlace}
+use Rattle.fsfs_base.specs.declared.places.place.DiskPlace.{DiskPlace}
 use Rattle.fsfs_machine.specs.declared.contents.Contents.{Contents}
 use Rattle.fsfs_machine.specs.declared.contents.Contents.TheVariants.{PropsFile, Number}
 use Rattle.fsfs_machine.specs.declared.contents.FileName.{FileName}

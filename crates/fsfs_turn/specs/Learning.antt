@@ -11,8 +11,8 @@ use Rattle.fsfs_machine.specs.declared.machine.Recorded.{Recorded}
 use Rattle.fsfs_machine.specs.declared.machine.Drawn.{Drawn}
 use Rattle.fsfs_machine.specs.declared.machine.Txn.{Txn}
 use Rattle.fsfs_machine.specs.declared.machine.Pass.{Pass}
-use Rattle.fsfs_base.specs.declared.place.DiskPlace.TheVariants as place
-use Rattle.fsfs_base.specs.declared.place.BeginPlace.TheVariants as begin
+use Rattle.fsfs_base.specs.declared.places.place.DiskPlace.TheVariants as place
+use Rattle.fsfs_base.specs.declared.places.place.BeginPlace.TheVariants as begin
 use Rattle.fsfs_machine.specs.declared.machine.Section.TheVariants.{CountRead, Over}
 use Rattle.fsfs_machine.specs.declared.machine.Went.{Went}
 use Rattle.fsfs_machine.specs.declared.machine.Outcome.{Outcome}

@@ -6,10 +6,10 @@ use Rattle.fsfs_layout.specs.Formats.{IsFormat}
 use Rattle.fsfs_layout.specs.Opening.{small_texts, IsFsfs, text_at}
 use Rattle.fsfs_layout.specs.Small.{IsUuid}
 use Rattle.fsfs_layout.specs.declared.layout.Layout.{Layout}
-use Rattle.fsfs_layout.specs.declared.format_file.Format.TheVariants.{Sharded}
+use Rattle.fsfs_layout.specs.declared.small_files.format_file.Format.TheVariants.{Sharded}
 use Rattle.fsfs_layout.specs.declared.only_file.OnlyFile.TheVariants as only
 use Rattle.fsfs_disk.specs.Trace.{Trace, files_now, IsImage, ImageSince}
-use Rattle.fsfs_base.specs.declared.place.DiskPlace.{DiskPlace}
+use Rattle.fsfs_base.specs.declared.places.place.DiskPlace.{DiskPlace}
 use Rattle.fsfs_stands.specs.Files.{StandsFor}
 use Rattle.fsfs_machine.specs.declared.machine.Recorded.{Recorded}
 use Rattle.fsfs_machine.specs.declared.machine.Coming.{Coming}

@@ -2,9 +2,9 @@
 use Rattle.std.specs.Prelude.{◌≡◌, ℕ, List, true, Option, Some, Ok, slice_get, option_map}
 use Rattle.fsfs_base.specs.Files.{Files}
 use Rattle.fsfs_layout.specs.declared.layout.Layout.{Layout}
-use Rattle.fsfs_layout.specs.Dump.{IsDump}
+use Rattle.fsfs_layout.specs.Hash.Dump.{IsDump}
 use Rattle.fsfs_disk.specs.Trace.{Trace, files_now}
-use Rattle.fsfs_base.specs.declared.place.DiskPlace.{DiskPlace}
+use Rattle.fsfs_base.specs.declared.places.place.DiskPlace.{DiskPlace}
 use Rattle.fsfs_revision.specs.RevBytes.{rev_bytes, rev_file, props_bytes}
 use Rattle.fsfs_fetch.specs.Views.{View as StoreView, Ends, IsKnown}
 use Rattle.fsfs_fetch.specs.Kept.{agrees}

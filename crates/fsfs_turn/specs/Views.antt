@@ -2,23 +2,23 @@
 use Rattle.std.specs.Prelude.{◌≡◌, ◌+◌, ◌<◌, ◌≤◌, ◌^◌, ℕ, List, [], ◌∷◌, ◌++◌, length, map, take, drop, Bool, true, false, Option, Some, None, slice_get, Result, Ok, Err}
 use Rattle.std.specs.FinMap.{get}
 use Rattle.fsfs_tree.specs.Revisions.{Revision, tree_of}
-use Rattle.fsfs_model.specs.Transactions.{IsTransaction, IsNext}
+use Rattle.fsfs_model.specs.Flat.Transactions.{IsTransaction, IsNext}
 use Rattle.fsfs_tree.specs.Dated.{IsDated, last_of}
 use Rattle.fsfs_layout.specs.FileNames.{file_name, only_name}
 use Rattle.fsfs_layout.specs.declared.layout.Layout.{Layout}
 use Rattle.fsfs_layout.specs.declared.only_file.OnlyFile.TheVariants as only
 use Rattle.fsfs_layout.specs.declared.repository_file.RepositoryFile.TheVariants as file
 use Rattle.fsfs_layout.specs.Small.{IsRevLine, IsBase36Line}
-use Rattle.fsfs_layout.specs.Dump.{IsDump}
+use Rattle.fsfs_layout.specs.Hash.Dump.{IsDump}
 use Rattle.fsfs_disk.specs.Trace as real
 use Rattle.fsfs_machine.specs.declared.machine.Recorded.{Recorded}
 use Rattle.fsfs_machine.specs.declared.machine.Coming.{Coming}
 use Rattle.fsfs_machine.specs.declared.machine.Drawn.{Drawn}
 use Rattle.fsfs_machine.specs.declared.machine.Txn.{Txn}
-use Rattle.fsfs_base.specs.declared.place.DiskPlace.{DiskPlace}
-use Rattle.fsfs_base.specs.declared.place.DiskPlace.TheVariants.{Read, Begin, Commit}
-use Rattle.fsfs_base.specs.declared.place.BeginPlace.TheVariants as begin
-use Rattle.fsfs_base.specs.declared.place.CommitPlace.TheVariants.{PutRev, PutProps, FirmRev, PutCurrent, RenameCurrent, FirmCurrent}
+use Rattle.fsfs_base.specs.declared.places.place.DiskPlace.{DiskPlace}
+use Rattle.fsfs_base.specs.declared.places.place.DiskPlace.TheVariants.{Read, Begin, Commit}
+use Rattle.fsfs_base.specs.declared.places.place.BeginPlace.TheVariants as begin
+use Rattle.fsfs_base.specs.declared.places.place.CommitPlace.TheVariants.{PutRev, PutProps, FirmRev, PutCurrent, RenameCurrent, FirmCurrent}
 use Rattle.fsfs_machine.specs.declared.machine.Section.{Section}
 use Rattle.fsfs_machine.specs.declared.machine.Section.TheVariants.{Begun, CountRead, CountPut, CountRenamed, RevPut, PropsPut, RevFirm, CurrentPut, CurrentRenamed, Over}
 use Rattle.fsfs_machine.specs.declared.machine.Pass.{Pass}

@@ -3,7 +3,7 @@ use Rattle.std.proofs.Common.{◌≡◌, ◌≤◌, ◌⊎◌, ◌+◌, ℕ, zer
 use Rattle.std.specs.Prelude.{Option, Some, None, Ok, Err}
 use Rattle.fsfs_base.specs.Paths.{PathName, Path}
 use Rattle.fsfs_tree.specs.Nodes.{TreeFunction}
-use Rattle.fsfs_base.specs.declared.txn_name.TxnName.{TxnName}
+use Rattle.fsfs_base.specs.declared.fields.txn_name.TxnName.{TxnName}
 use Rattle.fsfs_revision.specs.Told.{RevisionBytes}
 use Rattle.fsfs_noderev.specs.Ids.{Old, part_value}
 use Rattle.fsfs_noderev.specs.declared.node_id.NodeId.{NodeId}
@@ -11,9 +11,9 @@ use Rattle.fsfs_noderev.specs.declared.node_rev.CopySource.{CopySource}
 use Rattle.fsfs_noderev.specs.declared.node_rev.NodeRev.{NodeRev}
 use Rattle.fsfs_revision.specs.declared.wrong.ReadError.{ReadError}
 use Rattle.fsfs_revision.specs.declared.wrong.ReadError.TheVariants as reads
-use Rattle.fsfs_revision.specs.Readings.{Answers}
+use Rattle.fsfs_revision.specs.Damage.Readings.{Answers}
 use Rattle.fsfs_revision.proofs.OneAnswer.{ok_same}
-use Rattle.fsfs_revision.specs.ShowsReading.{OfId, offset_of, StandsAt}
+use Rattle.fsfs_revision.specs.Shows.Reading.{OfId, offset_of, StandsAt}
 use Rattle.fsfs_revision.proofs.OneWalk.{of_id_one}
 use Rattle.fsfs_revision.proofs.Walks.{take_front}
 use Rattle.fsfs_draft.specs.Own.{OwnNode, Own}
@@ -25,7 +25,7 @@ use Rattle.fsfs_draft.specs.Walks.{IsAt}
 use Rattle.fsfs_draft.specs.declared.walk.Step.{Step}
 use Rattle.fsfs_draft.specs.declared.walk.Step.TheVariants as steps
 use Rattle.fsfs_draft.proofs.Walking.{pushed}
-use Rattle.fsfs_txn.specs.Mergeinfo.{has_counts, RevisionHas, IsPlainAt, MeetsCountsTo, LacksCountsTo, CountsTo}
+use Rattle.fsfs_txn.specs.Edits.Mergeinfo.{has_counts, RevisionHas, IsPlainAt, MeetsCountsTo, LacksCountsTo, CountsTo}
 use Rattle.fsfs_txn.specs.Seeing.{counts_with}
 
 -- ---- the base's root

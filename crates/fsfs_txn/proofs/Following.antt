@@ -6,7 +6,7 @@ use Rattle.fsfs_base.specs.declared.kind.Kind.{Kind}
 use Rattle.fsfs_base.specs.declared.kind.Kind.TheVariants.{File, Dir}
 use Rattle.fsfs_base.proofs.PathLemmas.{same_name-is}
 use Rattle.fsfs_base.proofs.ResultLemmas.{not_none}
-use Rattle.fsfs_base.specs.declared.txn_name.TxnName.{TxnName}
+use Rattle.fsfs_base.specs.declared.fields.txn_name.TxnName.{TxnName}
 use Rattle.fsfs_revision.specs.Told.{RevisionBytes}
 use Rattle.fsfs_noderev.specs.Ids.{part_value}
 use Rattle.fsfs_noderev.specs.declared.node_id.Part.{Part}
@@ -15,8 +15,8 @@ use Rattle.fsfs_noderev.specs.declared.node_id.NodeId.{NodeId}
 use Rattle.fsfs_noderev.specs.declared.node_rev.NodeRev.{NodeRev}
 use Rattle.fsfs_revision.specs.Nodes.{is_revision_id}
 use Rattle.fsfs_revision.proofs.OneAnswer.{ok_same, and_then_one}
-use Rattle.fsfs_revision.specs.Readings.{HasOneAnswer}
-use Rattle.fsfs_revision.specs.ShowsReading.{DirEntry, named, OfId}
+use Rattle.fsfs_revision.specs.Damage.Readings.{HasOneAnswer}
+use Rattle.fsfs_revision.specs.Shows.Reading.{DirEntry, named, OfId}
 use Rattle.fsfs_revision.proofs.OneWalk.{of_id_one}
 use Rattle.fsfs_revision.proofs.OneEntry.{entries_one}
 use Rattle.fsfs_revision.proofs.DamageLemmas.{no_both}
@@ -27,9 +27,9 @@ use Rattle.fsfs_draft.proofs.Changing.{no_txn_place}
 use Rattle.fsfs_draft.specs.Entries.{OfKind, OfIdEntries, OfPredecessor, OfListed, OfKept}
 use Rattle.fsfs_draft.specs.Views.{new_kept, opened_kept}
 use Rattle.fsfs_draft.proofs.OwnEntries.{lasting_parts}
-use Rattle.fsfs_edit.specs.Mutable.{IsPartOf, Directory, Same, Drawn, IsChildChanged}
-use Rattle.fsfs_txn.specs.declared.known.Known.{Known}
-use Rattle.fsfs_txn.specs.OpenedLeading.{IsAmong, IsSourceKnown, IsEndKnown, OwnEnd, LastingEnd, HasEntries, OfOwn, OfLasting, LeadsDown}
+use Rattle.fsfs_edit.specs.DagEdits.Mutable.{IsPartOf, Directory, Same, Drawn, IsChildChanged}
+use Rattle.fsfs_txn.specs.declared.opened.known.Known.{Known}
+use Rattle.fsfs_txn.specs.Opened.Leading.{IsAmong, IsSourceKnown, IsEndKnown, OwnEnd, LastingEnd, HasEntries, OfOwn, OfLasting, LeadsDown}
 
 -- ---- ids
 

@@ -4,8 +4,8 @@ use Rattle.fsfs_base.specs.Paths.{Path}
 use Rattle.fsfs_base.specs.declared.kind.Kind.{Kind}
 use Rattle.fsfs_base.specs.declared.kind.Kind.TheVariants.{File, Dir}
 use Rattle.fsfs_tree.specs.Nodes.{TreeFunction, Content}
-use Rattle.fsfs_model.specs.declared.mark.Mark.{Mark}
-use Rattle.fsfs_base.specs.declared.txn_name.TxnName.{TxnName}
+use Rattle.fsfs_model.specs.declared.flat.mark.Mark.{Mark}
+use Rattle.fsfs_base.specs.declared.fields.txn_name.TxnName.{TxnName}
 use Rattle.fsfs_revision.specs.Told.{RevisionBytes}
 use Rattle.fsfs_noderev.specs.Ids.{PartValue, New, Old, Made}
 use Rattle.fsfs_noderev.specs.declared.node_id.NodeId.{NodeId}
@@ -15,8 +15,8 @@ use Rattle.fsfs_draft.specs.Own.{OwnNode, Own}
 use Rattle.fsfs_draft.specs.Drafts.{Folder, IsBelow, IsFileText, Lasting, Put, IsDraftText, HasContent, IsDraft}
 use Rattle.fsfs_draft.specs.Edits.{IsDraftAfter}
 use Rattle.fsfs_edit.specs.Ways.{IsOpenedAt}
-use Rattle.fsfs_txn_nodes.specs.Texts.{longer}
-use Rattle.fsfs_txn.specs.Growing.{grown, IsLonger, DraftsGrow}
+use Rattle.fsfs_txn_nodes.specs.Memory.Texts.{longer}
+use Rattle.fsfs_txn.specs.Opened.Growing.{grown, IsLonger, DraftsGrow}
 
 file_longer : (look : RevisionBytes) (proto more : List ℕ) (v : NodeRev) (text : Content) → IsFileText look proto v text → IsFileText look (proto ++ more) v text
 file_longer look proto more v text (Lasting lasts is) = Lasting lasts is

@@ -1,14 +1,14 @@
 -- Where ways lead, under other names.
 use Rattle.std.proofs.Common.{◌≡◌, subst}
 use Rattle.std.specs.Prelude.{Result, Ok}
-use Rattle.fsfs_base.specs.declared.txn_name.TxnName.{TxnName}
+use Rattle.fsfs_base.specs.declared.fields.txn_name.TxnName.{TxnName}
 use Rattle.fsfs_draft.specs.Drafts.{Folder}
 use Rattle.fsfs_draft.specs.declared.error.EditError.{EditError}
-use Rattle.fsfs_txn.specs.declared.opened_opening.Opening.{Opening}
-use Rattle.fsfs_txn.specs.declared.opened_opening.Way.{Way}
+use Rattle.fsfs_txn.specs.declared.opened.opening.Opening.{Opening}
+use Rattle.fsfs_txn.specs.declared.opened.opening.Way.{Way}
 use Rattle.fsfs_revision.specs.Told.{Told}
-use Rattle.fsfs_txn.specs.OpenedLeading.{LacksNothing, LeadStill}
-use Rattle.fsfs_txn.specs.OpenedOpening.{OpensLeading}
+use Rattle.fsfs_txn.specs.Opened.Leading.{LacksNothing, LeadStill}
+use Rattle.fsfs_txn.specs.Opened.Opening.{OpensLeading}
 use Rattle.fsfs_txn.specs.declared.opening.Opened.{Opened}
 use Rattle.fsfs_txn.specs.declared.opening.PathOpened.{PathOpened}
 use Rattle.fsfs_txn.specs.declared.opening.PathOpened.TheVariants as paths

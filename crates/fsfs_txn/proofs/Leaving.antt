@@ -4,12 +4,12 @@ use Rattle.std.specs.Prelude.{Some, None, Result, Ok, Err, IfOk, IfErr}
 use Rattle.fsfs_base.specs.Paths.{PathName, Path}
 use Rattle.fsfs_base.specs.declared.kind.Kind.TheVariants.{Dir}
 use Rattle.fsfs_tree.specs.Nodes.{TreeFunction}
-use Rattle.fsfs_base.specs.declared.txn_name.TxnName.{TxnName}
+use Rattle.fsfs_base.specs.declared.fields.txn_name.TxnName.{TxnName}
 use Rattle.fsfs_revision.specs.Told.{RevisionBytes}
 use Rattle.fsfs_noderev.specs.declared.node_id.NodeId.{NodeId}
 use Rattle.fsfs_noderev.specs.declared.node_rev.NodeRev.{NodeRev}
 use Rattle.fsfs_revision.specs.Nodes.{is_revision_id}
-use Rattle.fsfs_revision.specs.ShowsReading.{DirEntry, named, OfId}
+use Rattle.fsfs_revision.specs.Shows.Reading.{DirEntry, named, OfId}
 use Rattle.fsfs_revision.proofs.DamageLemmas.{no_both}
 use Rattle.fsfs_draft.specs.Own.{OwnNode, Own}
 use Rattle.fsfs_draft.specs.Drafts.{Kept, Folder, kept_of, IsDraft, ShowTrees}
@@ -18,11 +18,11 @@ use Rattle.fsfs_draft.specs.Entries.{OfKept}
 use Rattle.fsfs_draft.specs.Errors.{IsWant}
 use Rattle.fsfs_draft.specs.declared.error.EditError.{EditError}
 use Rattle.fsfs_draft.specs.declared.error.EditError.TheVariants as errors
-use Rattle.fsfs_edit.specs.Mutable.{IsAmiss, IsChildChanged}
+use Rattle.fsfs_edit.specs.DagEdits.Mutable.{IsAmiss, IsChildChanged}
 use Rattle.fsfs_edit.proofs.Making.{not_amiss}
-use Rattle.fsfs_txn.specs.declared.known.Known.{Known}
-use Rattle.fsfs_txn.specs.OpenedLeading.{IsSourceKnown, HasEntries, OfOwn, OfLasting, LeadsDown}
-use Rattle.fsfs_txn.specs.Stepping.{LeadsOn, LeadsAsBefore}
+use Rattle.fsfs_txn.specs.declared.opened.known.Known.{Known}
+use Rattle.fsfs_txn.specs.Opened.Leading.{IsSourceKnown, HasEntries, OfOwn, OfLasting, LeadsDown}
+use Rattle.fsfs_txn.specs.Opened.Stepping.{LeadsOn, LeadsAsBefore}
 use Rattle.fsfs_txn.proofs.Following.{same_some, child_still, still_leads}
 
 -- the entries of an own directory, and what is known of them

@@ -4,8 +4,8 @@ use Rattle.std.specs.Prelude.{Option, Some, None, is_some, Result, Ok, Err}
 use Rattle.fsfs_base.specs.Paths.{PathName, Path}
 use Rattle.fsfs_base.specs.declared.kind.Kind.{Kind}
 use Rattle.fsfs_tree.specs.Nodes.{Node, TreeFunction}
-use Rattle.fsfs_model.specs.declared.mark.Mark.{Mark}
-use Rattle.fsfs_base.specs.declared.txn_name.TxnName.{TxnName}
+use Rattle.fsfs_model.specs.declared.flat.mark.Mark.{Mark}
+use Rattle.fsfs_base.specs.declared.fields.txn_name.TxnName.{TxnName}
 use Rattle.fsfs_revision.specs.Told.{Told, RevisionBytes}
 use Rattle.fsfs_draft.specs.Own.{Own, draft_tree}
 use Rattle.fsfs_draft.specs.Drafts.{Folder, bare}
@@ -15,11 +15,11 @@ use Rattle.fsfs_draft.specs.declared.error.EditError.{EditError}
 use Rattle.fsfs_draft.specs.declared.walk.Child.{Child}
 use Rattle.fsfs_edit.proofs.Bare.{bare_none, bare_some, bare_kind, lacks_over, blocked_over}
 use Rattle.fsfs_edit.proofs.MakingAt.{kind_some}
-use Rattle.fsfs_txn.specs.declared.opened_opening.Opening.{Opening}
-use Rattle.fsfs_txn.specs.OpenedOpening.{OpensAt}
+use Rattle.fsfs_txn.specs.declared.opened.opening.Opening.{Opening}
+use Rattle.fsfs_txn.specs.Opened.Opening.{OpensAt}
 use Rattle.fsfs_txn.specs.declared.seeing.Seen.{Seen}
 use Rattle.fsfs_txn.specs.declared.seeing.Seen.TheVariants as seens
-use Rattle.fsfs_txn.specs.declared.above.Above.{Above}
+use Rattle.fsfs_txn.specs.declared.edits.above.Above.{Above}
 use Rattle.fsfs_txn.specs.Seeing.{IsSeen, Sees, IsTaken, AboveFrom}
 
 module _ (look : RevisionBytes) (trees : ℕ → TreeFunction) (top base : ℕ) (txn : TxnName) (f : Folder) (tree : TreeFunction) (marks : List Mark) (d : IsDraftAfter look trees top base txn f tree marks) where

@@ -7,13 +7,13 @@ use Rattle.fsfs_base.specs.declared.kind.Kind.TheVariants.{Dir}
 use Rattle.fsfs_tree.specs.Nodes.{Node, TreeFunction}
 use Rattle.fsfs_tree.specs.Trees.{IsTree}
 use Rattle.fsfs_tree.specs.Histories.{AreRevisions}
-use Rattle.fsfs_model.specs.Edits.{parent}
-use Rattle.fsfs_model.specs.Transactions.{Edited}
-use Rattle.fsfs_model.specs.declared.edit.Edit.{Edit}
-use Rattle.fsfs_model.specs.declared.edit.Edit.TheVariants.{Delete, Copy}
-use Rattle.fsfs_model.specs.declared.mark.Mark.{Mark}
+use Rattle.fsfs_model.specs.Flat.Edits.{parent}
+use Rattle.fsfs_model.specs.Flat.Transactions.{Edited}
+use Rattle.fsfs_model.specs.declared.flat.edit.Edit.{Edit}
+use Rattle.fsfs_model.specs.declared.flat.edit.Edit.TheVariants.{Delete, Copy}
+use Rattle.fsfs_model.specs.declared.flat.mark.Mark.{Mark}
 use Rattle.fsfs_model.proofs.Legal.{landing_leaves_a_tree}
-use Rattle.fsfs_base.specs.declared.txn_name.TxnName.{TxnName}
+use Rattle.fsfs_base.specs.declared.fields.txn_name.TxnName.{TxnName}
 use Rattle.fsfs_revision.specs.Told.{Told, RevisionBytes}
 use Rattle.fsfs_noderev.specs.declared.node_rev.CopySource.{CopySource}
 use Rattle.fsfs_draft.specs.Own.{Own}
@@ -34,24 +34,24 @@ use Rattle.fsfs_edit.specs.declared.delete.Gone.{Gone}
 use Rattle.fsfs_edit.specs.declared.delete.Gone.TheVariants as gones
 use Rattle.fsfs_edit.specs.declared.copy.Copied as edit_copied
 use Rattle.fsfs_edit.specs.declared.copy.Copied.TheVariants as copies
-use Rattle.fsfs_txn.specs.declared.making.Made as making_outcome
-use Rattle.fsfs_txn.specs.declared.making.Made.TheVariants as outcomes_made
-use Rattle.fsfs_txn.specs.declared.deleting.Deleted as deleting_outcome
-use Rattle.fsfs_txn.specs.declared.deleting.Deleted.TheVariants as outcomes_deleted
-use Rattle.fsfs_txn.specs.declared.copying.Copied as copying_outcome
-use Rattle.fsfs_txn.specs.declared.copying.Copied.TheVariants as outcomes_copied
-use Rattle.fsfs_txn.specs.declared.sources.Source.{Source}
-use Rattle.fsfs_txn.specs.declared.sources.Source.TheVariants as sources
+use Rattle.fsfs_txn.specs.declared.edits.making.Made as making_outcome
+use Rattle.fsfs_txn.specs.declared.edits.making.Made.TheVariants as outcomes_made
+use Rattle.fsfs_txn.specs.declared.edits.deleting.Deleted as deleting_outcome
+use Rattle.fsfs_txn.specs.declared.edits.deleting.Deleted.TheVariants as outcomes_deleted
+use Rattle.fsfs_txn.specs.declared.edits.copying.Copied as copying_outcome
+use Rattle.fsfs_txn.specs.declared.edits.copying.Copied.TheVariants as outcomes_copied
+use Rattle.fsfs_txn.specs.declared.edits.sources.Source.{Source}
+use Rattle.fsfs_txn.specs.declared.edits.sources.Source.TheVariants as sources
 use Rattle.fsfs_txn.specs.declared.opening.PathOpened.{PathOpened}
 use Rattle.fsfs_txn.specs.declared.opening.PathOpened.TheVariants as paths
 use Rattle.fsfs_txn.specs.Opening.{IsOpeningPath}
-use Rattle.fsfs_txn.specs.Mergeinfo.{RevisionHas, MeetsCounts, LacksCounts}
+use Rattle.fsfs_txn.specs.Edits.Mergeinfo.{RevisionHas, MeetsCounts, LacksCounts}
 use Rattle.fsfs_txn.specs.Standing.{Stands, IsEdited, IsFree}
-use Rattle.fsfs_txn.specs.Making as making
-use Rattle.fsfs_txn.specs.Deleting as deleting
+use Rattle.fsfs_txn.specs.Edits.Making as making
+use Rattle.fsfs_txn.specs.Edits.Deleting as deleting
 use Rattle.fsfs_txn.specs.Seeing.{TakesAt}
-use Rattle.fsfs_txn.specs.Sources.{IsSource, is_plain}
-use Rattle.fsfs_txn.specs.Copying as copying
+use Rattle.fsfs_txn.specs.Edits.Sources.{IsSource, is_plain}
+use Rattle.fsfs_txn.specs.Edits.Copying as copying
 
 -- a failure leaves what was not changed
 pub stays_of : (e : EditError) (P : Type 0) → P → errors.IsFailure e → errors.IfStays e P

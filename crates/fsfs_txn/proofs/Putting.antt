@@ -7,33 +7,33 @@ use Rattle.fsfs_base.specs.declared.kind.Kind.{Kind}
 use Rattle.fsfs_base.specs.declared.kind.Kind.TheVariants.{File, Dir}
 use Rattle.fsfs_tree.specs.Nodes.{TreeFunction}
 use Rattle.fsfs_tree.specs.Histories.{AreRevisions}
-use Rattle.fsfs_model.specs.declared.edit.Edit.TheVariants.{PutText, SetProp}
-use Rattle.fsfs_model.specs.declared.mark.Mark.{Mark}
-use Rattle.fsfs_base.specs.declared.txn_name.TxnName.{TxnName}
-use Rattle.fsfs_base.specs.declared.digest.HexDigest.{HexDigest}
+use Rattle.fsfs_model.specs.declared.flat.edit.Edit.TheVariants.{PutText, SetProp}
+use Rattle.fsfs_model.specs.declared.flat.mark.Mark.{Mark}
+use Rattle.fsfs_base.specs.declared.fields.txn_name.TxnName.{TxnName}
+use Rattle.fsfs_base.specs.declared.fields.digest.HexDigest.{HexDigest}
 use Rattle.fsfs_revision.specs.Told.{RevisionBytes}
 use Rattle.fsfs_draft.specs.Drafts.{Folder}
 use Rattle.fsfs_draft.specs.Walks.{HasKind}
 use Rattle.fsfs_draft.specs.declared.error.EditError.{EditError}
 use Rattle.fsfs_draft.specs.declared.error.EditError.TheVariants as edits
-use Rattle.fsfs_txn.specs.Failing as failing
-use Rattle.fsfs_txn.specs.Growing.{IsLonger}
-use Rattle.fsfs_txn.specs.declared.opened_opening.Way.{Way}
-use Rattle.fsfs_txn.specs.OpenedProperties as opened_props
-use Rattle.fsfs_txn.specs.OpenedTexts as opened_texts
-use Rattle.fsfs_txn.specs.declared.opened_properties.PropertyPut.{PropertyPut}
-use Rattle.fsfs_txn.specs.declared.opened_properties.PropertyPut.TheVariants as props
-use Rattle.fsfs_txn.specs.declared.opened_texts.TextPut.{TextPut}
-use Rattle.fsfs_txn.specs.declared.opened_texts.TextPut.TheVariants as puts
+use Rattle.fsfs_txn.specs.Opened.Failing as failing
+use Rattle.fsfs_txn.specs.Opened.Growing.{IsLonger}
+use Rattle.fsfs_txn.specs.declared.opened.opening.Way.{Way}
+use Rattle.fsfs_txn.specs.Opened.Properties as opened_props
+use Rattle.fsfs_txn.specs.Opened.Texts as opened_texts
+use Rattle.fsfs_txn.specs.declared.opened.properties.PropertyPut.{PropertyPut}
+use Rattle.fsfs_txn.specs.declared.opened.properties.PropertyPut.TheVariants as props
+use Rattle.fsfs_txn.specs.declared.opened.texts.TextPut.{TextPut}
+use Rattle.fsfs_txn.specs.declared.opened.texts.TextPut.TheVariants as puts
 use Rattle.fsfs_txn.proofs.Growing.{drafts_grow}
 use Rattle.fsfs_txn.specs.declared.opening.Opened.{Opened}
-use Rattle.fsfs_txn.specs.declared.texts.TextSet.{TextSet}
+use Rattle.fsfs_txn.specs.declared.edits.texts.TextSet.{TextSet}
 use Rattle.fsfs_txn.specs.declared.txn_error.TxnError.TheVariants as errors
 use Rattle.fsfs_txn.specs.Standing.{Stands}
-use Rattle.fsfs_txn.specs.Texts as text_sets
-use Rattle.fsfs_txn.specs.Texts.{IsLeftStanding, IfLeft, IfSource, IsPuttingText}
-use Rattle.fsfs_txn.specs.Properties as prop_sets
-use Rattle.fsfs_txn.specs.Properties.{is_barred, IsSettingProp}
+use Rattle.fsfs_txn.specs.Edits.Texts as text_sets
+use Rattle.fsfs_txn.specs.Edits.Texts.{IsLeftStanding, IfLeft, IfSource, IsPuttingText}
+use Rattle.fsfs_txn.specs.Edits.Properties as prop_sets
+use Rattle.fsfs_txn.specs.Edits.Properties.{is_barred, IsSettingProp}
 use Rattle.fsfs_txn.proofs.Meeting.{edited}
 
 module _ (look : RevisionBytes) (trees : ℕ → TreeFunction) (top base : ℕ) (txn : TxnName) (before : Folder) (tree : TreeFunction) (marks : List Mark) (revs : AreRevisions trees top) (stands : Stands look trees top base txn before tree marks) where

@@ -3,7 +3,7 @@ use Rattle.std.proofs.Common.{ℕ}
 use Rattle.std.specs.Prelude.{Result, Ok, Err, IfErr}
 use Rattle.fsfs_base.specs.Paths.{PathName, Path}
 use Rattle.fsfs_tree.specs.Nodes.{TreeFunction}
-use Rattle.fsfs_base.specs.declared.txn_name.TxnName.{TxnName}
+use Rattle.fsfs_base.specs.declared.fields.txn_name.TxnName.{TxnName}
 use Rattle.fsfs_revision.specs.Told.{RevisionBytes}
 use Rattle.fsfs_noderev.specs.declared.node_id.NodeId.{NodeId}
 use Rattle.fsfs_draft.specs.Own.{Own}
@@ -11,8 +11,8 @@ use Rattle.fsfs_draft.specs.Drafts.{Folder}
 use Rattle.fsfs_draft.specs.Errors.{IsWant}
 use Rattle.fsfs_draft.specs.declared.error.EditError.{EditError}
 use Rattle.fsfs_draft.specs.declared.error.EditError.TheVariants as errors
-use Rattle.fsfs_edit.specs.Mutable.{LeavesMutable}
-use Rattle.fsfs_txn.specs.Reaching.{ReachesChild}
+use Rattle.fsfs_edit.specs.DagEdits.Mutable.{LeavesMutable}
+use Rattle.fsfs_txn.specs.Opened.Reaching.{ReachesChild}
 
 pub want_any : (e : EditError) (P : Type 0) → IsWant e P → IsWant e (Unit {0})
 want_any errors.BenchFault P h = h

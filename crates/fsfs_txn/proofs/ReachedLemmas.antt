@@ -4,8 +4,8 @@ use Rattle.std.specs.Prelude.{Option, Some, Result, Ok, Err, option_map}
 use Rattle.fsfs_base.specs.Paths.{Path}
 use Rattle.fsfs_base.specs.declared.kind.Kind.{Kind}
 use Rattle.fsfs_tree.specs.Nodes.{TreeFunction}
-use Rattle.fsfs_model.specs.declared.mark.Mark.{Mark}
-use Rattle.fsfs_base.specs.declared.txn_name.TxnName.{TxnName}
+use Rattle.fsfs_model.specs.declared.flat.mark.Mark.{Mark}
+use Rattle.fsfs_base.specs.declared.fields.txn_name.TxnName.{TxnName}
 use Rattle.fsfs_revision.specs.Told.{RevisionBytes}
 use Rattle.fsfs_noderev.specs.declared.node_id.NodeId.{NodeId}
 use Rattle.fsfs_draft.specs.Own.{Own, draft_tree}
@@ -18,8 +18,8 @@ use Rattle.fsfs_draft.specs.declared.error.EditError.{EditError}
 use Rattle.fsfs_draft.proofs.OwnEntries.{has_kind}
 use Rattle.fsfs_edit.specs.Ways.{IsOpenedAt}
 use Rattle.fsfs_edit.proofs.Bare.{bare_kind}
-use Rattle.fsfs_txn.specs.Reaching.{Reaches}
-use Rattle.fsfs_txn.specs.Reached.{IsReached}
+use Rattle.fsfs_txn.specs.Opened.Reaching.{Reaches}
+use Rattle.fsfs_txn.specs.Opened.Reached.{IsReached}
 
 module _ (look : RevisionBytes) (trees : ℕ → TreeFunction) (top base : ℕ) (shown : ShowTrees look top trees) (le : base ≤ top) (txn : TxnName) (f : Folder) (tree : TreeFunction) (marks : List Mark)
     (d : IsDraftAfter look trees top base txn f tree marks) where

@@ -4,15 +4,15 @@ use Rattle.std.specs.Prelude.{Option, Some, Result, Ok, Err, Vec}
 use Rattle.std.specs.Global.{Global}
 use Rattle.fsfs_base.specs.Paths.{Path}
 use Rattle.fsfs_tree.specs.Nodes.{TreeFunction}
-use Rattle.fsfs_model.specs.declared.mark.Mark.{Mark}
-use Rattle.fsfs_base.specs.declared.txn_name.TxnName.{TxnName}
-use Rattle.fsfs_base.specs.declared.digest.HexDigest.{HexDigest}
+use Rattle.fsfs_model.specs.declared.flat.mark.Mark.{Mark}
+use Rattle.fsfs_base.specs.declared.fields.txn_name.TxnName.{TxnName}
+use Rattle.fsfs_base.specs.declared.fields.digest.HexDigest.{HexDigest}
 use Rattle.fsfs_revision.specs.Told.{RevisionBytes}
 use Rattle.fsfs_noderev.specs.declared.node_id.NodeId.{NodeId}
 use Rattle.fsfs_noderev.specs.declared.rep.Rep.{Rep}
-use Rattle.fsfs_noderev.specs.declared.item.ChangeItem.{ChangeItem}
-use Rattle.fsfs_txn_files.specs.declared.text_error.TextError.{TextError}
-use Rattle.fsfs_txn_files.specs.declared.text_error.TextError.TheVariants as texts
+use Rattle.fsfs_noderev.specs.declared.changes.item.ChangeItem.{ChangeItem}
+use Rattle.fsfs_txn_files.specs.declared.proto_rev.text_error.TextError.{TextError}
+use Rattle.fsfs_txn_files.specs.declared.proto_rev.text_error.TextError.TheVariants as texts
 use Rattle.fsfs_draft.specs.Drafts.{Kept, Folder}
 use Rattle.fsfs_draft.specs.Steps.{kept_at, with_kept}
 use Rattle.fsfs_draft.specs.Errors.{IsWant, of_own}
@@ -21,19 +21,19 @@ use Rattle.fsfs_draft.specs.Views.{text_kept, props_kept, text_put, props_put}
 use Rattle.fsfs_draft.specs.Walks.{IsRootId}
 use Rattle.fsfs_draft.specs.declared.error.EditError.{EditError}
 use Rattle.fsfs_draft.specs.declared.error.EditError.TheVariants as errors
-use Rattle.fsfs_draft.specs.declared.own.OwnError.{OwnError}
-use Rattle.fsfs_draft.specs.declared.own.OwnError.TheVariants as owns
-use Rattle.fsfs_txn.specs.declared.known.Known.{Known}
-use Rattle.fsfs_txn.specs.declared.opened_opening.Way.{Way}
-use Rattle.fsfs_txn.specs.declared.opened_texts.TextPut.{TextPut}
-use Rattle.fsfs_txn.specs.declared.opened_texts.TextPut.TheVariants as puts
-use Rattle.fsfs_txn.specs.declared.opened_properties.PropertyPut.{PropertyPut}
-use Rattle.fsfs_txn.specs.declared.opened_properties.PropertyPut.TheVariants as props
-use Rattle.fsfs_txn.specs.Failing.{IfLeft, OnLeft}
-use Rattle.fsfs_txn.specs.Growing.{IsLonger}
-use Rattle.fsfs_txn.specs.OpenedLeading.{LeadsDown, Leads, IsNotLacking, HasAll}
-use Rattle.fsfs_txn.specs.OpenedTexts.{refusal_of, IsPuttingText, IfPut}
-use Rattle.fsfs_txn.specs.OpenedProperties.{IsPuttingProp, IfSet}
+use Rattle.fsfs_draft.specs.declared.txn_noderevs.OwnError.{OwnError}
+use Rattle.fsfs_draft.specs.declared.txn_noderevs.OwnError.TheVariants as owns
+use Rattle.fsfs_txn.specs.declared.opened.known.Known.{Known}
+use Rattle.fsfs_txn.specs.declared.opened.opening.Way.{Way}
+use Rattle.fsfs_txn.specs.declared.opened.texts.TextPut.{TextPut}
+use Rattle.fsfs_txn.specs.declared.opened.texts.TextPut.TheVariants as puts
+use Rattle.fsfs_txn.specs.declared.opened.properties.PropertyPut.{PropertyPut}
+use Rattle.fsfs_txn.specs.declared.opened.properties.PropertyPut.TheVariants as props
+use Rattle.fsfs_txn.specs.Opened.Failing.{IfLeft, OnLeft}
+use Rattle.fsfs_txn.specs.Opened.Growing.{IsLonger}
+use Rattle.fsfs_txn.specs.Opened.Leading.{LeadsDown, Leads, IsNotLacking, HasAll}
+use Rattle.fsfs_txn.specs.Opened.Texts.{refusal_of, IsPuttingText, IfPut}
+use Rattle.fsfs_txn.specs.Opened.Properties.{IsPuttingProp, IfSet}
 use Rattle.fsfs_txn.proofs.Following.{IsLike, set_leads}
 
 -- ---- nothing was lacking

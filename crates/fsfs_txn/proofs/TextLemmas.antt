@@ -6,18 +6,18 @@ use Rattle.fsfs_base.specs.Counts.{Rose}
 use Rattle.fsfs_base.specs.Paths.{Path}
 use Rattle.fsfs_base.specs.declared.kind.Kind.TheVariants.{File}
 use Rattle.fsfs_tree.specs.Nodes.{TreeFunction}
-use Rattle.fsfs_model.specs.declared.mark.Mark.{Mark}
-use Rattle.fsfs_base.specs.declared.txn_name.TxnName.{TxnName}
-use Rattle.fsfs_base.specs.declared.digest.HexDigest.{HexDigest}
-use Rattle.fsfs_base.specs.declared.base36.B36.{B36}
+use Rattle.fsfs_model.specs.declared.flat.mark.Mark.{Mark}
+use Rattle.fsfs_base.specs.declared.fields.txn_name.TxnName.{TxnName}
+use Rattle.fsfs_base.specs.declared.fields.digest.HexDigest.{HexDigest}
+use Rattle.fsfs_base.specs.declared.grammar.base36.B36.{B36}
 use Rattle.fsfs_revision.specs.Told.{RevisionBytes}
 use Rattle.fsfs_noderev.specs.declared.node_id.NodeId.{NodeId}
 use Rattle.fsfs_noderev.specs.declared.rep.Rep.{Rep}
-use Rattle.fsfs_noderev.specs.declared.item.ChangeItem.{ChangeItem}
-use Rattle.fsfs_txn_files.specs.declared.text_error.TextError.{TextError}
-use Rattle.fsfs_txn_files.specs.declared.text_error.TextError.TheVariants as texts
-use Rattle.fsfs_txn_files.specs.Causes as proto_causes
-use Rattle.fsfs_txn_files.specs.ProtoTexts.{IsRefusedText}
+use Rattle.fsfs_noderev.specs.declared.changes.item.ChangeItem.{ChangeItem}
+use Rattle.fsfs_txn_files.specs.declared.proto_rev.text_error.TextError.{TextError}
+use Rattle.fsfs_txn_files.specs.declared.proto_rev.text_error.TextError.TheVariants as texts
+use Rattle.fsfs_txn_files.specs.ProtoRev.Causes as proto_causes
+use Rattle.fsfs_txn_files.specs.ProtoRev.Texts.{IsRefusedText}
 use Rattle.fsfs_draft.specs.Drafts.{Kept, Folder, ShowTrees}
 use Rattle.fsfs_draft.specs.Steps.{kept_at}
 use Rattle.fsfs_draft.specs.Edits.{IsDraftAfter}
@@ -27,20 +27,20 @@ use Rattle.fsfs_draft.specs.Views.{text_put}
 use Rattle.fsfs_draft.specs.Walks.{HasKind}
 use Rattle.fsfs_draft.specs.declared.error.EditError.{EditError}
 use Rattle.fsfs_draft.specs.declared.error.EditError.TheVariants as errors
-use Rattle.fsfs_draft.specs.declared.own.OwnError.{OwnError}
-use Rattle.fsfs_draft.specs.declared.own.OwnError.TheVariants as owns
+use Rattle.fsfs_draft.specs.declared.txn_noderevs.OwnError.{OwnError}
+use Rattle.fsfs_draft.specs.declared.txn_noderevs.OwnError.TheVariants as owns
 use Rattle.fsfs_edit.specs.Items.{IsModifyOf}
 use Rattle.fsfs_edit.specs.Texts.{IsProtoText, IsTextSet}
 use Rattle.fsfs_edit.specs.Ways.{IsOpenedAt}
 use Rattle.fsfs_edit.proofs.Setting as setting
-use Rattle.fsfs_txn_nodes.specs.Texts.{longer, IsTextPut, IsTextLeft}
-use Rattle.fsfs_txn.specs.declared.opened_texts.TextPut.TheVariants as puts
-use Rattle.fsfs_revision.specs.Frames.{RepIn}
-use Rattle.fsfs_txn.specs.declared.known.Known.{Known}
-use Rattle.fsfs_txn.specs.Growing.{grown, IsLonger}
-use Rattle.fsfs_txn.specs.OpenedLeading.{LeadsDown}
-use Rattle.fsfs_txn.specs.Failing.{IfLeft, IfBench, IfSource}
-use Rattle.fsfs_txn.specs.OpenedTexts.{refusal_of, IsPuttingText}
+use Rattle.fsfs_txn_nodes.specs.Memory.Texts.{longer, IsTextPut, IsTextLeft}
+use Rattle.fsfs_txn.specs.declared.opened.texts.TextPut.TheVariants as puts
+use Rattle.fsfs_revision.specs.Rep.Frames.{RepIn}
+use Rattle.fsfs_txn.specs.declared.opened.known.Known.{Known}
+use Rattle.fsfs_txn.specs.Opened.Growing.{grown, IsLonger}
+use Rattle.fsfs_txn.specs.Opened.Leading.{LeadsDown}
+use Rattle.fsfs_txn.specs.Opened.Failing.{IfLeft, IfBench, IfSource}
+use Rattle.fsfs_txn.specs.Opened.Texts.{refusal_of, IsPuttingText}
 use Rattle.fsfs_txn.proofs.Growing.{grown_opened}
 
 -- ---- failures

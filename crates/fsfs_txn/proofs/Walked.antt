@@ -5,15 +5,15 @@ use Rattle.fsfs_base.specs.Paths.{PathName, Path}
 use Rattle.fsfs_base.specs.declared.kind.Kind.{Kind}
 use Rattle.fsfs_base.specs.declared.kind.Kind.TheVariants.{File, Dir}
 use Rattle.fsfs_tree.specs.Nodes.{Node, TreeFunction}
-use Rattle.fsfs_model.specs.Edits.{is_dir_node}
-use Rattle.fsfs_base.specs.declared.txn_name.TxnName.{TxnName}
+use Rattle.fsfs_model.specs.Flat.Edits.{is_dir_node}
+use Rattle.fsfs_base.specs.declared.fields.txn_name.TxnName.{TxnName}
 use Rattle.fsfs_revision.specs.Told.{RevisionBytes}
 use Rattle.fsfs_noderev.specs.declared.node_id.NodeId.{NodeId}
 use Rattle.fsfs_noderev.specs.declared.node_rev.NodeRev.{NodeRev}
 use Rattle.fsfs_revision.specs.Nodes.{is_revision_id}
 use Rattle.fsfs_revision.specs.declared.wrong.Wrong.{Wrong}
 use Rattle.fsfs_revision.proofs.OneAnswer.{ok_same}
-use Rattle.fsfs_revision.specs.ShowsReading.{DirEntry, named, EntriesOf, OfId, OfNamed, ChildOf, PropsOf, StandsAt, offset_of}
+use Rattle.fsfs_revision.specs.Shows.Reading.{DirEntry, named, EntriesOf, OfId, OfNamed, ChildOf, PropsOf, StandsAt, offset_of}
 use Rattle.fsfs_revision.proofs.OneWalk.{of_id_one, props_one}
 use Rattle.fsfs_revision.proofs.DamageLemmas.{no_both}
 use Rattle.fsfs_draft.specs.Own.{OwnNode, Own, draft_tree, shared_under, shared_at}
@@ -27,10 +27,10 @@ use Rattle.fsfs_draft.specs.Entries.{OfKind, OfIdEntries, OfKept, IsWithin}
 use Rattle.fsfs_draft.specs.Walks.{IsLastingAt}
 use Rattle.fsfs_draft.proofs.OwnEntries.{lasting_id, own_dir, entries_here, has_named, own_entry, lasting_entry, lasting_child, kept_same}
 use Rattle.fsfs_draft.proofs.Walking.{lasting_kind, below_none, below_some}
-use Rattle.fsfs_txn.specs.declared.known.Known.{Known}
-use Rattle.fsfs_txn.specs.Knowing.{IsWhole}
-use Rattle.fsfs_txn.specs.OpenedLeading.{IsAmong, IsSourceKnown, IsEndKnown, OwnEnd, LastingEnd, HasEntries, OfOwn, OfLasting, LeadsDown}
-use Rattle.fsfs_txn.specs.Stepping.{IsIdAt, OwnAt, LastingAt, IsDirKnown, OwnDir, LastingDir, BecomesKnown}
+use Rattle.fsfs_txn.specs.declared.opened.known.Known.{Known}
+use Rattle.fsfs_txn.specs.Opened.Knowing.{IsWhole}
+use Rattle.fsfs_txn.specs.Opened.Leading.{IsAmong, IsSourceKnown, IsEndKnown, OwnEnd, LastingEnd, HasEntries, OfOwn, OfLasting, LeadsDown}
+use Rattle.fsfs_txn.specs.Opened.Stepping.{IsIdAt, OwnAt, LastingAt, IsDirKnown, OwnDir, LastingDir, BecomesKnown}
 use Rattle.fsfs_txn.proofs.Following.{own_id}
 use Rattle.fsfs_edit.proofs.Bare.{dir_kind}
 

@@ -2,20 +2,20 @@
 use Rattle.std.specs.Prelude.{◌≤◌, ℕ, List, Result, Ok, Err}
 use Rattle.fsfs_tree.specs.Nodes.{TreeFunction}
 use Rattle.fsfs_tree.specs.Histories.{AreRevisions}
-use Rattle.fsfs_model.specs.declared.mark.Mark.{Mark}
-use Rattle.fsfs_base.specs.declared.txn_name.TxnName.{TxnName}
+use Rattle.fsfs_model.specs.declared.flat.mark.Mark.{Mark}
+use Rattle.fsfs_base.specs.declared.fields.txn_name.TxnName.{TxnName}
 use Rattle.fsfs_revision.specs.Told.{Told, RevisionBytes, Knows}
 use Rattle.fsfs_draft.specs.Drafts.{Folder, ShowTrees}
-use Rattle.fsfs_txn.specs.Knowing.{AreKnown}
-use Rattle.fsfs_txn.specs.OpenedLeading.{Leads, IsNotLacking}
-use Rattle.fsfs_txn.specs.declared.opened_opening.Way.{Way}
+use Rattle.fsfs_txn.specs.Opened.Knowing.{AreKnown}
+use Rattle.fsfs_txn.specs.Opened.Leading.{Leads, IsNotLacking}
+use Rattle.fsfs_txn.specs.declared.opened.opening.Way.{Way}
 use Rattle.fsfs_txn.specs.declared.opening.Opened.{Opened}
 use Rattle.fsfs_txn.specs.declared.opening.PathOpened.{PathOpened}
 use Rattle.fsfs_txn.specs.declared.txn_error.TxnError.{TxnError}
 use Rattle.fsfs_txn.specs.declared.txn_error.TxnError.TheVariants as errors
 use Rattle.fsfs_txn.specs.Opening.{IfOpenedPath}
 use Rattle.fsfs_txn.specs.Standing.{Stands}
-use Rattle.fsfs_txn.specs.Texts.{IfLeft}
+use Rattle.fsfs_txn.specs.Edits.Texts.{IfLeft}
 
 -- over any history that the bytes show, what was opened leads to its path
 abbrev pub OpensLeading : Told → ℕ → TxnName → Folder → Result PathOpened TxnError → Type 0

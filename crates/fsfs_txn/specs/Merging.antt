@@ -1,10 +1,10 @@
 -- A transaction merged with a later revision: what is left, and where the two clash.
 use Rattle.std.specs.Prelude.{◌≡◌, ◌≢◌, ◌≤◌, ◌<◌, ◌+◌, ℕ, List, Result, Ok, Err}
-use Rattle.fsfs_revision.specs.Trees.{ShowTrees}
+use Rattle.fsfs_revision.specs.Ancestry.Trees.{ShowTrees}
 use Rattle.fsfs_tree.specs.Nodes.{TreeFunction}
-use Rattle.fsfs_model.specs.Landing.{NoClash, IsFirstClash, land}
-use Rattle.fsfs_model.specs.declared.mark.Mark.{Mark}
-use Rattle.fsfs_base.specs.declared.txn_name.TxnName.{TxnName}
+use Rattle.fsfs_model.specs.Flat.Landing.{NoClash, IsFirstClash, land}
+use Rattle.fsfs_model.specs.declared.flat.mark.Mark.{Mark}
+use Rattle.fsfs_base.specs.declared.fields.txn_name.TxnName.{TxnName}
 use Rattle.fsfs_revision.specs.Told.{Told, RevisionBytes, Knows}
 use Rattle.fsfs_draft.specs.Drafts.{Folder}
 use Rattle.fsfs_merge.specs.declared.land.Outcome.{Outcome}

@@ -4,10 +4,10 @@ use Rattle.fsfs_base.specs.Paths.{Path}
 use Rattle.fsfs_tree.specs.Nodes.{TreeFunction}
 use Rattle.fsfs_tree.specs.Trees.{IsTree}
 use Rattle.fsfs_tree.specs.Histories.{AreRevisions}
-use Rattle.fsfs_model.specs.declared.mark.Mark.{Mark}
-use Rattle.fsfs_base.specs.declared.txn_name.TxnName.{TxnName}
+use Rattle.fsfs_model.specs.declared.flat.mark.Mark.{Mark}
+use Rattle.fsfs_base.specs.declared.fields.txn_name.TxnName.{TxnName}
 use Rattle.fsfs_revision.specs.Told.{Told, RevisionBytes, Knows}
-use Rattle.fsfs_revision.specs.ByTree.{LacksAt, IsBlockedAt}
+use Rattle.fsfs_revision.specs.Shows.ByTree.{LacksAt, IsBlockedAt}
 use Rattle.fsfs_draft.specs.Own.{Own}
 use Rattle.fsfs_draft.specs.Drafts.{Folder, ShowTrees}
 use Rattle.fsfs_draft.specs.Edits.{IsDraftAfter}
@@ -18,7 +18,7 @@ use Rattle.fsfs_txn.specs.declared.opening.Opened.{Opened}
 use Rattle.fsfs_txn.specs.declared.opening.PathOpened.{PathOpened}
 use Rattle.fsfs_txn.specs.declared.opening.PathOpened.TheVariants as paths
 use Rattle.fsfs_txn.specs.declared.txn_error.TxnError.{TxnError}
-use Rattle.fsfs_txn.specs.Mergeinfo.{Counts}
+use Rattle.fsfs_txn.specs.Edits.Mergeinfo.{Counts}
 use Rattle.fsfs_txn.specs.Spending.{IsFailure}
 use Rattle.fsfs_txn.specs.Standing.{Stands}
 

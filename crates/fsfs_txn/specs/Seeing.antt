@@ -4,11 +4,11 @@ use Rattle.fsfs_base.specs.Paths.{PathName, Path}
 use Rattle.fsfs_base.specs.declared.kind.Kind.TheVariants.{Dir}
 use Rattle.fsfs_tree.specs.Nodes.{TreeFunction}
 use Rattle.fsfs_tree.specs.Trees.{IsTree}
-use Rattle.fsfs_model.specs.Edits.{parent}
-use Rattle.fsfs_model.specs.declared.mark.Mark.{Mark}
-use Rattle.fsfs_base.specs.declared.txn_name.TxnName.{TxnName}
+use Rattle.fsfs_model.specs.Flat.Edits.{parent}
+use Rattle.fsfs_model.specs.declared.flat.mark.Mark.{Mark}
+use Rattle.fsfs_base.specs.declared.fields.txn_name.TxnName.{TxnName}
 use Rattle.fsfs_revision.specs.Told.{Told, RevisionBytes, Knows}
-use Rattle.fsfs_revision.specs.ByTree.{LacksAt, IsBlockedAt}
+use Rattle.fsfs_revision.specs.Shows.ByTree.{LacksAt, IsBlockedAt}
 use Rattle.fsfs_draft.specs.Own.{Own}
 use Rattle.fsfs_draft.specs.Drafts.{Folder, ShowTrees}
 use Rattle.fsfs_draft.specs.Edits.{IsDraftAfter}
@@ -20,9 +20,9 @@ use Rattle.fsfs_draft.specs.declared.walk.Step.TheVariants as steps
 use Rattle.fsfs_edit.specs.Ways.{IsNoDirectory}
 use Rattle.fsfs_txn.specs.declared.seeing.Seen.{Seen}
 use Rattle.fsfs_txn.specs.declared.seeing.Seen.TheVariants as seens
-use Rattle.fsfs_txn.specs.declared.above.Above.{Above}
-use Rattle.fsfs_txn.specs.declared.above.Above.TheVariants as aboves
-use Rattle.fsfs_txn.specs.Mergeinfo.{has_counts, RevisionHas, MeetsCounts, LacksCounts, Counts}
+use Rattle.fsfs_txn.specs.declared.edits.above.Above.{Above}
+use Rattle.fsfs_txn.specs.declared.edits.above.Above.TheVariants as aboves
+use Rattle.fsfs_txn.specs.Edits.Mergeinfo.{has_counts, RevisionHas, MeetsCounts, LacksCounts, Counts}
 
 -- counts were met before, or are met at a step that is not the transaction's own
 abbrev pub counts_with : Bool → Step → Bool

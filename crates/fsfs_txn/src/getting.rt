@@ -1,6 +1,6 @@
 //! What stands at a path.
 ghost use Rattle.std.specs.Prelude.{◌≡◌, ℕ, None};
-ghost use Rattle.fsfs_base.specs.declared.txn_name.TxnName.{TxnName};
+ghost use Rattle.fsfs_base.specs.declared.fields.txn_name.TxnName.{TxnName};
 ghost use Rattle.fsfs_revision.specs.Told.{Keeps};
 ghost use Rattle.fsfs_draft.specs.Drafts.{Folder};
 ghost use Rattle.fsfs_draft.specs.Causes as causes;

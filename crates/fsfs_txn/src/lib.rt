@@ -3,44 +3,32 @@
 //! The calls of a transaction: edits that are accepted or refused, and what is left once its bench has failed.
 #![tactic(auto)]
 
-mod above;
-mod copying;
-mod deleting;
+mod edits;
 mod ending;
 mod getting;
-mod known;
 mod laws;
-mod making;
 mod merging;
 mod node_texts;
-mod opened_laws;
-mod opened_opening;
-mod opened_properties;
-mod opened_texts;
+mod opened;
 mod opening;
 mod paths;
-mod properties;
-mod reached;
-mod reaching;
 mod seeing;
-mod sources;
-mod texts;
 mod txn;
 mod txn_error;
 
-pub use copying::Copied;
-pub use deleting::Deleted;
+pub use edits::copying::Copied;
+pub use edits::deleting::Deleted;
+pub use edits::making::Made;
+pub use edits::properties::PropertySet;
+pub use edits::texts::TextSet;
 pub use fsfs_merge::Outcome;
 pub use getting::{Got, NodeView};
-pub use known::Known;
 pub use laws::items_say_marks;
-pub use making::Made;
-pub use opened_laws::drafts_grow;
-pub use opened_opening::{Opening, Way, open_at};
-pub use opened_properties::{PropertyPut, put_property};
-pub use opened_texts::{TextPut, put_text};
+pub use opened::known::Known;
+pub use opened::laws::drafts_grow;
+pub use opened::opening::{Opening, Way, open_at};
+pub use opened::properties::{PropertyPut, put_property};
+pub use opened::texts::{TextPut, put_text};
 pub use opening::{Opened, PathOpened};
-pub use properties::PropertySet;
-pub use texts::TextSet;
 pub use txn::Txn;
 pub use txn_error::TxnError;

@@ -1,7 +1,7 @@
 //! Merges with later revisions.
 ghost use Rattle.std.specs.Prelude.{◌≡◌, Ok, None};
 ghost use Rattle.fsfs_revision.specs.Told.{Keeps};
-ghost use Rattle.fsfs_txn_nodes.specs.HeldWritten.{HasFiles};
+ghost use Rattle.fsfs_txn_nodes.specs.Memory.Written.{HasFiles};
 ghost use Rattle.fsfs_draft.specs.Causes as causes;
 ghost use Rattle.fsfs_merge.specs.declared.land.Outcome.TheVariants.{Landed};
 ghost use Rattle.fsfs_txn.specs.Spending.{IsSpentAfter, StaysSpent, HasDiskCause, HasBenchCause};

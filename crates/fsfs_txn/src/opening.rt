@@ -2,13 +2,13 @@
 ghost use Rattle.std.specs.Prelude.{◌≡◌, ◌≤◌, ℕ, List, None};
 ghost use Rattle.fsfs_tree.specs.Nodes.{TreeFunction};
 ghost use Rattle.fsfs_tree.specs.Trees.{IsTree};
-ghost use Rattle.fsfs_model.specs.declared.mark.Mark.{Mark};
+ghost use Rattle.fsfs_model.specs.declared.flat.mark.Mark.{Mark};
 ghost use Rattle.fsfs_draft.specs.Drafts.{ShowTrees};
 ghost use Rattle.fsfs_draft.specs.Edits.{IsDraftAfter};
 ghost use Rattle.fsfs_revision.specs.Told.{RevisionBytes, Knows, Keeps};
 ghost use Rattle.fsfs_draft.specs.Causes as causes;
-ghost use Rattle.fsfs_txn.specs.Knowing.{AreKnown};
-ghost use Rattle.fsfs_txn.specs.OpenedLeading.{Leads};
+ghost use Rattle.fsfs_txn.specs.Opened.Knowing.{AreKnown};
+ghost use Rattle.fsfs_txn.specs.Opened.Leading.{Leads};
 ghost use Rattle.fsfs_txn.specs.Spending.{IsSpentAfter, StaysSpent, HasDiskCause, HasBenchCause};
 ghost use Rattle.fsfs_txn.specs.Leading.{OpensLeading};
 ghost use Rattle.fsfs_txn.specs.Opening.{OpensPath, MeetsOpening, IfOpenedPath};

@@ -1,6 +1,6 @@
 //! A path's last name.
 ghost use Rattle.std.specs.Prelude.{◌≡◌, ◌++◌, ◌∷◌, [], MatchOption};
-ghost use Rattle.fsfs_model.specs.Edits.{parent};
+ghost use Rattle.fsfs_model.specs.Flat.Edits.{parent};
 
 use fsfs_base::FsPath;
 

@@ -6,7 +6,7 @@ ghost use Rattle.fsfs_revision.specs.Told.{RevisionBytes, Knows, Keeps};
 ghost use Rattle.fsfs_draft.specs.Own.{Own as Owns, OwnNode, draft_tree};
 ghost use Rattle.fsfs_draft.specs.Drafts.{IsDraft, ShowTrees};
 ghost use Rattle.fsfs_draft.specs.Causes.{HasDiskCause, HasBenchCause};
-ghost use Rattle.fsfs_txn.specs.Mergeinfo.{has_counts};
+ghost use Rattle.fsfs_txn.specs.Edits.Mergeinfo.{has_counts};
 ghost use Rattle.fsfs_txn.specs.Seeing.{counts_with, IsBaseCounts, IsSeen, Sees};
 
 use fsfs_base::{FsPath, Kind};

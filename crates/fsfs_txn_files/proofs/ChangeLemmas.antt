@@ -3,7 +3,7 @@ use Rattle.std.proofs.Common.{◌≡◌, ◌∙◌, ◌+◌, ◌<◌, ℕ, lengt
 use Rattle.std.specs.Prelude.{option_map, Result, Ok, Err, IfOk, IfErr, OnOk, IsOkAnd}
 use Rattle.std.proofs.lemmas.List.{take_more, take-append-drop}
 use Rattle.fsfs_base.specs.Files.{Files}
-use Rattle.fsfs_base.specs.Grammar.{Appends}
+use Rattle.fsfs_base.specs.Grammar.Relations.{Appends}
 use Rattle.fsfs_txn_files.specs.FileNames.{file_name}
 use Rattle.fsfs_txn_files.specs.Changes.{with_text, changed, changed_all, IsChange, IsStoppedAt, IsStopped, IsPut, IsLeft, IsLeftBy}
 use Rattle.fsfs_txn_files.specs.declared.folder_file.FolderFile.{FolderFile}

@@ -4,14 +4,14 @@ use Rattle.std.specs.Prelude.{IfSome, codes}
 use Rattle.std.proofs.Math.Seq.{take-append_seam, drop-append_seam, drop-append-add}
 use Rattle.std.proofs.lemmas.List.{length-take, length-drop, take-append-le, drop-append-le}
 use Rattle.sha1.specs.Sha1.{sha1}
-use Rattle.fsfs_base.specs.declared.txn_name.TxnName.{TxnName}
-use Rattle.fsfs_base.specs.declared.base36.B36.{B36}
+use Rattle.fsfs_base.specs.declared.fields.txn_name.TxnName.{TxnName}
+use Rattle.fsfs_base.specs.declared.grammar.base36.B36.{B36}
 use Rattle.fsfs_noderev.specs.declared.rep.Rep.{Rep}
 use Rattle.fsfs_noderev.specs.declared.rep.Uniquifier.{Uniquifier}
-use Rattle.fsfs_revision.specs.Headers.{StandsAt, HasPlainLine}
-use Rattle.fsfs_revision.specs.Frames.{text_of, HasTrailer, Agrees, framed_text}
-use Rattle.fsfs_txn_files.specs.Reps.{IsRepOf}
-use Rattle.fsfs_txn_files.specs.Laws.{TextsAreRead, TextsStay}
+use Rattle.fsfs_revision.specs.Rep.Headers.{StandsAt, HasPlainLine}
+use Rattle.fsfs_revision.specs.Rep.Frames.{text_of, HasTrailer, Agrees, framed_text}
+use Rattle.fsfs_txn_files.specs.ProtoRev.Reps.{IsRepOf}
+use Rattle.fsfs_txn_files.specs.ProtoRev.Laws.{TextsAreRead, TextsStay}
 
 -- what stands in a file doesn't stand beyond its end
 inside : (n at k : ℕ) (text bytes : List ℕ) → length text ≡ n → n ≡ k + 1 → StandsAt text at bytes → at + n ≤ length bytes

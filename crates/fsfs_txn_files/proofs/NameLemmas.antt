@@ -3,7 +3,7 @@ use Rattle.std.proofs.Common.{◌≡◌, ◌⊎◌, ℕ, List, [], ◌∷◌, �
 use Rattle.std.specs.Prelude.{Option, Some, None, codes}
 use Rattle.std.proofs.lemmas.List.{append-nil}
 use Rattle.std.proofs.lemmas.Option.{some_pair_parts}
-use Rattle.fsfs_base.specs.Cuts.{Lacks, cut}
+use Rattle.fsfs_base.specs.Grammar.Cuts.{Lacks, cut}
 use Rattle.fsfs_base.proofs.CutLemmas.{cut_again, cut_lacking}
 use Rattle.fsfs_noderev.specs.Ids.{PartValue, part_value}
 use Rattle.fsfs_txn_files.specs.FileNames.{part_text, node_name, file_name, FitsId, Fits, OfNode, file_of}

@@ -1,13 +1,13 @@
 -- The text of a node part or a copy part is its only one, and has no dot.
 use Rattle.std.proofs.Common.{◌≡◌, ◌≤◌, ℕ, List, ◌∷◌, ◌++◌, refl, sym, subst, ap, arith}
 use Rattle.std.specs.Fmt.{decimal}
-use Rattle.fsfs_base.specs.Base36.{base36}
-use Rattle.fsfs_base.specs.Cuts.{Lacks}
+use Rattle.fsfs_base.specs.Grammar.Base36.{base36}
+use Rattle.fsfs_base.specs.Grammar.Cuts.{Lacks}
 use Rattle.fsfs_base.proofs.CutLemmas.{lacks_from}
 use Rattle.fsfs_base.proofs.Base36Texts.{base36_numeral}
 use Rattle.fsfs_base.proofs.Spelling.{plain_lacks, spells_one}
 use Rattle.fsfs_base.proofs.Unique.{decimal_plain}
-use Rattle.fsfs_base.specs.RevNums.{last_rev, IsRev}
+use Rattle.fsfs_base.specs.Fields.RevNums.{last_rev, IsRev}
 use Rattle.fsfs_base.proofs.RevNumTexts.{rev_text_lacks}
 use Rattle.fsfs_noderev.specs.Ids.{PartValue, New, Old, Made, In, IdValue, IsB36, IsPart, IsPlace, IsId}
 use Rattle.fsfs_noderev.proofs.IdTexts.{id_spells}

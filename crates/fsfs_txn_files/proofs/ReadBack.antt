@@ -2,15 +2,15 @@
 use Rattle.std.proofs.Common.{◌≡◌, ℕ, List, length, Option, Some, None, sym, subst}
 use Rattle.std.specs.Prelude.{Ok, IfSome, option_map}
 use Rattle.fsfs_base.specs.Files.{Files}
-use Rattle.fsfs_base.specs.declared.digest.HexDigest.{HexDigest}
-use Rattle.fsfs_base.specs.declared.txn_name.TxnName.{TxnName}
-use Rattle.fsfs_base.specs.declared.base36.B36.{B36}
+use Rattle.fsfs_base.specs.declared.fields.digest.HexDigest.{HexDigest}
+use Rattle.fsfs_base.specs.declared.fields.txn_name.TxnName.{TxnName}
+use Rattle.fsfs_base.specs.declared.grammar.base36.B36.{B36}
 use Rattle.fsfs_noderev.specs.declared.rep.Rep.{Rep}
-use Rattle.fsfs_revision.specs.Frames.{RepIn, framed_text}
+use Rattle.fsfs_revision.specs.Rep.Frames.{RepIn, framed_text}
 use Rattle.fsfs_disk.specs.Benches.{appended, bytes_in}
 use Rattle.fsfs_disk.proofs.BenchLemmas.{bytes_in-appended}
-use Rattle.fsfs_txn_files.specs.Reps.{IsRepOf}
-use Rattle.fsfs_txn_files.specs.ProtoTexts.{IsPut, IsReadBack}
+use Rattle.fsfs_txn_files.specs.ProtoRev.Reps.{IsRepOf}
+use Rattle.fsfs_txn_files.specs.ProtoRev.Texts.{IsPut, IsReadBack}
 use Rattle.fsfs_txn_files.proofs.Longer.{read}
 
 pub read_back : (old new : Option Files) (from to : Option (List ℕ)) (name : List ℕ) (expect : Option (HexDigest 16)) (txn : TxnName) (number : B36) (rep : Rep) → IsPut old new from to name expect txn number rep → IsReadBack new from to name rep

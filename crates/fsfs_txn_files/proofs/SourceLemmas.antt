@@ -2,7 +2,7 @@
 use Rattle.std.proofs.Common.{◌≡◌, ◌<◌, ℕ, List, [], ◌∷◌, ◌++◌, length, take, drop, Option, Some, None, refl, sym, ap, subst, ◌∙◌, append_assoc, arith}
 use Rattle.std.proofs.lemmas.List.{take-append-drop}
 use Rattle.fsfs_base.specs.Streams.{Takes}
-use Rattle.fsfs_txn_files.specs.Sources.{GivesFront, GivesAll}
+use Rattle.fsfs_txn_files.specs.ProtoRev.Sources.{GivesFront, GivesAll}
 
 pub front_none : (from : Option (List ℕ)) → GivesFront from from []
 front_none None = tt

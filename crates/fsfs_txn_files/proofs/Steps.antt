@@ -5,13 +5,13 @@ use Rattle.std.proofs.lemmas.List.{length-append, length-take}
 use Rattle.fsfs_base.specs.Files.{Files}
 use Rattle.fsfs_disk.specs.Benches.{appended}
 use Rattle.fsfs_disk.proofs.PublishLemmas.{two_pieces}
-use Rattle.fsfs_txn_files.specs.declared.text_error.TheConstants.{MAX_TEXT}
-use Rattle.fsfs_txn_files.specs.declared.taken.Taken.{Taken}
-use Rattle.fsfs_txn_files.specs.Sources.{GivesFront, GivesAll}
-use Rattle.fsfs_txn_files.specs.Views.{HasTaken}
-use Rattle.fsfs_txn_files.specs.ProtoTexts.{IsTakenText}
+use Rattle.fsfs_txn_files.specs.declared.proto_rev.text_error.TheConstants.{MAX_TEXT}
+use Rattle.fsfs_txn_files.specs.declared.proto_rev.taken.Taken.{Taken}
+use Rattle.fsfs_txn_files.specs.ProtoRev.Sources.{GivesFront, GivesAll}
+use Rattle.fsfs_txn_files.specs.ProtoRev.Views.{HasTaken}
+use Rattle.fsfs_txn_files.specs.ProtoRev.Texts.{IsTakenText}
 use Rattle.fsfs_txn_files.proofs.SourceLemmas.{front_none, front_more, front_all}
-use Rattle.fsfs_revision.specs.Frames.{framed_text}
+use Rattle.fsfs_revision.specs.Rep.Frames.{framed_text}
 
 abbrev pub plain : List ℕ
 plain = codes "PLAIN\n"

@@ -4,10 +4,10 @@ use Rattle.std.proofs.lemmas.List.{append-nil}
 use Rattle.fsfs_base.specs.Paths.{PathName}
 use Rattle.fsfs_base.specs.declared.kind.Kind.{Kind}
 use Rattle.fsfs_noderev.specs.declared.node_id.NodeId.{NodeId}
-use Rattle.fsfs_layout.specs.Dump.{Ascending, put, put_all}
-use Rattle.fsfs_layout.specs.Children.{IsChildren, change_all, without}
+use Rattle.fsfs_layout.specs.Hash.Dump.{Ascending, put, put_all}
+use Rattle.fsfs_layout.specs.Hash.Children.{IsChildren, change_all, without}
 use Rattle.fsfs_layout.proofs.ManyLoops.{children_put, children_without}
-use Rattle.fsfs_revision.specs.ShowsReading.{Pairs, DirEntry}
+use Rattle.fsfs_revision.specs.Shows.Reading.{Pairs, DirEntry}
 use Rattle.fsfs_txn_files.specs.Children.{IsWholeList, IsPutRecord, IsTakenRecord, Tells, ChildrenTell}
 use Rattle.fsfs_dag.proofs.EntryPairs.{ordered_put, ordered_taken, lead_put, lead_taken}
 use Rattle.fsfs_dag.specs.Entries.{HasPut, HasTaken}

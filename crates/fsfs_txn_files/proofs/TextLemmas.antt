@@ -8,13 +8,13 @@ use Rattle.fsfs_base.specs.Files.{Files}
 use Rattle.fsfs_base.proofs.FileLemmas.{remove-insert_same}
 use Rattle.fsfs_disk.specs.Benches.{appended, bytes_in, with_file, Spoils}
 use Rattle.fsfs_disk.proofs.BenchLemmas.{insert_again}
-use Rattle.fsfs_base.specs.declared.digest.HexDigest.{HexDigest}
-use Rattle.fsfs_txn_files.specs.declared.text_error.TheConstants.{MAX_TEXT}
-use Rattle.fsfs_txn_files.specs.declared.text_error.TextError.{TextError}
-use Rattle.fsfs_txn_files.specs.declared.text_error.TextError.TheVariants.{SourceFault, TextTooLong, Checksum, BenchFault}
-use Rattle.fsfs_txn_files.specs.Causes.{IfSource, IfBench}
-use Rattle.fsfs_txn_files.specs.Sources.{GivesFront, GivesAll, IsRefusedPiece}
-use Rattle.fsfs_txn_files.specs.ProtoTexts.{IsRefusedText, IsLeft, IsChecked}
+use Rattle.fsfs_base.specs.declared.fields.digest.HexDigest.{HexDigest}
+use Rattle.fsfs_txn_files.specs.declared.proto_rev.text_error.TheConstants.{MAX_TEXT}
+use Rattle.fsfs_txn_files.specs.declared.proto_rev.text_error.TextError.{TextError}
+use Rattle.fsfs_txn_files.specs.declared.proto_rev.text_error.TextError.TheVariants.{SourceFault, TextTooLong, Checksum, BenchFault}
+use Rattle.fsfs_txn_files.specs.ProtoRev.Causes.{IfSource, IfBench}
+use Rattle.fsfs_txn_files.specs.ProtoRev.Sources.{GivesFront, GivesAll, IsRefusedPiece}
+use Rattle.fsfs_txn_files.specs.ProtoRev.Texts.{IsRefusedText, IsLeft, IsChecked}
 use Rattle.fsfs_txn_files.proofs.SourceLemmas.{front_more}
 
 -- ---- the files

@@ -3,9 +3,9 @@ use Rattle.std.specs.Prelude.{◌≡◌, ℕ, List, ◌++◌}
 use Rattle.fsfs_base.specs.Paths.{PathName}
 use Rattle.fsfs_base.specs.declared.kind.Kind.{Kind}
 use Rattle.fsfs_noderev.specs.declared.node_id.NodeId.{NodeId}
-use Rattle.fsfs_layout.specs.Dump.{Field, Pair, IsDump, dump_text}
-use Rattle.fsfs_layout.specs.Children.{IsChildren}
-use Rattle.fsfs_revision.specs.ShowsReading.{Pairs, DirEntry}
+use Rattle.fsfs_layout.specs.Hash.Dump.{Field, Pair, IsDump, dump_text}
+use Rattle.fsfs_layout.specs.Hash.Children.{IsChildren}
+use Rattle.fsfs_revision.specs.Shows.Reading.{Pairs, DirEntry}
 use Rattle.fsfs_dag.specs.Entries.{IsEntryText, LeadTo, HasPut, HasTaken}
 
 -- ---- what is written

@@ -1,8 +1,8 @@
 -- The names of the files of a transaction's folder.
 use Rattle.std.specs.Prelude.{◌≡◌, ◌≤◌, ℕ, List, ◌∷◌, ◌++◌, codes}
 use Rattle.std.specs.Fmt.{decimal}
-use Rattle.fsfs_base.specs.Base36.{base36}
-use Rattle.fsfs_base.specs.RevNums.{last_rev}
+use Rattle.fsfs_base.specs.Grammar.Base36.{base36}
+use Rattle.fsfs_base.specs.Fields.RevNums.{last_rev}
 use Rattle.fsfs_noderev.specs.Ids.{PartValue, New, Old, Made, part_value}
 use Rattle.fsfs_txn_files.specs.declared.folder_file.FolderFile.{FolderFile}
 use Rattle.fsfs_txn_files.specs.declared.folder_file.FolderFile.TheVariants.{NextIds, Changes, Node, Children, Props}

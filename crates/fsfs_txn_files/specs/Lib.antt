@@ -1,9 +1,4 @@
-pub mod Causes
-pub mod Sources
-pub mod Reps
-pub mod Views
-pub mod ProtoTexts
-pub mod Laws
+pub mod ProtoRev
 pub mod FileNames
 pub mod Texts
 pub mod Children

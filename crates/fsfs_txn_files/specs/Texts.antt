@@ -3,7 +3,7 @@ use Rattle.std.specs.Prelude.{◌≡◌, ℕ, List, ◌++◌, take}
 use Rattle.fsfs_noderev.specs.NodeRevs.{IsRead}
 use Rattle.fsfs_noderev.specs.Writing.{IsWritten}
 use Rattle.fsfs_noderev.specs.declared.node_rev.NodeRev.{NodeRev}
-use Rattle.fsfs_layout.specs.Dump.{IsDump, dump_text}
+use Rattle.fsfs_layout.specs.Hash.Dump.{IsDump, dump_text}
 
 -- its lines in order, which read back as it, whatever stands behind
 pub record IsNodeFile (node : NodeRev) (text : List ℕ) : Type 0 where

@@ -8,26 +8,22 @@
 //! The forms are those of the libsvn_fs_fs structure file ("Transaction layout") for format 4.
 #![tactic(auto)]
 
-mod appending;
 mod change;
 mod folder_file;
 mod laws;
 mod making;
-mod pieces;
-mod proto_laws;
+mod proto_rev;
 mod spelling;
-mod taken;
-mod text_error;
 mod write_error;
 mod writing;
 
-pub use appending::append_text;
 pub use change::{FileChange, How};
 pub use folder_file::FolderFile;
 pub use laws::{children_tell_their_entries, names_are_apart};
 pub use making::make_all;
-pub use proto_laws::{appended_texts_are_read, texts_stay};
-pub use text_error::{MAX_TEXT, TextError};
+pub use proto_rev::appending::append_text;
+pub use proto_rev::laws::{appended_texts_are_read, texts_stay};
+pub use proto_rev::text_error::{MAX_TEXT, TextError};
 pub use write_error::{FileFault, WriteError};
 pub use writing::{
     add_entry, add_item, take_entry, write_children, write_next_ids, write_node, write_props,

@@ -2,7 +2,7 @@
 ghost use Rattle.std.specs.Prelude.{◌≡◌, IfErr, OnOk, IsOkAnd, option_map};
 ghost use Rattle.fsfs_layout.specs.Small.{IsNextIds};
 ghost use Rattle.fsfs_noderev.specs.Writing.{HasText as HasNodeText};
-ghost use Rattle.fsfs_noderev.specs.Items.{HasText, IsItem};
+ghost use Rattle.fsfs_noderev.specs.Changes.Items.{HasText, IsItem};
 ghost use Rattle.fsfs_dag.specs.Views.{entry_values};
 ghost use Rattle.fsfs_txn_files.specs.Changes.{changed, IsPut, IsLeft, IsLeftBy, HasWriteCause};
 ghost use Rattle.fsfs_txn_files.specs.Children.{IsWholeList, IsPutRecord, IsTakenRecord};

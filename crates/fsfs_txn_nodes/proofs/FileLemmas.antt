@@ -10,7 +10,7 @@ use Rattle.fsfs_base.proofs.FileLemmas.{get_new, get_kept}
 use Rattle.fsfs_disk.specs.Benches.{bytes_in}
 use Rattle.fsfs_noderev.specs.Ids.{PartValue, part_value}
 use Rattle.fsfs_noderev.specs.declared.node_id.NodeId.{NodeId}
-use Rattle.fsfs_revision.specs.ShowsReading.{Pairs, DirEntry}
+use Rattle.fsfs_revision.specs.Shows.Reading.{Pairs, DirEntry}
 use Rattle.fsfs_draft.specs.Drafts.{Kept, Folder}
 use Rattle.fsfs_draft.specs.Steps.{same_value}
 use Rattle.fsfs_draft.proofs.Files.{same_value-is, same_value-refl}
@@ -22,8 +22,8 @@ use Rattle.fsfs_txn_files.specs.declared.change.How.TheVariants.{Whole, AtEnd}
 use Rattle.fsfs_txn_files.specs.declared.folder_file.FolderFile.{FolderFile}
 use Rattle.fsfs_txn_files.specs.declared.folder_file.FolderFile.TheVariants.{Node, Children, Props}
 use Rattle.fsfs_txn_files.proofs.NameLemmas.{IsEnding, node_parts, nothing, children, props, apart_at}
-use Rattle.fsfs_txn_nodes.specs.Folders.{HasFile, TellsEntries, TellsProps, TellsKept, TellsFolder}
-use Rattle.fsfs_txn_nodes.specs.Telling.{FitsNode, put_kept}
+use Rattle.fsfs_txn_nodes.specs.TxnFolder.Folders.{HasFile, TellsEntries, TellsProps, TellsKept, TellsFolder}
+use Rattle.fsfs_txn_nodes.specs.TxnFolder.Telling.{FitsNode, put_kept}
 
 -- ---- one change
 

@@ -8,10 +8,10 @@ use Rattle.fsfs_noderev.specs.Ids.{part_value}
 use Rattle.fsfs_draft.specs.Drafts.{Kept}
 use Rattle.fsfs_draft.specs.Steps.{Files, with_kept, kept_at}
 use Rattle.fsfs_draft.specs.Views.{kept_value, new_kept}
-use Rattle.fsfs_txn_nodes.specs.declared.keys.NodeKey.{NodeKey}
-use Rattle.fsfs_txn_nodes.specs.declared.held_steps.Step.{Step}
-use Rattle.fsfs_txn_nodes.specs.Keys.{part_of, has_parts, at_key, with_key}
-use Rattle.fsfs_txn_nodes.specs.Lists.{with_steps}
+use Rattle.fsfs_txn_nodes.specs.declared.memory.keys.NodeKey.{NodeKey}
+use Rattle.fsfs_txn_nodes.specs.declared.memory.edit_steps.Step.{Step}
+use Rattle.fsfs_txn_nodes.specs.Memory.Keys.{part_of, has_parts, at_key, with_key}
+use Rattle.fsfs_txn_nodes.specs.Memory.Lists.{with_steps}
 use Rattle.fsfs_txn_nodes.proofs.KeyLemmas.{IsKeyTest, put_by_id, at_id}
 
 pub steps_push : (ss : List Step) (s : Step) (files : Files) → with_steps (ss ++ s ∷ []) files ≡ with_key s.key (kept_value s.kept) (with_steps ss files)

@@ -10,13 +10,13 @@ use Rattle.fsfs_noderev.specs.Ids.{PartValue, New, Old, Made, part_value}
 use Rattle.fsfs_noderev.specs.declared.node_id.NodeId.{NodeId}
 use Rattle.fsfs_draft.specs.Drafts.{Kept}
 use Rattle.fsfs_draft.specs.Steps.{Files, same_value, with_kept, kept_at}
-use Rattle.fsfs_draft.specs.declared.own.KeptNode.{KeptNode}
+use Rattle.fsfs_draft.specs.declared.txn_noderevs.KeptNode.{KeptNode}
 use Rattle.fsfs_draft.specs.Views.{kept_value}
-use Rattle.fsfs_txn_nodes.specs.declared.keys.KeyPart.{KeyPart}
-use Rattle.fsfs_txn_nodes.specs.declared.keys.KeyPart.TheVariants as keys
-use Rattle.fsfs_txn_nodes.specs.declared.keys.NodeKey.{NodeKey}
-use Rattle.fsfs_txn_nodes.specs.Keys.{part_of, has_parts, at_key, with_key}
-use Rattle.fsfs_txn_nodes.specs.Lists.{files_of}
+use Rattle.fsfs_txn_nodes.specs.declared.memory.keys.KeyPart.{KeyPart}
+use Rattle.fsfs_txn_nodes.specs.declared.memory.keys.KeyPart.TheVariants as keys
+use Rattle.fsfs_txn_nodes.specs.declared.memory.keys.NodeKey.{NodeKey}
+use Rattle.fsfs_txn_nodes.specs.Memory.Keys.{part_of, has_parts, at_key, with_key}
+use Rattle.fsfs_txn_nodes.specs.Memory.Lists.{files_of}
 
 abbrev part_key : PartValue → KeyPart
 part_key (New n) = keys.New n

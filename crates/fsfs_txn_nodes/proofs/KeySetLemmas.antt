@@ -8,11 +8,11 @@ use Rattle.std.specs.HashSet.{HashSet, contains, contains_by}
 use Rattle.fsfs_draft.proofs.Files.{same_value-is}
 use Rattle.fsfs_draft.specs.Steps.{Files, same_value}
 use Rattle.fsfs_draft.specs.Views.{kept_value}
-use Rattle.fsfs_txn_nodes.specs.declared.keys.NodeKey.{NodeKey}
-use Rattle.fsfs_txn_nodes.specs.declared.held_steps.Step.{Step}
-use Rattle.fsfs_txn_nodes.specs.Keys.{part_of, has_parts, at_key, with_key}
-use Rattle.fsfs_txn_nodes.specs.KeySets.{has_key, KeepsKeys, AreKeyed}
-use Rattle.fsfs_txn_nodes.specs.Lists.{with_steps}
+use Rattle.fsfs_txn_nodes.specs.declared.memory.keys.NodeKey.{NodeKey}
+use Rattle.fsfs_txn_nodes.specs.declared.memory.edit_steps.Step.{Step}
+use Rattle.fsfs_txn_nodes.specs.Memory.Keys.{part_of, has_parts, at_key, with_key}
+use Rattle.fsfs_txn_nodes.specs.Memory.KeySets.{has_key, KeepsKeys, AreKeyed}
+use Rattle.fsfs_txn_nodes.specs.Memory.Lists.{with_steps}
 use Rattle.fsfs_txn_nodes.proofs.KeyLemmas.{IsKeyTest}
 
 pub set_has : {S : Type 0} (eq : NodeKey → NodeKey → Bool) → IsKeyTest eq → (m : HashSet NodeKey S) (q : NodeKey) → has_key m q ≡ contains eq m q

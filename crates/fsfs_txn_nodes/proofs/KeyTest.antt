@@ -1,12 +1,12 @@
 -- The test by which the table compares its keys.
 use Rattle.std.proofs.Common.{◌≡◌, Bool, ◌&&◌, refl}
 use Rattle.fsfs_draft.specs.Steps.{same_value}
-use Rattle.fsfs_txn_nodes.specs.contracts.keys.KeyPartPartialEq.TheImpl as part_test
-use Rattle.fsfs_txn_nodes.specs.contracts.keys.NodeKeyPartialEq.TheImpl as the_test
-use Rattle.fsfs_txn_nodes.specs.declared.keys.KeyPart.{KeyPart}
-use Rattle.fsfs_txn_nodes.specs.declared.keys.KeyPart.TheVariants as keys
-use Rattle.fsfs_txn_nodes.specs.declared.keys.NodeKey.{NodeKey}
-use Rattle.fsfs_txn_nodes.specs.Keys.{part_of}
+use Rattle.fsfs_txn_nodes.specs.contracts.memory.keys.KeyPartPartialEq.TheImpl as part_test
+use Rattle.fsfs_txn_nodes.specs.contracts.memory.keys.NodeKeyPartialEq.TheImpl as the_test
+use Rattle.fsfs_txn_nodes.specs.declared.memory.keys.KeyPart.{KeyPart}
+use Rattle.fsfs_txn_nodes.specs.declared.memory.keys.KeyPart.TheVariants as keys
+use Rattle.fsfs_txn_nodes.specs.declared.memory.keys.NodeKey.{NodeKey}
+use Rattle.fsfs_txn_nodes.specs.Memory.Keys.{part_of}
 use Rattle.fsfs_txn_nodes.proofs.KeyLemmas.{IsKeyTest}
 
 abbrev pub key_eq : NodeKey → NodeKey → Bool

@@ -3,17 +3,17 @@ use Rattle.std.proofs.Common.{◌≡◌, ◌∙◌, ℕ, List, [], ◌∷◌, �
 use Rattle.std.specs.Prelude.{codes}
 use Rattle.std.specs.FinMap.{get}
 use Rattle.fsfs_base.specs.Files.{Files}
-use Rattle.fsfs_base.specs.Base36.{last_digits}
+use Rattle.fsfs_base.specs.Grammar.Base36.{last_digits}
 use Rattle.fsfs_base.proofs.Numerals.{number_some}
 use Rattle.fsfs_noderev.specs.Ids.{PartValue, Old, part_value}
 use Rattle.fsfs_noderev.specs.declared.node_id.NodeId.{NodeId}
 use Rattle.fsfs_noderev.specs.declared.node_rev.NodeRev.{NodeRev}
 use Rattle.fsfs_layout.specs.Small.{IsNextIds}
-use Rattle.fsfs_noderev.specs.Items.{IsItem}
-use Rattle.fsfs_noderev.specs.Changes.{IsAny}
-use Rattle.fsfs_noderev.specs.declared.item.ChangeItem.{ChangeItem}
+use Rattle.fsfs_noderev.specs.Changes.Items.{IsItem}
+use Rattle.fsfs_noderev.specs.Changes.Texts.{IsAny}
+use Rattle.fsfs_noderev.specs.declared.changes.item.ChangeItem.{ChangeItem}
 use Rattle.fsfs_noderev.proofs.ItemLists.{items_push}
-use Rattle.fsfs_revision.specs.ShowsReading.{Pairs, DirEntry}
+use Rattle.fsfs_revision.specs.Shows.Reading.{Pairs, DirEntry}
 use Rattle.fsfs_draft.specs.Drafts.{Kept, Folder}
 use Rattle.fsfs_draft.specs.Steps.{kept_at}
 use Rattle.fsfs_draft.specs.Items.{with_item}
@@ -27,8 +27,8 @@ use Rattle.fsfs_txn_files.specs.declared.change.How.TheVariants.{Whole, AtEnd}
 use Rattle.fsfs_txn_files.specs.declared.folder_file.FolderFile.TheVariants.{NextIds, Changes, Node, Children, Props}
 use Rattle.fsfs_txn_files.proofs.NameLemmas.{apart_at}
 use Rattle.fsfs_txn_files.proofs.TailLemmas.{tell}
-use Rattle.fsfs_txn_nodes.specs.Folders.{HasFile, TellsEntries, TellsProps, TellsFolder}
-use Rattle.fsfs_txn_nodes.specs.Telling.{FitsNode, IsNodeChange, IsRecord, Put, Taken, put_kept, root_folder, ChangesTell}
+use Rattle.fsfs_txn_nodes.specs.TxnFolder.Folders.{HasFile, TellsEntries, TellsProps, TellsFolder}
+use Rattle.fsfs_txn_nodes.specs.TxnFolder.Telling.{FitsNode, IsNodeChange, IsRecord, Put, Taken, put_kept, root_folder, ChangesTell}
 use Rattle.fsfs_txn_nodes.proofs.FileLemmas.{changed_other, changed_whole, changed_end, file_same, entries_same, props_same, children_not_node, props_not_node, children_not_props, IsAway, of_node, of_children, of_props, away_changed, each_same, kept_put}
 
 abbrev node_of : NodeId → PartValue

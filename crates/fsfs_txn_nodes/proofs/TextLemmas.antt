@@ -2,24 +2,24 @@
 use Rattle.std.proofs.Common.{◌≡◌, ◌++◌, ℕ, true, List, [], length, refl, sym, ap, subst}
 use Rattle.std.specs.Prelude.{Option, Some, None, is_some, option_map, Result, Ok, Err, IfOk, IfErr, IfSome}
 use Rattle.fsfs_base.specs.Files.{Files as BenchFiles}
-use Rattle.fsfs_base.specs.declared.txn_name.TxnName.{TxnName}
-use Rattle.fsfs_base.specs.declared.digest.HexDigest.{HexDigest}
-use Rattle.fsfs_base.specs.declared.base36.B36.{B36}
+use Rattle.fsfs_base.specs.declared.fields.txn_name.TxnName.{TxnName}
+use Rattle.fsfs_base.specs.declared.fields.digest.HexDigest.{HexDigest}
+use Rattle.fsfs_base.specs.declared.grammar.base36.B36.{B36}
 use Rattle.fsfs_noderev.specs.declared.rep.Rep.{Rep}
-use Rattle.fsfs_noderev.specs.declared.item.ChangeItem.{ChangeItem}
-use Rattle.fsfs_revision.specs.Frames.{RepIn, framed_text}
+use Rattle.fsfs_noderev.specs.declared.changes.item.ChangeItem.{ChangeItem}
+use Rattle.fsfs_revision.specs.Rep.Frames.{RepIn, framed_text}
 use Rattle.fsfs_disk.specs.Benches.{appended, bytes_in, bytes_on}
 use Rattle.fsfs_disk.proofs.BenchLemmas.{bytes_in-appended}
-use Rattle.fsfs_txn_files.specs.declared.text_error.TextError.{TextError}
-use Rattle.fsfs_txn_files.specs.declared.text_error.TextError.TheVariants.{SourceFault, TextTooLong, Checksum, BenchFault}
-use Rattle.fsfs_txn_files.specs.Reps.{IsRepOf}
-use Rattle.fsfs_txn_files.specs.ProtoTexts.{IsPut, IsLeft}
+use Rattle.fsfs_txn_files.specs.declared.proto_rev.text_error.TextError.{TextError}
+use Rattle.fsfs_txn_files.specs.declared.proto_rev.text_error.TextError.TheVariants.{SourceFault, TextTooLong, Checksum, BenchFault}
+use Rattle.fsfs_txn_files.specs.ProtoRev.Reps.{IsRepOf}
+use Rattle.fsfs_txn_files.specs.ProtoRev.Texts.{IsPut, IsLeft}
 use Rattle.fsfs_txn_files.proofs.Longer.{read}
 use Rattle.fsfs_draft.specs.Steps.{Files}
 use Rattle.fsfs_draft.specs.Drafts.{Folder}
-use Rattle.fsfs_layout.specs.declared.next_ids_file.NextIds.{NextIds}
-use Rattle.fsfs_txn_nodes.specs.Views.{folder_of}
-use Rattle.fsfs_txn_nodes.specs.Texts.{AreLonger, IsTextPut, IsTextLeft}
+use Rattle.fsfs_layout.specs.declared.small_files.next_ids_file.NextIds.{NextIds}
+use Rattle.fsfs_txn_nodes.specs.Memory.Views.{folder_of}
+use Rattle.fsfs_txn_nodes.specs.Memory.Texts.{AreLonger, IsTextPut, IsTextLeft}
 
 -- the file's bytes; a bench that doesn't tell has none before and none after
 proto_longer : (old new : Option BenchFiles) (name more : List ℕ) → new ≡ option_map (appended name more) old → (added : List ℕ) × (bytes_on new name ≡ bytes_on old name ++ added)

@@ -4,10 +4,10 @@ use Rattle.fsfs_base.specs.Files.{Files}
 use Rattle.fsfs_noderev.specs.declared.node_id.NodeId.{NodeId}
 use Rattle.fsfs_noderev.specs.declared.node_rev.NodeRev.{NodeRev}
 use Rattle.fsfs_layout.specs.Small.{IsNextIds}
-use Rattle.fsfs_layout.specs.declared.next_ids_file.NextIds.{NextIds as NextNumbers}
-use Rattle.fsfs_noderev.specs.Items.{IsItem}
-use Rattle.fsfs_noderev.specs.declared.item.ChangeItem.{ChangeItem}
-use Rattle.fsfs_revision.specs.ShowsReading.{Pairs, DirEntry}
+use Rattle.fsfs_layout.specs.declared.small_files.next_ids_file.NextIds.{NextIds as NextNumbers}
+use Rattle.fsfs_noderev.specs.Changes.Items.{IsItem}
+use Rattle.fsfs_noderev.specs.declared.changes.item.ChangeItem.{ChangeItem}
+use Rattle.fsfs_revision.specs.Shows.Reading.{Pairs, DirEntry}
 use Rattle.fsfs_draft.specs.Drafts.{Kept, Folder}
 use Rattle.fsfs_draft.specs.Steps.{kept_at, with_kept, same_key}
 use Rattle.fsfs_draft.proofs.Files.{same_files, other_files}
@@ -19,9 +19,9 @@ use Rattle.fsfs_txn_files.specs.Changes.{changed_all, IsChange}
 use Rattle.fsfs_txn_files.specs.declared.change.FileChange.{FileChange}
 use Rattle.fsfs_txn_files.specs.declared.change.How.TheVariants.{Whole, AtEnd}
 use Rattle.fsfs_txn_files.specs.declared.folder_file.FolderFile.TheVariants.{NextIds, Changes, Node, Children, Props}
-use Rattle.fsfs_txn_nodes.specs.Folders.{TellsFolder}
-use Rattle.fsfs_txn_nodes.specs.Telling.{FitsNode, IsRecord, put_kept}
-use Rattle.fsfs_txn_nodes.specs.Written.{IsListFirst, IsNodeLast, Same, Other, TellsNew, TellsEntry, TellsChild, TellsMerged, TellsText, TellsPropsSet, TellsNext, TellsSettled, with_next}
+use Rattle.fsfs_txn_nodes.specs.TxnFolder.Folders.{TellsFolder}
+use Rattle.fsfs_txn_nodes.specs.TxnFolder.Telling.{FitsNode, IsRecord, put_kept}
+use Rattle.fsfs_txn_nodes.specs.TxnFolder.Written.{IsListFirst, IsNodeLast, Same, Other, TellsNew, TellsEntry, TellsChild, TellsMerged, TellsText, TellsPropsSet, TellsNext, TellsSettled, with_next}
 use Rattle.fsfs_txn_nodes.proofs.StepLemmas.{changes_tell}
 
 -- one after another

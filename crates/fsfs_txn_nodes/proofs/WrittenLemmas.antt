@@ -13,32 +13,32 @@ use Rattle.fsfs_noderev.specs.Ids.{PartValue, part_value}
 use Rattle.fsfs_noderev.specs.declared.node_id.NodeId.{NodeId}
 use Rattle.fsfs_noderev.specs.declared.node_rev.NodeRev.{NodeRev}
 use Rattle.fsfs_noderev.specs.declared.rep.Rep.{Rep}
-use Rattle.fsfs_layout.specs.declared.next_ids_file.NextIds.{NextIds}
-use Rattle.fsfs_noderev.specs.declared.item.ChangeItem.{ChangeItem}
+use Rattle.fsfs_layout.specs.declared.small_files.next_ids_file.NextIds.{NextIds}
+use Rattle.fsfs_noderev.specs.declared.changes.item.ChangeItem.{ChangeItem}
 use Rattle.fsfs_draft.specs.Drafts.{Kept, Folder}
 use Rattle.fsfs_draft.specs.Steps.{Files, with_kept}
 use Rattle.fsfs_draft.specs.Views.{new_kept}
-use Rattle.fsfs_txn_files.specs.declared.text_error.TextError.{TextError}
-use Rattle.fsfs_txn_files.specs.declared.text_error.TextError.TheVariants.{SourceFault, TextTooLong, Checksum, BenchFault}
-use Rattle.fsfs_txn_files.specs.Causes.{IfBench}
-use Rattle.fsfs_txn_files.specs.ProtoTexts.{IsPut, IsLeft}
-use Rattle.fsfs_base.specs.declared.txn_name.TxnName.{TxnName}
-use Rattle.fsfs_base.specs.declared.digest.HexDigest.{HexDigest}
-use Rattle.fsfs_base.specs.declared.base36.B36.{B36}
+use Rattle.fsfs_txn_files.specs.declared.proto_rev.text_error.TextError.{TextError}
+use Rattle.fsfs_txn_files.specs.declared.proto_rev.text_error.TextError.TheVariants.{SourceFault, TextTooLong, Checksum, BenchFault}
+use Rattle.fsfs_txn_files.specs.ProtoRev.Causes.{IfBench}
+use Rattle.fsfs_txn_files.specs.ProtoRev.Texts.{IsPut, IsLeft}
+use Rattle.fsfs_base.specs.declared.fields.txn_name.TxnName.{TxnName}
+use Rattle.fsfs_base.specs.declared.fields.digest.HexDigest.{HexDigest}
+use Rattle.fsfs_base.specs.declared.grammar.base36.B36.{B36}
 use Rattle.fsfs_txn_files.specs.FileNames.{file_name, node_name}
 use Rattle.fsfs_txn_files.specs.Changes.{changed, changed_all}
 use Rattle.fsfs_txn_files.specs.declared.change.FileChange.{FileChange}
 use Rattle.fsfs_txn_files.specs.declared.folder_file.FolderFile.{FolderFile}
 use Rattle.fsfs_txn_files.specs.declared.folder_file.FolderFile.TheVariants.{NextIds as NextIdsFile, Changes, Node, Children, Props}
 use Rattle.fsfs_txn_files.proofs.NameLemmas.{apart_at}
-use Rattle.fsfs_txn_nodes.specs.Folders.{TellsFolder}
+use Rattle.fsfs_txn_nodes.specs.TxnFolder.Folders.{TellsFolder}
 use Rattle.fsfs_txn_nodes.proofs.FileLemmas.{changed_other, file_same, each_same}
 use Rattle.fsfs_txn_nodes.proofs.Writing.{changed-both}
-use Rattle.fsfs_txn_nodes.specs.declared.held_steps.Step.{Step}
-use Rattle.fsfs_txn_nodes.specs.Lists.{with_steps}
-use Rattle.fsfs_txn_nodes.specs.Views.{begun_folder}
-use Rattle.fsfs_txn_nodes.specs.HeldWritten.{filed, HasTold, LeadTo}
-use Rattle.fsfs_revision.specs.Frames.{framed_text}
+use Rattle.fsfs_txn_nodes.specs.declared.memory.edit_steps.Step.{Step}
+use Rattle.fsfs_txn_nodes.specs.Memory.Lists.{with_steps}
+use Rattle.fsfs_txn_nodes.specs.Memory.Views.{begun_folder}
+use Rattle.fsfs_txn_nodes.specs.Memory.Written.{filed, HasTold, LeadTo}
+use Rattle.fsfs_revision.specs.Rep.Frames.{framed_text}
 
 -- ---- a file that is none of those that tell
 

@@ -1,10 +1,2 @@
-pub mod Folders
-pub mod Telling
-pub mod Written
-pub mod Keys
-pub mod Lists
-pub mod KeySets
-pub mod Views
-pub mod HeldWritten
-pub mod Texts
-pub mod Merged
+pub mod TxnFolder
+pub mod Memory

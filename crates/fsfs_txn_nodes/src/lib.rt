@@ -2,26 +2,14 @@
 //! The own node-revisions of a transaction, held in memory and written into its bench.
 #![tactic(auto)]
 
-mod changed;
-mod copies;
-mod files;
-mod held;
-mod held_steps;
-mod held_writing;
-mod ids;
-mod key_set;
-mod keys;
-mod laws;
-mod nodes;
-mod same;
-mod steps;
-mod texts;
+mod memory;
+mod txn_folder;
 
-pub use files::OwnFiles;
-pub use held::HeldNodes;
-pub use ids::id_fits;
-pub use laws::changes_tell_the_folder;
-pub use steps::{
+pub use memory::files::OwnFiles;
+pub use memory::held_nodes::HeldNodes;
+pub use memory::texts::OwnTexts;
+pub use txn_folder::file_changes::{
     child_files, merged_files, next_files, property_files, settled_files, taken_files, text_files,
 };
-pub use texts::OwnTexts;
+pub use txn_folder::ids::id_fits;
+pub use txn_folder::laws::changes_tell_the_folder;

@@ -5,16 +5,16 @@ use Rattle.std.specs.List.{slice_index}
 use Rattle.std.proofs.lemmas.Str.{IsUtf8-from_ascii}
 use Rattle.hex.specs.Hex.{decode_pairs}
 use Rattle.md5.specs.Md5.{block_words, rounds, compress, hash_after, digest_bytes, md5}
-use Rattle.fsfs_base.specs.Reading.{text_at, until_at}
-use Rattle.fsfs_base.specs.Numeral.{numeral_at, plain_at, number_at, digits_at}
+use Rattle.fsfs_base.specs.Grammar.Reading.{text_at, until_at}
+use Rattle.fsfs_base.specs.Grammar.Numeral.{numeral_at, plain_at, number_at, digits_at}
 use Rattle.fsfs_base.proofs.Readers.{all_found}
 use Rattle.fsfs_base.specs.Paths.{PathName, Path, same_name}
 use Rattle.fsfs_base.specs.PathTexts.{IsName}
 use Rattle.fsfs_base.specs.declared.kind.Kind.TheVariants.{Dir}
 use Rattle.fsfs_base.proofs.PathLemmas.{same_name-is}
 use Rattle.fsfs_revision.specs.Told.{RevisionBytes}
-use Rattle.fsfs_layout.specs.Dump.{IsDump}
-use Rattle.fsfs_layout.specs.HashReading.{field_at, entry_at, dump_at}
+use Rattle.fsfs_layout.specs.Hash.Dump.{IsDump}
+use Rattle.fsfs_layout.specs.Hash.Reading.{field_at, entry_at, dump_at}
 use Rattle.fsfs_layout.proofs.Dumps.{dump_reads}
 use Rattle.fsfs_noderev.specs.Ids.{id_at, part_at, place_at, IsNumber64, part_value, Old}
 use Rattle.fsfs_noderev.specs.Reps.{contents_at, rep_at, digests_at, digest_at}
@@ -32,17 +32,17 @@ use Rattle.fsfs_noderev.specs.declared.node_rev.NodeRev.{NodeRev}
 use Rattle.fsfs_noderev.proofs.IdTexts.{id_spells}
 use Rattle.fsfs_noderev.proofs.RepTexts.{contents_spells, number_spells}
 use Rattle.fsfs_noderev.proofs.Lengths.{reads_back}
-use Rattle.fsfs_revision.specs.Frames.{IsWhole}
+use Rattle.fsfs_revision.specs.Rep.Frames.{IsWhole}
 use Rattle.fsfs_revision.specs.Trailers.{trailer_at, EndsWith}
 use Rattle.fsfs_revision.specs.Damages.{RootIn}
-use Rattle.fsfs_revision.specs.DamageDamages.{place_of}
+use Rattle.fsfs_revision.specs.Damage.Damages.{place_of}
 use Rattle.fsfs_revision.specs.Nodes.{IsNodeAt}
 use Rattle.fsfs_revision.specs.declared.trailer.Trailer.{Trailer}
 use Rattle.fsfs_revision.proofs.TrailerLemmas.{trailer_reads}
-use Rattle.fsfs_revision.specs.ShowsReading.{RootOf, Pairs, DirEntry, IsEntry, IsEntryName, OfId, OfNamed, EntriesOf, ChildOf, Met, Stands, Lacking, MetAt, StandsAt}
-use Rattle.fsfs_revision.specs.Chains.{own_rev, IsPred, First, Goes, copy_root_of, IsCopiedIn}
-use Rattle.fsfs_revision.specs.Shown.{IsShown, IsShownAs, Shows}
-use Rattle.fsfs_revision.specs.IdRules.{IsOf, IsChild, HasSuffix, Directory, IdRule}
+use Rattle.fsfs_revision.specs.Shows.Reading.{RootOf, Pairs, DirEntry, IsEntry, IsEntryName, OfId, OfNamed, EntriesOf, ChildOf, Met, Stands, Lacking, MetAt, StandsAt}
+use Rattle.fsfs_revision.specs.Shows.Chains.{own_rev, IsPred, First, Goes, copy_root_of, IsCopiedIn}
+use Rattle.fsfs_revision.specs.Shows.Shown.{IsShown, IsShownAs, Shows}
+use Rattle.fsfs_revision.specs.Shows.IdRules.{IsOf, IsChild, HasSuffix, Directory, IdRule}
 use Rattle.fsfs_base.specs.FirstRevision.{first_bytes}
 use Rattle.fsfs_worked_laws.specs.FirstDirectory.{directory_bytes, a_name, changed_root, added_directory, directory_tree}
 use Rattle.fsfs_revision.proofs.FirstRevision.{pair_of, zero_b36, path_is, zero_digit, root_node, nothing_below, the_root, first_rules, root_id as first_id, root as first_root}

@@ -1,8 +1,8 @@
 -- What a commit answered, as the end of a job's transaction beside others.
 use Rattle.std.proofs.Common.{◌≡◌, ◌<◌, ◌≤◌, ℕ, Bool, List, sym, subst, ◌∙◌, length, arith}
 use Rattle.std.specs.Prelude.{None}
-use Rattle.fsfs_base.specs.declared.txn_name.TxnName.{TxnName}
-use Rattle.fsfs_base.specs.declared.place.DiskPlace.{DiskPlace}
+use Rattle.fsfs_base.specs.declared.fields.txn_name.TxnName.{TxnName}
+use Rattle.fsfs_base.specs.declared.places.place.DiskPlace.{DiskPlace}
 use Rattle.fsfs_tree.specs.Histories.{IsHistory}
 use Rattle.fsfs_draft.specs.Drafts.{Folder}
 use Rattle.fsfs_machine.specs.declared.machine.Recorded.{Recorded}
@@ -11,14 +11,14 @@ use Rattle.fsfs_machine.specs.Kept.{IsIn}
 use Rattle.fsfs_machine.specs.Machine.{revisions}
 use Rattle.fsfs_turn.specs.Views.{View}
 use Rattle.fsfs_turn.proofs.Alone.{no_shorter}
-use Rattle.fsfs_repo.specs.Commits.{IfFailed, Meets}
-use Rattle.fsfs_repo.specs.declared.answers.CommitAnswer.{CommitAnswer}
-use Rattle.fsfs_repo.specs.declared.answers.CommitAnswer.TheVariants as replies
-use Rattle.fsfs_repo.specs.declared.answers.CommitBar.{CommitBar}
-use Rattle.fsfs_cli.specs.declared.faults_fault.Fault.TheVariants.{Outside}
-use Rattle.fsfs_cli.specs.declared.outside_fault.OutsideFault.TheVariants as outside
-use Rattle.fsfs_script.specs.declared.job.CommitJob.{CommitJob}
-use Rattle.fsfs_script.specs.declared.job.Job.TheVariants as jobs
+use Rattle.fsfs_repo.specs.Txns.Commits.{IfFailed, Meets}
+use Rattle.fsfs_repo.specs.declared.txns.answers.CommitAnswer.{CommitAnswer}
+use Rattle.fsfs_repo.specs.declared.txns.answers.CommitAnswer.TheVariants as replies
+use Rattle.fsfs_repo.specs.declared.txns.answers.CommitBar.{CommitBar}
+use Rattle.fsfs_cli.specs.declared.faults.fault.Fault.TheVariants.{Outside}
+use Rattle.fsfs_cli.specs.declared.faults.outside_fault.OutsideFault.TheVariants as outside
+use Rattle.fsfs_script.specs.declared.job_lines.job.CommitJob.{CommitJob}
+use Rattle.fsfs_script.specs.declared.job_lines.job.Job.TheVariants as jobs
 use Rattle.fsfs_jobs.specs.Properties.{undated_properties}
 use Rattle.fsfs_jobs.specs.Serial.{base_of}
 use Rattle.fsfs_jobs.specs.declared.answer.JobAnswer.{JobAnswer}

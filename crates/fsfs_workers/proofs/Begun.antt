@@ -5,11 +5,11 @@ use Rattle.fsfs_tree.specs.Revisions.{Revision}
 use Rattle.fsfs_layout.specs.declared.layout.Layout.{Layout}
 use Rattle.fsfs_disk.specs.Trace.{Trace, FirmNames, Performs}
 use Rattle.fsfs_machine.specs.Machine.{revisions}
-use Rattle.fsfs_pass.specs.declared.seat_view.SeatView.{SeatView}
+use Rattle.fsfs_pass.specs.declared.seats.seat_view.SeatView.{SeatView}
 use Rattle.fsfs_pass.specs.Seats.{IsSitting}
 use Rattle.fsfs_pass.specs.Tells.{TellsIt}
-use Rattle.fsfs_repo.specs.FirstPass.{SeesAll}
-use Rattle.fsfs_script.specs.declared.job.Job.{Job}
+use Rattle.fsfs_repo.specs.Shared.FirstPass.{SeesAll}
+use Rattle.fsfs_script.specs.declared.job_lines.job.Job.{Job}
 use Rattle.fsfs_jobs.specs.declared.answer.JobAnswer.{JobAnswer}
 use Rattle.fsfs_job_run.specs.Runs.{HoldsAll}
 use Rattle.fsfs_workers.specs.Ready.{IsReady}

@@ -2,20 +2,20 @@
 use Rattle.std.proofs.Common.{◌≡◌, ◌<◌, ◌≤◌, ◌+◌, ◌-◌, ◌/◌, ℕ, zero, suc, List, [], ◌∷◌, ◌++◌, length, Bool, true, false, cond, ap, sym, subst, refl, ◌∙◌, arith}
 use Rattle.std.specs.Prelude.{Option, Some, None, is_some}
 use Rattle.fsfs_disk.specs.Trace.{Trace}
-use Rattle.fsfs_base.specs.declared.place.DiskPlace.{DiskPlace}
+use Rattle.fsfs_base.specs.declared.places.place.DiskPlace.{DiskPlace}
 use Rattle.fsfs_machine.specs.declared.machine.Recorded.{Recorded}
 use Rattle.fsfs_machine.specs.Machine.{either_place, revisions}
 use Rattle.fsfs_turn.specs.Alone.{BringsNoDoubt, are_harmless, brings_doubt}
 use Rattle.fsfs_turn.specs.Views.{View, Begins}
-use Rattle.fsfs_pass.specs.declared.seat_view.Kin.{Kin}
-use Rattle.fsfs_pass.specs.declared.seat_view.SeatView.{SeatView}
+use Rattle.fsfs_pass.specs.declared.seats.seat_view.Kin.{Kin}
+use Rattle.fsfs_pass.specs.declared.seats.seat_view.SeatView.{SeatView}
 use Rattle.fsfs_pass.specs.Seats.{view_of, halved_view, split_pass, numbered_view, joined_view}
 use Rattle.fsfs_pass.proofs.Following.{grown_long}
-use Rattle.fsfs_script.specs.declared.job.Job.{Job}
+use Rattle.fsfs_script.specs.declared.job_lines.job.Job.{Job}
 use Rattle.fsfs_jobs.specs.declared.answer.JobAnswer.{JobAnswer}
-use Rattle.fsfs_job_run.specs.Jobs.{own_of_all, TellNoDoubt, bench_faults_in}
-use Rattle.fsfs_job_run.specs.Lines.{WorkerLines, dealt, disk_faults_in, RoseBy}
-use Rattle.fsfs_job_run.specs.Passes.{last_known, IsOnward, WorkJobs, End, More}
+use Rattle.fsfs_job_run.specs.Serial.Jobs.{own_of_all, TellNoDoubt, bench_faults_in}
+use Rattle.fsfs_job_run.specs.Workers.Lines.{WorkerLines, dealt, disk_faults_in, RoseBy}
+use Rattle.fsfs_job_run.specs.Workers.Passes.{last_known, IsOnward, WorkJobs, End, More}
 use Rattle.fsfs_job_run.proofs.BesideLemmas.{begins_on, onward, worked}
 use Rattle.fsfs_workers.specs.InTurn.{in_turn, AreDealt}
 use Rattle.fsfs_workers.specs.Ready.{IsAtRest}

@@ -1,7 +1,7 @@
 -- A job's transaction whose edits were done.
 use Rattle.std.proofs.Common.{◌≡◌, ◌<◌, ◌≤◌, ◌+◌, ℕ, List, [], length, take, sym, ap, subst, ◌∙◌, arith}
 use Rattle.std.proofs.lemmas.List.{take-append-le}
-use Rattle.fsfs_base.specs.declared.txn_name.TxnName.{TxnName}
+use Rattle.fsfs_base.specs.declared.fields.txn_name.TxnName.{TxnName}
 use Rattle.fsfs_tree.specs.Dated.{last_of}
 use Rattle.fsfs_tree.specs.Revisions.{tree_of}
 use Rattle.fsfs_draft.specs.Drafts.{Folder}
@@ -15,9 +15,9 @@ use Rattle.fsfs_turn.proofs.Reading.{begins_on}
 use Rattle.fsfs_turn.proofs.Moments.{begins_take}
 use Rattle.fsfs_turn.proofs.Alone.{no_shorter}
 use Rattle.fsfs_repo.specs.StayingLemmas.{txn_stays}
-use Rattle.fsfs_jobs.specs.Editing.{IsEditedWhole}
-use Rattle.fsfs_script.specs.declared.job.CommitJob.{CommitJob}
-use Rattle.fsfs_script.specs.declared.job.Job.{Job}
+use Rattle.fsfs_jobs.specs.JobEdits.Editing.{IsEditedWhole}
+use Rattle.fsfs_script.specs.declared.job_lines.job.CommitJob.{CommitJob}
+use Rattle.fsfs_script.specs.declared.job_lines.job.Job.{Job}
 use Rattle.fsfs_jobs.specs.declared.answer.JobAnswer.{JobAnswer}
 use Rattle.fsfs_job_run.proofs.Composed.{stands_for}
 use Rattle.fsfs_job_run.proofs.Counted.{outside_on}

@@ -4,8 +4,8 @@ use Rattle.std.specs.BTreeMap.{insert_entry}
 use Rattle.std.specs.Cmp.Lexicographic.{slice_cmp}
 use Rattle.std.specs.Ordering.{nat_cmp}
 use Rattle.std.specs.Prelude.{None}
-use Rattle.fsfs_base.specs.declared.txn_name.TxnName.{TxnName}
-use Rattle.fsfs_base.specs.declared.place.DiskPlace.{DiskPlace}
+use Rattle.fsfs_base.specs.declared.fields.txn_name.TxnName.{TxnName}
+use Rattle.fsfs_base.specs.declared.places.place.DiskPlace.{DiskPlace}
 use Rattle.fsfs_tree.specs.Dated.{date_name, last_of}
 use Rattle.fsfs_tree.specs.Histories.{IsHistory}
 use Rattle.fsfs_draft.specs.Drafts.{Folder}
@@ -21,22 +21,22 @@ use Rattle.fsfs_turn.proofs.Alone.{no_shorter}
 use Rattle.fsfs_repo.specs.Replies.{Committed, Moved}
 use Rattle.fsfs_repo.specs.Works.{Landings}
 use Rattle.fsfs_repo.specs.Dating.{IsDatedAt}
-use Rattle.fsfs_repo.specs.Commits.{Bars, IsDropped}
-use Rattle.fsfs_repo.specs.declared.answers.CommitBar.{CommitBar}
-use Rattle.fsfs_repo.specs.declared.answers.CommitBar.TheVariants as bars
-use Rattle.fsfs_cli.specs.declared.faults_fault.Fault.TheVariants.{Outside}
-use Rattle.fsfs_cli.specs.declared.outside_fault.OutsideFault.TheVariants as outside
-use Rattle.fsfs_script.specs.declared.job.CommitJob.{CommitJob}
-use Rattle.fsfs_script.specs.declared.job.Job.TheVariants as jobs
+use Rattle.fsfs_repo.specs.Txns.Commits.{Bars, IsDropped}
+use Rattle.fsfs_repo.specs.declared.txns.answers.CommitBar.{CommitBar}
+use Rattle.fsfs_repo.specs.declared.txns.answers.CommitBar.TheVariants as bars
+use Rattle.fsfs_cli.specs.declared.faults.fault.Fault.TheVariants.{Outside}
+use Rattle.fsfs_cli.specs.declared.faults.outside_fault.OutsideFault.TheVariants as outside
+use Rattle.fsfs_script.specs.declared.job_lines.job.CommitJob.{CommitJob}
+use Rattle.fsfs_script.specs.declared.job_lines.job.Job.TheVariants as jobs
 use Rattle.fsfs_jobs.specs.Properties.{undated_properties}
 use Rattle.fsfs_jobs.specs.Serial.{base_of}
 use Rattle.fsfs_jobs.specs.declared.answer.JobAnswer.TheVariants as answers
-use Rattle.fsfs_job_run.specs.Jobs.{ByBench, ByDisk, ByMemory, ByStuck}
+use Rattle.fsfs_job_run.specs.Serial.Jobs.{ByBench, ByDisk, ByMemory, ByStuck}
 use Rattle.fsfs_job_run.specs.Faults.{answer_of_bar}
 use Rattle.fsfs_job_run.proofs.PropertyLemmas.{job_dated}
 use Rattle.fsfs_job_run.proofs.Seen.{over_seen}
-use Rattle.fsfs_job_run.specs.Beside.{IsBase}
-use Rattle.fsfs_job_run.specs.Passes.{IsOnward}
+use Rattle.fsfs_job_run.specs.Workers.Beside.{IsBase}
+use Rattle.fsfs_job_run.specs.Workers.Passes.{IsOnward}
 use Rattle.fsfs_workers.specs.Working.{EndsFrom, GoesOnKnown, IsEditedOver, IsEditedTxn, up_to}
 use Rattle.fsfs_workers.proofs.Parts.{parts_of, part_length}
 use Rattle.fsfs_workers.proofs.Lines.{is_base, base_later, last_is, full_line, clash_line, committed_line, clash_over, edited_later}

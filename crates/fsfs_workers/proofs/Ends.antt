@@ -4,18 +4,18 @@ use Rattle.std.specs.Prelude.{Option, None, Result, Ok, Err, MatchResult}
 use Rattle.fsfs_base.specs.Failures.{Rose}
 use Rattle.fsfs_base.specs.declared.small_fault.SmallFile.TheVariants.{Current}
 use Rattle.fsfs_disk.specs.Trace.{Trace, FirmNames, FailsAt}
-use Rattle.fsfs_base.specs.declared.open_fault.OpenFault.{OpenFault}
+use Rattle.fsfs_base.specs.declared.places.open_fault.OpenFault.{OpenFault}
 use Rattle.fsfs_repo.specs.OpenFaults.{OpensBecause}
-use Rattle.fsfs_script.specs.declared.job.Job.{Job}
+use Rattle.fsfs_script.specs.declared.job_lines.job.Job.{Job}
 use Rattle.fsfs_script.specs.Errors.{IfReadFault}
 use Rattle.fsfs_script.specs.Whole.{ReadsScript, EndsSource}
 use Rattle.fsfs_script.specs.declared.script_error.ScriptError.{ScriptError}
-use Rattle.fsfs_cli.specs.FaultsFaults.{fault_from_open, fault_from_script}
-use Rattle.fsfs_cli.specs.declared.faults_fault.Fault.{Fault}
-use Rattle.fsfs_cli.specs.declared.faults_fault.Fault.TheVariants.{Repository, Memory}
-use Rattle.fsfs_cli.specs.declared.repository_fault.RepositoryFault.TheVariants.{Small}
-use Rattle.fsfs_job_run.specs.Lines.{disk_faults_in, RoseBy}
-use Rattle.fsfs_job_run.specs.Jobs.{bench_faults_in}
+use Rattle.fsfs_cli.specs.CommandFaults.{fault_from_open, fault_from_script}
+use Rattle.fsfs_cli.specs.declared.faults.fault.Fault.{Fault}
+use Rattle.fsfs_cli.specs.declared.faults.fault.Fault.TheVariants.{Repository, Memory}
+use Rattle.fsfs_cli.specs.declared.faults.repository_fault.RepositoryFault.TheVariants.{Small}
+use Rattle.fsfs_job_run.specs.Workers.Lines.{disk_faults_in, RoseBy}
+use Rattle.fsfs_job_run.specs.Serial.Jobs.{bench_faults_in}
 use Rattle.fsfs_job_run.specs.Runs.{RunScene, run_scene, PrintsRun}
 use Rattle.fsfs_job_run.specs.declared.running.JobsDone.{JobsDone}
 use Rattle.fsfs_workers.specs.ByWorkers.{RanBesideOver, RunsBeside, NotOpened, NotRead, NoRoom, Done, Lost, RunsByWorkers}

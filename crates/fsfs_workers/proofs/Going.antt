@@ -1,8 +1,8 @@
 -- What a pass knows behind calls by which it added nothing.
 use Rattle.std.proofs.Common.{◌≡◌, ◌<◌, ◌≤◌, ℕ, List, [], ◌∷◌, ◌++◌, length, Bool, true, false, refl, sym, ap, subst, ◌∙◌, inr, arith, append-nil}
 use Rattle.std.specs.Prelude.{None, Result, Ok, Err, is_some}
-use Rattle.fsfs_base.specs.declared.txn_name.TxnName.{TxnName}
-use Rattle.fsfs_base.specs.declared.place.DiskPlace.{DiskPlace}
+use Rattle.fsfs_base.specs.declared.fields.txn_name.TxnName.{TxnName}
+use Rattle.fsfs_base.specs.declared.places.place.DiskPlace.{DiskPlace}
 use Rattle.fsfs_draft.specs.Drafts.{Folder}
 use Rattle.fsfs_machine.specs.declared.machine.Recorded.{Recorded}
 use Rattle.fsfs_machine.specs.declared.machine.Step.{Step}
@@ -22,19 +22,19 @@ use Rattle.fsfs_repo.specs.BeginSteps.{Moved}
 use Rattle.fsfs_repo.specs.BeginPurged.{HasPurged, HasNotPurged, Purges}
 use Rattle.fsfs_repo.specs.PurgeFault.{PurgeFault}
 use Rattle.fsfs_repo.specs.PurgeFault.TheVariants.{DiskFault}
-use Rattle.fsfs_base.specs.declared.place.DiskPlace.TheVariants.{Read, Remove}
+use Rattle.fsfs_base.specs.declared.places.place.DiskPlace.TheVariants.{Read, Remove}
 use Rattle.fsfs_repo.specs.Replies.{Moved as CommitMoved}
-use Rattle.fsfs_repo.specs.Begun.{BeginsTxnAmong}
-use Rattle.fsfs_repo.specs.Commits.{IsDropped}
-use Rattle.fsfs_script.specs.declared.job.Job.{Job}
+use Rattle.fsfs_repo.specs.Txns.Begun.{BeginsTxnAmong}
+use Rattle.fsfs_repo.specs.Txns.Commits.{IsDropped}
+use Rattle.fsfs_script.specs.declared.job_lines.job.Job.{Job}
 use Rattle.fsfs_jobs.specs.declared.answer.JobAnswer.{JobAnswer}
 use Rattle.fsfs_jobs.specs.declared.answer.JobAnswer.TheVariants as answers
-use Rattle.fsfs_cli.specs.declared.faults_fault.Fault.TheVariants.{Words, Request, Repository, Outside, Memory, Limit}
-use Rattle.fsfs_cli.specs.declared.outside_fault.OutsideFault.TheVariants as outside
-use Rattle.fsfs_job_run.specs.Jobs.{own_of, tells_doubt, tells_stuck, Fails}
+use Rattle.fsfs_cli.specs.declared.faults.fault.Fault.TheVariants.{Words, Request, Repository, Outside, Memory, Limit}
+use Rattle.fsfs_cli.specs.declared.faults.outside_fault.OutsideFault.TheVariants as outside
+use Rattle.fsfs_job_run.specs.Serial.Jobs.{own_of, tells_doubt, tells_stuck, Fails}
 use Rattle.fsfs_job_run.specs.Running.{HasOutsideCause}
-use Rattle.fsfs_job_run.specs.Beside.{LineHolds, shown_in}
-use Rattle.fsfs_job_run.specs.Passes.{IsOnward, WorksJob, last_known}
+use Rattle.fsfs_job_run.specs.Workers.Beside.{LineHolds, shown_in}
+use Rattle.fsfs_job_run.specs.Workers.Passes.{IsOnward, WorksJob, last_known}
 use Rattle.fsfs_workers.specs.Working.{GoesOn, GoesOnKnown, WorksFrom}
 
 -- ---- one after another

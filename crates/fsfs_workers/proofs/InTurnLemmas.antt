@@ -1,6 +1,6 @@
 -- What is dealt out to workers, and of two put together in turn again.
 use Rattle.std.proofs.Common.{◌≡◌, ◌+◌, ◌-◌, ◌<◌, ◌≤◌, ℕ, zero, suc, List, [], ◌∷◌, ◌++◌, length, refl, sym, ap, ◌∙◌, append_assoc, append-nil, inl, inr, arith}
-use Rattle.fsfs_job_run.specs.Lines.{dealt}
+use Rattle.fsfs_job_run.specs.Workers.Lines.{dealt}
 use Rattle.fsfs_workers.specs.InTurn.{in_turn, AreDealt, turn_after}
 
 -- as many, or the first has one more: also of one more on each side

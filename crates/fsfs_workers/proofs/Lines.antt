@@ -2,15 +2,15 @@
 use Rattle.std.proofs.Common.{◌≡◌, ◌<◌, ◌≤◌, ◌+◌, ℕ, List, [], ◌∷◌, ◌++◌, length, take, refl, sym, ap, subst, ◌∙◌, arith}
 use Rattle.std.specs.FinMap.{get}
 use Rattle.fsfs_base.specs.Paths.{Path}
-use Rattle.fsfs_base.specs.Dates.{IsDateAt}
-use Rattle.fsfs_base.specs.RevNums.{last_rev}
+use Rattle.fsfs_base.specs.Fields.Dates.{IsDateAt}
+use Rattle.fsfs_base.specs.Fields.RevNums.{last_rev}
 use Rattle.fsfs_tree.specs.Nodes.{TreeFunction}
 use Rattle.fsfs_tree.specs.Dated.{last_of}
 use Rattle.fsfs_tree.specs.Histories.{IsHistory}
 use Rattle.fsfs_tree.specs.Revisions.{Revision, tree_of}
 use Rattle.fsfs_tree.specs.Answers.{found_at}
-use Rattle.fsfs_model.specs.Landing.{IsFirstClash}
-use Rattle.fsfs_model.specs.Transactions.{IsNext}
+use Rattle.fsfs_model.specs.Flat.Landing.{IsFirstClash}
+use Rattle.fsfs_model.specs.Flat.Transactions.{IsNext}
 use Rattle.fsfs_machine.specs.declared.machine.Recorded.{Recorded}
 use Rattle.fsfs_machine.specs.declared.machine.Txn.{Txn}
 use Rattle.fsfs_machine.specs.Machine.{revisions, entry_of}
@@ -23,23 +23,23 @@ use Rattle.fsfs_turn.proofs.Alone.{no_shorter}
 use Rattle.fsfs_repo.specs.Replies.{Committed}
 use Rattle.fsfs_repo.specs.Works.{Landings}
 use Rattle.fsfs_repo.specs.Refusals.{IsClashAt}
-use Rattle.fsfs_cli.specs.declared.faults_fault.Fault.{Fault}
-use Rattle.fsfs_cli.specs.declared.faults_fault.Fault.TheVariants.{Request, Limit}
-use Rattle.fsfs_cli.specs.declared.limit_fault.LimitFault.TheVariants.{RevsFull}
-use Rattle.fsfs_cli.specs.declared.request_fault.RequestFault.TheVariants.{NoRev}
-use Rattle.fsfs_script.specs.declared.job.Base.{Base}
-use Rattle.fsfs_script.specs.declared.job.Base.TheVariants.{Youngest, Number}
-use Rattle.fsfs_script.specs.declared.job.CommitJob.{CommitJob}
-use Rattle.fsfs_script.specs.declared.job.ReadJob.{ReadJob}
-use Rattle.fsfs_script.specs.declared.job.Job.TheVariants as jobs
+use Rattle.fsfs_cli.specs.declared.faults.fault.Fault.{Fault}
+use Rattle.fsfs_cli.specs.declared.faults.fault.Fault.TheVariants.{Request, Limit}
+use Rattle.fsfs_cli.specs.declared.faults.limit_fault.LimitFault.TheVariants.{RevsFull}
+use Rattle.fsfs_cli.specs.declared.faults.request_fault.RequestFault.TheVariants.{NoRev}
+use Rattle.fsfs_script.specs.declared.job_lines.job.Base.{Base}
+use Rattle.fsfs_script.specs.declared.job_lines.job.Base.TheVariants.{Youngest, Number}
+use Rattle.fsfs_script.specs.declared.job_lines.job.CommitJob.{CommitJob}
+use Rattle.fsfs_script.specs.declared.job_lines.job.ReadJob.{ReadJob}
+use Rattle.fsfs_script.specs.declared.job_lines.job.Job.TheVariants as jobs
 use Rattle.fsfs_jobs.specs.Edits.{Refuses, StopsAt}
 use Rattle.fsfs_jobs.specs.Properties.{job_properties}
 use Rattle.fsfs_jobs.specs.Serial.{base_of, Adds, Clashes, Commits, Done, Full, Refused, IsReadOf}
 use Rattle.fsfs_jobs.specs.declared.answer.JobAnswer.{JobAnswer}
 use Rattle.fsfs_jobs.specs.declared.answer.JobAnswer.TheVariants as answers
-use Rattle.fsfs_job_run.specs.Jobs.{IfAdded}
+use Rattle.fsfs_job_run.specs.Serial.Jobs.{IfAdded}
 use Rattle.fsfs_job_run.proofs.Clashing.{clash_back}
-use Rattle.fsfs_job_run.specs.Beside.{IsBase, RunsBeside, ReadsText, LacksRead, LacksBase, DoesEdits, GoesOnFrom, IsDone}
+use Rattle.fsfs_job_run.specs.Workers.Beside.{IsBase, RunsBeside, ReadsText, LacksRead, LacksBase, DoesEdits, GoesOnFrom, IsDone}
 use Rattle.fsfs_workers.specs.Working.{IsEditedOver}
 use Rattle.fsfs_workers.proofs.Parts.{part_length, goes_on_from, revisions_more}
 use Rattle.fsfs_workers.proofs.Steps.{takes_later}

@@ -7,7 +7,7 @@ use Rattle.fsfs_machine.specs.Machine.{revisions}
 use Rattle.fsfs_turn.specs.Views.{Begins}
 use Rattle.fsfs_turn.proofs.Reading.{begins_on}
 use Rattle.fsfs_turn.proofs.Moments.{begins_take}
-use Rattle.fsfs_job_run.specs.Beside.{GoesOnFrom}
+use Rattle.fsfs_job_run.specs.Workers.Beside.{GoesOnFrom}
 
 -- of two first parts of a history the longer begins with the shorter
 both : (a b m n : List Recorded) → a ++ m ≡ b ++ n → length a ≤ length b → Begins b a

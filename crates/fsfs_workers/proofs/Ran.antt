@@ -17,18 +17,18 @@ use Rattle.fsfs_turn.specs.Past.{IsPart}
 use Rattle.fsfs_turn.specs.Views.{Begins, Looked}
 use Rattle.fsfs_turn.specs.Whole.{NamesFrom}
 use Rattle.fsfs_turn.proofs.Alone.{same_by_length}
-use Rattle.fsfs_pass.specs.declared.seat_view.Kin.{Kin}
-use Rattle.fsfs_pass.specs.declared.seat_view.SeatView.{SeatView}
+use Rattle.fsfs_pass.specs.declared.seats.seat_view.Kin.{Kin}
+use Rattle.fsfs_pass.specs.declared.seats.seat_view.SeatView.{SeatView}
 use Rattle.fsfs_pass.specs.Seats.{all_parts, alone, look_view, view_of}
 use Rattle.fsfs_pass.specs.Kinship.{all_own, own_in}
 use Rattle.fsfs_pass.proofs.Following.{grown_long}
-use Rattle.fsfs_repo.specs.Left.{Leaves}
-use Rattle.fsfs_script.specs.declared.job.Job.{Job}
+use Rattle.fsfs_repo.specs.Shared.Left.{Leaves}
+use Rattle.fsfs_script.specs.declared.job_lines.job.Job.{Job}
 use Rattle.fsfs_jobs.specs.declared.answer.JobAnswer.{JobAnswer}
-use Rattle.fsfs_job_run.specs.Jobs.{own_of_all}
-use Rattle.fsfs_job_run.specs.Beside.{GoesOnFrom}
-use Rattle.fsfs_job_run.specs.Lines.{JobLines, WorkerLines, dealt}
-use Rattle.fsfs_job_run.specs.Passes.{IsOnward, last_known}
+use Rattle.fsfs_job_run.specs.Serial.Jobs.{own_of_all}
+use Rattle.fsfs_job_run.specs.Workers.Beside.{GoesOnFrom}
+use Rattle.fsfs_job_run.specs.Workers.Lines.{JobLines, WorkerLines, dealt}
+use Rattle.fsfs_job_run.specs.Workers.Passes.{IsOnward, last_known}
 use Rattle.fsfs_job_run.proofs.BesideLemmas.{all_stay, begins_on, goes_on_itself}
 use Rattle.fsfs_job_run.proofs.RunLemmas.{a_part}
 use Rattle.fsfs_job_run.specs.Runs.{AllStandFor, HoldsAll}

@@ -5,24 +5,24 @@ use Rattle.fsfs_base.specs.declared.kind.Kind.TheVariants.{File, Dir}
 use Rattle.fsfs_tree.specs.Answers.{Found, Stands, Lacking, Blocked, found_at}
 use Rattle.fsfs_machine.specs.declared.machine.Recorded.{Recorded}
 use Rattle.fsfs_machine.specs.Machine.{revisions}
-use Rattle.fsfs_base.specs.declared.place.DiskPlace.TheVariants as places
+use Rattle.fsfs_base.specs.declared.places.place.DiskPlace.TheVariants as places
 use Rattle.fsfs_tree.specs.Dated.{last_of}
 use Rattle.fsfs_tree.specs.Nodes.{Content, Bytes, Closed}
 use Rattle.fsfs_tree.specs.Revisions.{tree_of}
 use Rattle.fsfs_turn.specs.Views.{View, Begins}
 use Rattle.fsfs_turn.proofs.Reading.{begins_on}
 use Rattle.fsfs_turn.proofs.Moments.{begins_take}
-use Rattle.fsfs_cli.specs.declared.faults_fault.Fault.TheVariants.{Outside}
-use Rattle.fsfs_cli.specs.declared.outside_fault.OutsideFault.TheVariants as outside
-use Rattle.fsfs_script.specs.declared.job.ReadJob.{ReadJob}
-use Rattle.fsfs_script.specs.declared.job.Job.TheVariants as jobs
+use Rattle.fsfs_cli.specs.declared.faults.fault.Fault.TheVariants.{Outside}
+use Rattle.fsfs_cli.specs.declared.faults.outside_fault.OutsideFault.TheVariants as outside
+use Rattle.fsfs_script.specs.declared.job_lines.job.ReadJob.{ReadJob}
+use Rattle.fsfs_script.specs.declared.job_lines.job.Job.TheVariants as jobs
 use Rattle.fsfs_jobs.specs.Serial.{IsReadOf, base_of, read_kind}
 use Rattle.fsfs_jobs.specs.declared.answer.JobAnswer.{JobAnswer}
 use Rattle.fsfs_jobs.specs.declared.answer.JobAnswer.TheVariants as answers
 use Rattle.fsfs_job_run.specs.TextReads.{ReadsSo, ByTree, DiskFails, Wants, IfAnswerFails}
-use Rattle.fsfs_job_run.specs.Jobs.{ByDisk, ByMemory, IfAdded, own_of}
-use Rattle.fsfs_job_run.specs.Beside.{LineHolds, shown_in}
-use Rattle.fsfs_job_run.specs.Passes.{last_known}
+use Rattle.fsfs_job_run.specs.Serial.Jobs.{ByDisk, ByMemory, IfAdded, own_of}
+use Rattle.fsfs_job_run.specs.Workers.Beside.{LineHolds, shown_in}
+use Rattle.fsfs_job_run.specs.Workers.Passes.{last_known}
 use Rattle.fsfs_job_run.proofs.Reading.{found_bare, none_added, reads_bare, reads_outside}
 use Rattle.fsfs_workers.specs.Working.{GoesOn, WorksSo, up_to}
 use Rattle.fsfs_workers.proofs.Based.{works_whole}

@@ -3,7 +3,7 @@ use Rattle.std.proofs.Common.{ℕ, Bool, refl}
 use Rattle.std.specs.Prelude.{Option}
 use Rattle.fsfs_disk.specs.Trace.{Trace}
 use Rattle.fsfs_layout.specs.declared.layout.Layout.{Layout}
-use Rattle.fsfs_pass.specs.declared.seat_view.SeatView.{SeatView}
+use Rattle.fsfs_pass.specs.declared.seats.seat_view.SeatView.{SeatView}
 use Rattle.fsfs_pass.specs.Seats.{halved_view, numbered_view, split_pass}
 use Rattle.fsfs_pass.specs.Tells.{TellsIt}
 use Rattle.fsfs_workers.specs.Ready.{IsReady}

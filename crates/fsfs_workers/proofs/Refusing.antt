@@ -1,31 +1,31 @@
 -- A job one of whose edits was refused, beside others.
 use Rattle.std.proofs.Common.{◌≡◌, ◌⊎◌, ◌<◌, ◌≤◌, ◌+◌, ℕ, List, [], length, refl, sym, subst, inl, inr, arith}
-use Rattle.fsfs_base.specs.declared.txn_name.TxnName.{TxnName}
+use Rattle.fsfs_base.specs.declared.fields.txn_name.TxnName.{TxnName}
 use Rattle.fsfs_tree.specs.Nodes.{TreeFunction}
 use Rattle.fsfs_tree.specs.Dated.{last_of}
 use Rattle.fsfs_tree.specs.Revisions.{tree_of}
-use Rattle.fsfs_model.specs.declared.mark.Mark.{Mark}
+use Rattle.fsfs_model.specs.declared.flat.mark.Mark.{Mark}
 use Rattle.fsfs_machine.specs.declared.machine.Recorded.{Recorded}
 use Rattle.fsfs_machine.specs.Machine.{revisions}
 use Rattle.fsfs_turn.specs.Bytes.{bytes_of}
 use Rattle.fsfs_turn.specs.Views.{View, Begins}
 use Rattle.fsfs_turn.proofs.Reading.{begins_on}
 use Rattle.fsfs_turn.proofs.Moments.{begins_take}
-use Rattle.fsfs_cli.specs.declared.faults_fault.Fault.{Fault}
-use Rattle.fsfs_cli.specs.declared.faults_fault.Fault.TheVariants.{Words, Request, Repository, Outside, Memory, Limit}
-use Rattle.fsfs_cli.specs.declared.request_fault.RequestFault.TheVariants.{Mergeinfo}
-use Rattle.fsfs_script.specs.declared.edit.Edit.{Edit}
-use Rattle.fsfs_script.specs.declared.job.CommitJob.{CommitJob}
-use Rattle.fsfs_script.specs.declared.job.Job.TheVariants as jobs
+use Rattle.fsfs_cli.specs.declared.faults.fault.Fault.{Fault}
+use Rattle.fsfs_cli.specs.declared.faults.fault.Fault.TheVariants.{Words, Request, Repository, Outside, Memory, Limit}
+use Rattle.fsfs_cli.specs.declared.faults.request_fault.RequestFault.TheVariants.{Mergeinfo}
+use Rattle.fsfs_script.specs.declared.job_lines.edit.Edit.{Edit}
+use Rattle.fsfs_script.specs.declared.job_lines.job.CommitJob.{CommitJob}
+use Rattle.fsfs_script.specs.declared.job_lines.job.Job.TheVariants as jobs
 use Rattle.fsfs_jobs.specs.Edits.{Refuses, StopsAt}
 use Rattle.fsfs_jobs.specs.Serial.{base_of}
 use Rattle.fsfs_jobs.specs.declared.answer.JobAnswer.TheVariants.{Stopped}
-use Rattle.fsfs_jobs.specs.Editing.{Bars, IfRefused, IfDisk, IsCounted}
-use Rattle.fsfs_job_run.specs.Jobs.{ByCounts, ByMemory, Fails}
+use Rattle.fsfs_jobs.specs.JobEdits.Editing.{Bars, IfRefused, IfDisk, IsCounted}
+use Rattle.fsfs_job_run.specs.Serial.Jobs.{ByCounts, ByMemory, Fails}
 use Rattle.fsfs_job_run.proofs.Composed.{told_so, outside_so}
 use Rattle.fsfs_job_run.proofs.Counted.{edits_outside}
 use Rattle.fsfs_job_run.proofs.Edited.{stops_by}
-use Rattle.fsfs_job_run.specs.Beside.{LineHolds, shown_in}
+use Rattle.fsfs_job_run.specs.Workers.Beside.{LineHolds, shown_in}
 use Rattle.fsfs_workers.specs.Working.{EndsFrom, GoesOn, GoesOnKnown, up_to}
 use Rattle.fsfs_workers.proofs.Going.{goes_on, ends_so}
 use Rattle.fsfs_workers.proofs.Lines.{is_base, last_is, refused_line}

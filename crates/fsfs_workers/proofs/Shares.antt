@@ -3,8 +3,8 @@ use Rattle.std.proofs.Common.{◌⊎◌, ◌-◌, ℕ, zero, suc, List, [], ◌�
 use Rattle.fsfs_machine.specs.Kept.{IsIn, AreOnce}
 use Rattle.fsfs_jobs.specs.declared.answer.JobAnswer.{JobAnswer}
 use Rattle.fsfs_jobs.specs.declared.answer.JobAnswer.TheVariants.{Committed, Read, Conflict, Stopped}
-use Rattle.fsfs_job_run.specs.Jobs.{own_of, own_of_all, TellNoDoubt}
-use Rattle.fsfs_job_run.specs.Lines.{dealt, TellNoneStuck}
+use Rattle.fsfs_job_run.specs.Serial.Jobs.{own_of, own_of_all, TellNoDoubt}
+use Rattle.fsfs_job_run.specs.Workers.Lines.{dealt, TellNoneStuck}
 
 -- ---- what stands in two lists
 

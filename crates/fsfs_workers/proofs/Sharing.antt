@@ -3,10 +3,10 @@ use Rattle.std.proofs.Common.{◌≡◌, ◌<◌, ◌+◌, ◌-◌, ℕ, List, [
 use Rattle.std.proofs.lemmas.List.{take_more}
 use Rattle.std.specs.Prelude.{None, slice_index_or}
 use Rattle.fsfs_turn.specs.Views.{View}
-use Rattle.fsfs_script.specs.declared.job.Job.{Job}
+use Rattle.fsfs_script.specs.declared.job_lines.job.Job.{Job}
 use Rattle.fsfs_jobs.specs.declared.answer.JobAnswer.{JobAnswer}
-use Rattle.fsfs_job_run.specs.Lines.{dealt}
-use Rattle.fsfs_job_run.specs.Passes.{WorksJob, WorkJobs, End, WorkedSo}
+use Rattle.fsfs_job_run.specs.Workers.Lines.{dealt}
+use Rattle.fsfs_job_run.specs.Workers.Passes.{WorksJob, WorkJobs, End, WorkedSo}
 use Rattle.fsfs_job_run.proofs.BesideLemmas.{one_more}
 use Rattle.fsfs_workers.specs.InTurn.{turn_after}
 use Rattle.fsfs_workers.proofs.InTurnLemmas.{dealt_mine, dealt_others, turn_mine, turn_others}

@@ -4,18 +4,18 @@ use Rattle.std.specs.Prelude.{Option, Some, None, codes, length, nat_le, if◌th
 use Rattle.fsfs_base.specs.Paths.{Path, is_root, same_name}
 use Rattle.fsfs_tree.specs.Nodes.{Node, TreeFunction}
 use Rattle.fsfs_tree.specs.Answers.{Found, Stands, Lacking, Blocked, found_at}
-use Rattle.fsfs_model.specs.Edits.{fits_value, is_dir, parent}
-use Rattle.fsfs_model.specs.declared.mark.Mark.{Mark}
-use Rattle.fsfs_cli.specs.declared.faults_fault.Fault.{Fault}
-use Rattle.fsfs_cli.specs.declared.faults_fault.Fault.TheVariants.{Limit, Request}
-use Rattle.fsfs_cli.specs.declared.limit_fault.LimitFault.TheVariants.{PropTooLong, TextTooLong}
-use Rattle.fsfs_cli.specs.declared.request_fault.RequestFault.TheVariants.{Mergeinfo, NoRev, NotDir, NotFile, RootFixed}
-use Rattle.fsfs_script.specs.declared.edit.Edit.{Edit}
-use Rattle.fsfs_script.specs.declared.edit.Edit.TheVariants.{MakeDir, MakeFile, Delete, Copy, Put, Prop}
-use Rattle.fsfs_script.specs.declared.job.Step.{Step}
+use Rattle.fsfs_model.specs.Flat.Edits.{fits_value, is_dir, parent}
+use Rattle.fsfs_model.specs.declared.flat.mark.Mark.{Mark}
+use Rattle.fsfs_cli.specs.declared.faults.fault.Fault.{Fault}
+use Rattle.fsfs_cli.specs.declared.faults.fault.Fault.TheVariants.{Limit, Request}
+use Rattle.fsfs_cli.specs.declared.faults.limit_fault.LimitFault.TheVariants.{PropTooLong, TextTooLong}
+use Rattle.fsfs_cli.specs.declared.faults.request_fault.RequestFault.TheVariants.{Mergeinfo, NoRev, NotDir, NotFile, RootFixed}
+use Rattle.fsfs_script.specs.declared.job_lines.edit.Edit.{Edit}
+use Rattle.fsfs_script.specs.declared.job_lines.edit.Edit.TheVariants.{MakeDir, MakeFile, Delete, Copy, Put, Prop}
+use Rattle.fsfs_script.specs.declared.job_lines.job.Step.{Step}
 use Rattle.fsfs_jobs.specs.Edits.{or_else, unfound, no_dir, taken, root_fixed, no_rev, no_mergeinfo, make_fault, put_fault, fault_of, too_long, edited, marks_of, Refuses, ByTrees, Full, Long, StopsAt}
 use Rattle.fsfs_jobs.specs.declared.answer.JobAnswer.TheVariants.{Stopped}
-use Rattle.fsfs_job_run.specs.Beside.{shown_in}
+use Rattle.fsfs_job_run.specs.Workers.Beside.{shown_in}
 
 module _ (last line : ℕ) where
   abbrev IsLow : Option Fault → Type 0

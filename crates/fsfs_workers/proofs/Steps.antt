@@ -7,19 +7,19 @@ use Rattle.fsfs_tree.specs.Nodes.{TreeFunction}
 use Rattle.fsfs_tree.specs.Dated.{last_of}
 use Rattle.fsfs_tree.specs.Revisions.{tree_of}
 use Rattle.fsfs_tree.specs.Answers.{found_at}
-use Rattle.fsfs_model.specs.declared.mark.Mark.{Mark}
+use Rattle.fsfs_model.specs.declared.flat.mark.Mark.{Mark}
 use Rattle.fsfs_machine.specs.declared.machine.Recorded.{Recorded}
 use Rattle.fsfs_machine.specs.Machine.{revisions}
 use Rattle.fsfs_machine.proofs.Growing.{revisions_length}
 use Rattle.fsfs_turn.specs.Views.{Begins}
 use Rattle.fsfs_turn.proofs.Longer.{tree_first}
 use Rattle.fsfs_turn.proofs.Alone.{no_shorter}
-use Rattle.fsfs_cli.specs.declared.faults_fault.Fault.{Fault}
-use Rattle.fsfs_cli.specs.declared.faults_fault.Fault.TheVariants.{Request}
-use Rattle.fsfs_cli.specs.declared.request_fault.RequestFault.TheVariants.{NoRev}
-use Rattle.fsfs_script.specs.declared.edit.Edit.{Edit}
-use Rattle.fsfs_script.specs.declared.edit.Edit.TheVariants.{MakeDir, MakeFile, Delete, Copy, Put, Prop}
-use Rattle.fsfs_script.specs.declared.job.Step.{Step}
+use Rattle.fsfs_cli.specs.declared.faults.fault.Fault.{Fault}
+use Rattle.fsfs_cli.specs.declared.faults.fault.Fault.TheVariants.{Request}
+use Rattle.fsfs_cli.specs.declared.faults.request_fault.RequestFault.TheVariants.{NoRev}
+use Rattle.fsfs_script.specs.declared.job_lines.edit.Edit.{Edit}
+use Rattle.fsfs_script.specs.declared.job_lines.edit.Edit.TheVariants.{MakeDir, MakeFile, Delete, Copy, Put, Prop}
+use Rattle.fsfs_script.specs.declared.job_lines.job.Step.{Step}
 use Rattle.fsfs_jobs.specs.Edits.{or_else, unfound, no_rev, make_fault, copy_fault, fault_of, edited, marks_of, TakesSteps}
 use Rattle.fsfs_jobs.proofs.CopyLemmas.{rev_there}
 

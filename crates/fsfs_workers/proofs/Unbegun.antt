@@ -1,13 +1,13 @@
 -- A job whose transaction was begun beside others, or why none was.
 use Rattle.std.proofs.Common.{◌≡◌, ◌≤◌, ◌<◌, ℕ, length, refl, sym, subst, arith}
 use Rattle.std.specs.Prelude.{Err}
-use Rattle.fsfs_base.specs.declared.txn_name.TxnName.{TxnName}
+use Rattle.fsfs_base.specs.declared.fields.txn_name.TxnName.{TxnName}
 use Rattle.fsfs_revision.specs.declared.wrong.Wrong.{Wrong}
 use Rattle.fsfs_draft.specs.Drafts.{Folder}
-use Rattle.fsfs_cli.specs.declared.faults_fault.Fault.{Fault}
+use Rattle.fsfs_cli.specs.declared.faults.fault.Fault.{Fault}
 use Rattle.fsfs_machine.specs.Machine.{revisions}
 use Rattle.fsfs_machine.proofs.Growing.{revisions_length}
-use Rattle.fsfs_revision.specs.ShowsReading.{RootOf}
+use Rattle.fsfs_revision.specs.Shows.Reading.{RootOf}
 use Rattle.fsfs_tree.specs.Revisions.{tree_of}
 use Rattle.fsfs_turn.specs.Bytes.{AllShow, bytes_of}
 use Rattle.fsfs_turn.specs.Views.{View}
@@ -17,13 +17,13 @@ use Rattle.fsfs_repo.specs.BeginFaults.{Cause, IfDisk, LacksNumber}
 use Rattle.fsfs_repo.specs.BeginSteps.{Moved}
 use Rattle.fsfs_repo.specs.BeginFault.{BeginFault}
 use Rattle.fsfs_repo.specs.BeginFault.TheVariants as begin
-use Rattle.fsfs_repo.specs.Begun.{BeginsTxnAmong}
-use Rattle.fsfs_script.specs.declared.job.CommitJob.{CommitJob}
-use Rattle.fsfs_script.specs.declared.job.Job.TheVariants as jobs
+use Rattle.fsfs_repo.specs.Txns.Begun.{BeginsTxnAmong}
+use Rattle.fsfs_script.specs.declared.job_lines.job.CommitJob.{CommitJob}
+use Rattle.fsfs_script.specs.declared.job_lines.job.Job.TheVariants as jobs
 use Rattle.fsfs_jobs.specs.declared.answer.JobAnswer.TheVariants.{Stopped}
-use Rattle.fsfs_job_run.specs.Jobs.{Fails, ByDisk, ByBench, ByStuck, ByMemory, ByNames}
-use Rattle.fsfs_job_run.specs.Beside.{shown_in}
-use Rattle.fsfs_job_run.specs.Passes.{last_known}
+use Rattle.fsfs_job_run.specs.Serial.Jobs.{Fails, ByDisk, ByBench, ByStuck, ByMemory, ByNames}
+use Rattle.fsfs_job_run.specs.Workers.Beside.{shown_in}
+use Rattle.fsfs_job_run.specs.Workers.Passes.{last_known}
 use Rattle.fsfs_job_run.specs.Faults.{fault_of_begin}
 use Rattle.fsfs_job_run.specs.Running.{HasOutsideCause}
 use Rattle.fsfs_job_run.proofs.Begun.{lacking_fails, lacking_outside}

@@ -6,18 +6,18 @@ use Rattle.fsfs_tree.specs.Revisions.{Revision}
 use Rattle.fsfs_disk.specs.Trace.{Trace, files_now}
 use Rattle.fsfs_stands.specs.Files.{StandsFor}
 use Rattle.fsfs_repo.specs.OpenFaults.{OpensBecause}
-use Rattle.fsfs_base.specs.declared.open_fault.OpenFault.{OpenFault}
-use Rattle.fsfs_script.specs.declared.job.Job.{Job}
+use Rattle.fsfs_base.specs.declared.places.open_fault.OpenFault.{OpenFault}
+use Rattle.fsfs_script.specs.declared.job_lines.job.Job.{Job}
 use Rattle.fsfs_script.specs.Errors.{IfReadFault}
 use Rattle.fsfs_script.specs.Whole.{ReadsScript, EndsSource}
 use Rattle.fsfs_script.specs.declared.script_error.ScriptError.{ScriptError}
-use Rattle.fsfs_cli.specs.FaultsFaults.{fault_from_open, fault_from_script}
-use Rattle.fsfs_cli.specs.declared.faults_fault.Fault.{Fault}
-use Rattle.fsfs_cli.specs.declared.faults_fault.Fault.TheVariants.{Repository, Memory}
-use Rattle.fsfs_cli.specs.declared.repository_fault.RepositoryFault.TheVariants.{Small}
+use Rattle.fsfs_cli.specs.CommandFaults.{fault_from_open, fault_from_script}
+use Rattle.fsfs_cli.specs.declared.faults.fault.Fault.{Fault}
+use Rattle.fsfs_cli.specs.declared.faults.fault.Fault.TheVariants.{Repository, Memory}
+use Rattle.fsfs_cli.specs.declared.faults.repository_fault.RepositoryFault.TheVariants.{Small}
 use Rattle.fsfs_jobs.specs.declared.answer.JobAnswer.{JobAnswer}
-use Rattle.fsfs_job_run.specs.Jobs.{TellNoDoubt, bench_faults_in}
-use Rattle.fsfs_job_run.specs.Lines.{JobLines, StuckByDoubt, disk_faults_in, RoseBy}
+use Rattle.fsfs_job_run.specs.Serial.Jobs.{TellNoDoubt, bench_faults_in}
+use Rattle.fsfs_job_run.specs.Workers.Lines.{JobLines, StuckByDoubt, disk_faults_in, RoseBy}
 use Rattle.fsfs_job_run.specs.Runs.{RunScene, HoldsAll, AllStandFor, IsUntouched, PrintsRun}
 
 -- what is told of the disk: nothing where its files aren't known to stand for a history

@@ -5,6 +5,6 @@ pub mod OneWorker
 pub mod Two
 pub mod ByWorkers
 pub mod Works
-pub use Rattle.fsfs_job_run.specs.Lines
-pub use Rattle.fsfs_job_run.specs.Listed
+pub use Rattle.fsfs_job_run.specs.Workers.Lines
+pub use Rattle.fsfs_job_run.specs.Serial.Listed
 pub use Rattle.fsfs_job_run.specs.Runs

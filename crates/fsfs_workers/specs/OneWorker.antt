@@ -1,12 +1,12 @@
 -- What a worker does.
 use Rattle.std.specs.Prelude.{◌≡◌, ℕ, List, length, true}
-use Rattle.fsfs_pass.specs.declared.seat_view.SeatView.{SeatView}
+use Rattle.fsfs_pass.specs.declared.seats.seat_view.SeatView.{SeatView}
 use Rattle.fsfs_pass.specs.Seats.{view_of}
-use Rattle.fsfs_script.specs.declared.job.Job.{Job}
+use Rattle.fsfs_script.specs.declared.job_lines.job.Job.{Job}
 use Rattle.fsfs_jobs.specs.declared.answer.JobAnswer.{JobAnswer}
-use Rattle.fsfs_job_run.specs.Lines.{disk_faults_in, RoseBy}
-use Rattle.fsfs_job_run.specs.Passes.{WorkJobs}
-use Rattle.fsfs_job_run.specs.Jobs.{bench_faults_in}
+use Rattle.fsfs_job_run.specs.Workers.Lines.{disk_faults_in, RoseBy}
+use Rattle.fsfs_job_run.specs.Workers.Passes.{WorkJobs}
+use Rattle.fsfs_job_run.specs.Serial.Jobs.{bench_faults_in}
 use Rattle.fsfs_workers.specs.Ready.{IsAtRest}
 
 -- A WORKER DID ITS JOBS: what its pass's seat knew before, v, and behind them, u.

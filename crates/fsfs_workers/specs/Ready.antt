@@ -6,7 +6,7 @@ use Rattle.fsfs_disk.specs.Trace.{files_now}
 use Rattle.fsfs_turn.specs.Telling.{TellsSeen}
 use Rattle.fsfs_pass.specs.Met.{seat_store}
 use Rattle.fsfs_pass.specs.Seats.{IsSitting, view_of}
-use Rattle.fsfs_pass.specs.declared.seat_view.SeatView.{SeatView}
+use Rattle.fsfs_pass.specs.declared.seats.seat_view.SeatView.{SeatView}
 
 -- The seat sits, and what it met is what a pass is made of; where the disk tells, its pass is in no section, and what it has seen stands in
 -- the files that it met.

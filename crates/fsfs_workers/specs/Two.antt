@@ -6,13 +6,13 @@ use Rattle.fsfs_machine.specs.declared.machine.Recorded.{Recorded}
 use Rattle.fsfs_machine.specs.Machine.{revisions}
 use Rattle.fsfs_turn.specs.Alone.{are_harmless}
 use Rattle.fsfs_turn.specs.Views.{Begins}
-use Rattle.fsfs_pass.specs.declared.seat_view.SeatView.{SeatView}
+use Rattle.fsfs_pass.specs.declared.seats.seat_view.SeatView.{SeatView}
 use Rattle.fsfs_pass.specs.Seats.{view_of}
-use Rattle.fsfs_script.specs.declared.job.Job.{Job}
+use Rattle.fsfs_script.specs.declared.job_lines.job.Job.{Job}
 use Rattle.fsfs_jobs.specs.declared.answer.JobAnswer.{JobAnswer}
-use Rattle.fsfs_job_run.specs.Jobs.{own_of_all, TellNoDoubt}
-use Rattle.fsfs_job_run.specs.Lines.{WorkerLines, JobLines, TellNoneStuck, StuckByDoubt, dealt}
-use Rattle.fsfs_job_run.specs.Passes.{last_known, IsOnward}
+use Rattle.fsfs_job_run.specs.Serial.Jobs.{own_of_all, TellNoDoubt}
+use Rattle.fsfs_job_run.specs.Workers.Lines.{WorkerLines, JobLines, TellNoneStuck, StuckByDoubt, dealt}
+use Rattle.fsfs_job_run.specs.Workers.Passes.{last_known, IsOnward}
 use Rattle.fsfs_job_run.specs.Runs.{HoldsAll, AllStandFor}
 
 -- Two passes did the jobs, of which the second was split from the first and joined into it again: what the first one's seat knew before, v, and

@@ -1,7 +1,7 @@
 -- What a job does to what a pass knows, where others may add revisions between its turns.
 use Rattle.std.specs.Prelude.{◌≡◌, ◌<◌, ◌≤◌, ◌+◌, ◌++◌, ℕ, List, [], length, take, true, false, None, is_some}
 use Rattle.std.specs.FinMap.{get}
-use Rattle.fsfs_base.specs.declared.txn_name.TxnName.{TxnName}
+use Rattle.fsfs_base.specs.declared.fields.txn_name.TxnName.{TxnName}
 use Rattle.fsfs_tree.specs.Revisions.{tree_of}
 use Rattle.fsfs_tree.specs.Dated.{last_of}
 use Rattle.fsfs_machine.specs.declared.machine.Recorded.{Recorded}
@@ -13,13 +13,13 @@ use Rattle.fsfs_turn.specs.Views.{View, Begins}
 use Rattle.fsfs_draft.specs.Drafts.{Folder}
 use Rattle.fsfs_repo.specs.Meaning.{IsTxnOf}
 use Rattle.fsfs_repo.specs.Standing.{Standing}
-use Rattle.fsfs_script.specs.declared.job.CommitJob.{CommitJob}
-use Rattle.fsfs_script.specs.declared.job.Job.{Job}
+use Rattle.fsfs_script.specs.declared.job_lines.job.CommitJob.{CommitJob}
+use Rattle.fsfs_script.specs.declared.job_lines.job.Job.{Job}
 use Rattle.fsfs_jobs.specs.Edits.{TakesSteps}
 use Rattle.fsfs_jobs.specs.declared.answer.JobAnswer.{JobAnswer}
-use Rattle.fsfs_job_run.specs.Jobs.{own_of, tells_doubt}
-use Rattle.fsfs_job_run.specs.Beside.{LineHolds, shown_in}
-use Rattle.fsfs_job_run.specs.Passes.{IsOnward, WorksJob, last_known}
+use Rattle.fsfs_job_run.specs.Serial.Jobs.{own_of, tells_doubt}
+use Rattle.fsfs_job_run.specs.Workers.Beside.{LineHolds, shown_in}
+use Rattle.fsfs_job_run.specs.Workers.Passes.{IsOnward, WorksJob, last_known}
 use Rattle.fsfs_job_run.specs.Running.{HasOutsideCause}
 
 -- NOTHING WAS ADDED by the pass. It is in no section; it may have seen more and been told more, and each name that it knew to be given is.

@@ -1,7 +1,7 @@
 -- What jobs come to before their lines are printed.
 use Rattle.std.specs.Prelude.{ℕ, Bool, List, Option, Result, Err, MatchResult}
 use Rattle.fsfs_disk.specs.Trace.{Trace}
-use Rattle.fsfs_cli.specs.declared.faults_fault.Fault.{Fault}
+use Rattle.fsfs_cli.specs.declared.faults.fault.Fault.{Fault}
 use Rattle.fsfs_job_run.specs.Runs.{run_scene, PrintsRun}
 use Rattle.fsfs_job_run.specs.declared.running.JobsDone.{JobsDone}
 use Rattle.fsfs_workers.specs.ByWorkers.{RunsByWorkers}

@@ -5,21 +5,15 @@
 #![tactic(auto)]
 
 mod answers;
-mod bases;
-mod beside;
-mod committing;
-mod editing;
-mod job;
-mod noting;
-mod reading;
+mod jobs;
 mod run;
 mod running;
-mod seeing;
 mod share;
+mod two_workers;
 mod worker;
 
-pub use beside::do_beside;
 pub use fsfs_job_run::run_script;
-pub use job::do_job;
+pub use jobs::job::do_job;
 pub use run::run_two;
 pub use running::run_script_by_two;
+pub use two_workers::do_beside;

@@ -3,12 +3,12 @@ ghost use Rattle.std.specs.Prelude.{◌≡◌, ◌≤◌, [], length, true, Some
 ghost use Rattle.fsfs_disk.specs.Trace.{Trace};
 ghost use Rattle.fsfs_machine.specs.Machine.{revisions};
 ghost use Rattle.fsfs_pass.specs.Seats.{alone};
-ghost use Rattle.fsfs_job_run.specs.Lines.{disk_faults_in, RoseBy};
-ghost use Rattle.fsfs_job_run.specs.Jobs.{bench_faults_in};
+ghost use Rattle.fsfs_job_run.specs.Workers.Lines.{disk_faults_in, RoseBy};
+ghost use Rattle.fsfs_job_run.specs.Serial.Jobs.{bench_faults_in};
 ghost use Rattle.fsfs_workers.specs.Ready.{IsReady};
 ghost use Rattle.fsfs_workers.specs.Two.{RanTwo};
 
-use crate::beside::do_beside;
+use crate::two_workers::do_beside;
 use fsfs_base::Gate;
 use fsfs_disk::Disk;
 use fsfs_job_run::JobsDone;

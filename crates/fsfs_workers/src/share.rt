@@ -2,9 +2,9 @@
 ghost use Rattle.std.specs.Prelude.{◌≡◌, ◌+◌, ◌<◌, ◌≤◌, [], length, true, false, None};
 ghost use Rattle.std.specs.Vec.{vec_capacity};
 ghost use Rattle.fsfs_turn.specs.Views.{View};
-ghost use Rattle.fsfs_job_run.specs.Lines.{dealt, disk_faults_in, RoseBy};
-ghost use Rattle.fsfs_job_run.specs.Passes.{WorkedSo};
-ghost use Rattle.fsfs_job_run.specs.Jobs.{bench_faults_in};
+ghost use Rattle.fsfs_job_run.specs.Workers.Lines.{dealt, disk_faults_in, RoseBy};
+ghost use Rattle.fsfs_job_run.specs.Workers.Passes.{WorkedSo};
+ghost use Rattle.fsfs_job_run.specs.Serial.Jobs.{bench_faults_in};
 
 use crate::do_job;
 use fsfs_base::{Gate, GatePlace};

@@ -1,7 +1,7 @@
 //! A worker: a pass at the table that does its share of the jobs.
 ghost use Rattle.std.specs.Prelude.{◌≡◌, ◌<◌, ◌≤◌, [], length, is_some};
 ghost use Rattle.std.specs.Vec.{vec_capacity};
-ghost use Rattle.fsfs_job_run.specs.Lines.{dealt};
+ghost use Rattle.fsfs_job_run.specs.Workers.Lines.{dealt};
 ghost use Rattle.fsfs_workers.specs.Ready.{IsReady};
 ghost use Rattle.fsfs_workers.specs.OneWorker.{HasWorked};
 

@@ -3,9 +3,9 @@ use Rattle.std.specs.Prelude.{IfErr, IfSome, Err}
 use Rattle.std.proofs.lemmas.Result.{IfOk-weaker}
 use Rattle.std.proofs.lemmas.Bool.Decides.{nat_tests}
 use Rattle.fsfs_base.specs.Failures.{Rose}
-use Rattle.fsfs_base.specs.declared.txn_name.TxnName.{TxnName}
+use Rattle.fsfs_base.specs.declared.fields.txn_name.TxnName.{TxnName}
 use Rattle.fsfs_disk.specs.Crash.{AreAll, LeavesBoth}
-use Rattle.fsfs_disk.specs.Txns.{pair_of, txn_label}
+use Rattle.fsfs_disk.specs.Transactions.Txns.{pair_of, txn_label}
 use Rattle.fsfs_begin.specs.Begun.{BeginFails, BeginIsDecided, HoldsRoot, IsOldOrDrawn}
 use Rattle.fsfs_begin.specs.Drawing.{counter_told}
 use Rattle.fsfs_begin.specs.declared.begin_fault.BeginFault.{BeginFault}

@@ -1,14 +1,14 @@
 use Rattle.std.proofs.Common.{sym, subst}
 use Rattle.std.specs.Prelude.{Option, Result, Err}
 use Rattle.std.proofs.lemmas.Result.{IfOk-weaker}
-use Rattle.fsfs_revision.specs.Readings.{Answers}
+use Rattle.fsfs_revision.specs.Damage.Readings.{Answers}
 use Rattle.fsfs_revision.specs.declared.wrong.ReadError.{ReadError}
 use Rattle.fsfs_dag.specs.declared.node.PlacedNode.{PlacedNode}
 use Rattle.fsfs_disk.specs.Crash.{AreAll, LeavesBoth}
 use Rattle.fsfs_disk.specs.Trace.{Trace, files_now}
 use Rattle.fsfs_revision.specs.RevBytes.{rev_bytes}
-use Rattle.fsfs_revision.specs.ShowsReading.{RootOf}
-use Rattle.fsfs_disk.specs.Txns.{pair_of, txn_label}
+use Rattle.fsfs_revision.specs.Shows.Reading.{RootOf}
+use Rattle.fsfs_disk.specs.Transactions.Txns.{pair_of, txn_label}
 use Rattle.fsfs_disk.specs.Published.{IsOldOrThis}
 use Rattle.fsfs_begin.specs.Beginning.{BeginsOn}
 use Rattle.fsfs_begin.specs.Begun.{IfWrongBase, IsBegunOn}

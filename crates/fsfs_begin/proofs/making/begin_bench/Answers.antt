@@ -1,8 +1,8 @@
 use Rattle.std.proofs.Common.{◌⊎◌, ℕ, inr, subst}
 use Rattle.fsfs_base.specs.Failures.{Rose}
 use Rattle.fsfs_disk.specs.Labels.{with_label, without_label}
-use Rattle.fsfs_disk.specs.Txns.{pair_of, txn_label}
-use Rattle.fsfs_disk.specs.Removals.{HasLabels}
+use Rattle.fsfs_disk.specs.Transactions.Txns.{pair_of, txn_label}
+use Rattle.fsfs_disk.specs.Transactions.Removals.{HasLabels}
 use Rattle.fsfs_begin.proofs.MakingLemmas.{adds_dropped, adds_made, gone_or_left, made_and_dropped, rose_before, rose_by, tried_and_dropped}
 use Rattle.fsfs_begin.proofs.making.begin_bench.Goals as goal
 

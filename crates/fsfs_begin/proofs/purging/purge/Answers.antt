@@ -1,6 +1,6 @@
 use Rattle.fsfs_disk.specs.Trace.{DropLabel}
 use Rattle.fsfs_disk.proofs.TraceLemmas.{ended_if_there}
-use Rattle.fsfs_disk.specs.Txns.{pair_of, txn_label}
+use Rattle.fsfs_disk.specs.Transactions.Txns.{pair_of, txn_label}
 use Rattle.fsfs_disk.proofs.InTurn.{dropped, files_ended, labels_ended, on_err, stays_itself, stays_more}
 use Rattle.fsfs_begin.proofs.purging.purge.Goals as goal
 

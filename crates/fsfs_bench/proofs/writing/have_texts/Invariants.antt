@@ -1,6 +1,6 @@
 use Rattle.std.proofs.Common.{take}
 use Rattle.std.specs.Prelude.{All}
-use Rattle.fsfs_noderev.specs.Items.{HasText}
+use Rattle.fsfs_noderev.specs.Changes.Items.{HasText}
 use Rattle.fsfs_bench.proofs.writing.have_texts.Given as goal
 
 -- those so far have texts

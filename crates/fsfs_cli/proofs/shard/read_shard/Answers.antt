@@ -1,7 +1,7 @@
 use Rattle.std.proofs.Common.{◌≡◌, ℕ, ◌<◌, ◌^◌, arith, sym, ◌∙◌, subst}
 use Rattle.std.proofs.lemmas.Option.{same_Some, none-some}
 use Rattle.std.specs.Prelude.{Some}
-use Rattle.fsfs_base.specs.Numeral.{IsPlain}
+use Rattle.fsfs_base.specs.Grammar.Numeral.{IsPlain}
 use Rattle.fsfs_base.proofs.Unique.{numeral_decimal}
 use Rattle.fsfs_cli.proofs.NumberLemmas.{shard_is, shard_read, no_shard}
 use Rattle.fsfs_cli.proofs.shard.read_shard.Goals as goal

@@ -1,8 +1,8 @@
 use Rattle.std.proofs.Common.{◌∙◌, ◌∷◌, [], ℕ, List, map, sym, ap}
 use Rattle.std.proofs.lemmas.List.{map-append}
 use Rattle.std.specs.Prelude.{Some}
-use Rattle.fsfs_base.specs.TxnNames.{txn_name_at}
-use Rattle.fsfs_base.specs.declared.txn_name.TxnName.{TxnName}
+use Rattle.fsfs_base.specs.Fields.TxnNames.{txn_name_at}
+use Rattle.fsfs_base.specs.declared.fields.txn_name.TxnName.{TxnName}
 use Rattle.fsfs_cli.proofs.TxnWords.{named_more, named_none}
 use Rattle.fsfs_cli.proofs.txn_names.read_txns.Goals as goal
 

@@ -1,6 +1,6 @@
 use Rattle.std.proofs.Common.{refl}
-use Rattle.fsfs_base.specs.declared.place.DiskPlace.TheVariants.{Commit}
-use Rattle.fsfs_base.specs.declared.place.CommitPlace.TheVariants as place
+use Rattle.fsfs_base.specs.declared.places.place.DiskPlace.TheVariants.{Commit}
+use Rattle.fsfs_base.specs.declared.places.place.CommitPlace.TheVariants as place
 use Rattle.fsfs_machine.specs.declared.machine.Section.TheVariants as section
 use Rattle.fsfs_commit.proofs.Going.{goes_done, goes_failed}
 use Rattle.fsfs_commit.proofs.section.firm_revision.Goals as goal

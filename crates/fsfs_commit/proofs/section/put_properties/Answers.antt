@@ -1,6 +1,6 @@
 use Rattle.std.proofs.Common.{Ok, Err, inl, refl, sym, ◌∙◌}
-use Rattle.fsfs_base.specs.declared.place.DiskPlace.TheVariants.{Commit}
-use Rattle.fsfs_base.specs.declared.place.CommitPlace.TheVariants as place
+use Rattle.fsfs_base.specs.declared.places.place.DiskPlace.TheVariants.{Commit}
+use Rattle.fsfs_base.specs.declared.places.place.CommitPlace.TheVariants as place
 use Rattle.fsfs_machine.specs.declared.machine.Section.TheVariants as section
 use Rattle.fsfs_machine.specs.declared.machine.Went.TheVariants.{Before}
 use Rattle.fsfs_commit.proofs.Going.{goes_done, goes_failed, props_due, cause_on}

@@ -1,5 +1,5 @@
 use Rattle.std.proofs.Common.{Ok, Err, inr, refl, sym, ap, ◌∙◌}
-use Rattle.fsfs_base.specs.declared.place.CommitPlace.TheVariants as place
+use Rattle.fsfs_base.specs.declared.places.place.CommitPlace.TheVariants as place
 use Rattle.fsfs_machine.specs.declared.machine.Went.TheVariants.{Before}
 use Rattle.fsfs_turn.specs.Views.{rev_name}
 use Rattle.fsfs_commit.proofs.Going.{adopts_done, adopts_failed, cause_on}

@@ -1,7 +1,7 @@
 use Rattle.std.proofs.Common.{◌≡◌, ◌++◌, List, ℕ, length, ap, subst, ◌∙◌, arith}
 use Rattle.std.specs.Prelude.{codes}
-use Rattle.fsfs_base.specs.Grammar.{Appends}
-use Rattle.fsfs_layout.specs.Dump.{dump_text}
+use Rattle.fsfs_base.specs.Grammar.Relations.{Appends}
+use Rattle.fsfs_layout.specs.Hash.Dump.{dump_text}
 use Rattle.fsfs_revision.specs.Trailers.{IsTrailer}
 use Rattle.fsfs_revision.proofs.FirstRevision.{root_text}
 use Rattle.fsfs_create.specs.FirstRoot.{IsFirstRoot}

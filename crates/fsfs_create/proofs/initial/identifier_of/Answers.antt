@@ -1,5 +1,5 @@
 use Rattle.std.proofs.Common.{◌≡◌, ◌∙◌, List, ℕ, length, sym, ap, subst}
-use Rattle.fsfs_base.specs.Cuts.{Lacks}
+use Rattle.fsfs_base.specs.Grammar.Cuts.{Lacks}
 use Rattle.fsfs_layout.proofs.Identifiers.{identifier_length, identifier_lacks}
 use Rattle.fsfs_layout.specs.CreatedFiles.{identifier_text}
 use Rattle.fsfs_create.proofs.initial.identifier_of.Goals as goal

@@ -4,7 +4,7 @@ use Rattle.std.specs.Ordering.{nat_cmp}
 use Rattle.std.specs.Cmp.Lexicographic.{slice_cmp}
 use Rattle.std.specs.BTreeMap.{insert_entry}
 use Rattle.std.proofs.lemmas.Result.{IfOk-weaker}
-use Rattle.fsfs_layout.specs.Dump.{dump_text}
+use Rattle.fsfs_layout.specs.Hash.Dump.{dump_text}
 use Rattle.fsfs_create.proofs.InitialLemmas.{dated_text}
 use Rattle.fsfs_create.proofs.initial.properties.Goals as goal
 

@@ -3,7 +3,7 @@ use Rattle.fsfs_layout.specs.Opening.{IsFsfs, IsRefusedFormat}
 use Rattle.fsfs_create.specs.OpenFaults.{texts_of}
 use Rattle.fsfs_layout.specs.Formats.{IsFormat}
 use Rattle.fsfs_layout.specs.declared.layout.Layout.{Layout}
-use Rattle.fsfs_layout.specs.declared.format_file.Format.TheVariants.{Sharded}
+use Rattle.fsfs_layout.specs.declared.small_files.format_file.Format.TheVariants.{Sharded}
 use Rattle.fsfs_create.proofs.DecidingLemmas.{decides_other, decides_linear, decides_unread, decides_opened, decides_refused}
 use Rattle.fsfs_create.proofs.OpeningLemmas.{shards_fit}
 use Rattle.fsfs_create.proofs.opening.judge.Goals as goal

@@ -1,7 +1,7 @@
 use Rattle.std.proofs.Common.{ℕ, List, Err, refl, sym, subst, inl}
 use Rattle.fsfs_revision.specs.declared.wrong.ReadError.{ReadError}
-use Rattle.fsfs_revision.specs.Readings.{Answers}
-use Rattle.fsfs_revision.specs.ShowsReading.{PairsIn}
+use Rattle.fsfs_revision.specs.Damage.Readings.{Answers}
+use Rattle.fsfs_revision.specs.Shows.Reading.{PairsIn}
 use Rattle.fsfs_dag.proofs.contents.hash_in.Goals as goal
 
 pub returns-in-Err-Fault-clause-told : goal.returns-in-Err-Fault-clause-told

@@ -1,5 +1,5 @@
 use Rattle.std.proofs.Common.{ℕ, List, []}
-use Rattle.fsfs_revision.specs.ShowsReading.{PairsAt}
+use Rattle.fsfs_revision.specs.Shows.Reading.{PairsAt}
 use Rattle.fsfs_dag.proofs.Reps.{rep_le, contents_some, contents_none}
 use Rattle.fsfs_dag.proofs.contents.props.Goals as goal
 

@@ -3,8 +3,8 @@ use Rattle.std.proofs.lemmas.Result.{err_from_is_err_and}
 use Rattle.std.specs.declared.vec.Vec.{Vec}
 use Rattle.std.specs.declared.alloc.Global.{Global}
 use Rattle.fsfs_revision.specs.declared.damage.RevOffset.{RevOffset}
-use Rattle.fsfs_revision.specs.Readings.{AndThen, Answers}
-use Rattle.fsfs_revision.specs.ShowsReading.{RepAt, PairsIn, PairsAt, EntriesIn, EntriesAt}
+use Rattle.fsfs_revision.specs.Damage.Readings.{AndThen, Answers}
+use Rattle.fsfs_revision.specs.Shows.Reading.{RepAt, PairsIn, PairsAt, EntriesIn, EntriesAt}
 use Rattle.fsfs_dag.specs.declared.directory.DirEntry.{DirEntry}
 use Rattle.fsfs_dag.specs.Views.{home_of, entry_values}
 use Rattle.fsfs_revision.proofs.Answering.{stops}

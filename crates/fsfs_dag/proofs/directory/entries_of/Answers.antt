@@ -2,7 +2,7 @@ use Rattle.std.proofs.Common.{◌≡◌, ◌+◌, ◌∷◌, [], ℕ, List, Ok, 
 use Rattle.std.specs.Borrow.{Bor}
 use Rattle.std.proofs.lemmas.List.{drop_more, drop_all}
 use Rattle.std.proofs.lemmas.Result.{err_from_is_err_and}
-use Rattle.fsfs_layout.specs.HashReading.{views}
+use Rattle.fsfs_layout.specs.Hash.Reading.{views}
 use Rattle.fsfs_dag.specs.Views.{PutsEntry}
 use Rattle.fsfs_dag.proofs.PairLemmas.{none_so_far, one_more, first_wrong, all_found}
 use Rattle.fsfs_dag.proofs.directory.entries_of.Goals as goal

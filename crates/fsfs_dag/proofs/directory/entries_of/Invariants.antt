@@ -1,5 +1,5 @@
 use Rattle.std.proofs.Common.{drop}
-use Rattle.fsfs_layout.specs.HashReading.{views}
+use Rattle.fsfs_layout.specs.Hash.Reading.{views}
 use Rattle.fsfs_dag.proofs.PairLemmas.{AreSoFar}
 use Rattle.fsfs_dag.proofs.directory.entries_of.Given as goal
 

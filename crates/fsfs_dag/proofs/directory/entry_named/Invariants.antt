@@ -1,5 +1,5 @@
 use Rattle.std.proofs.Common.{◌≡◌, drop}
-use Rattle.fsfs_revision.specs.ShowsReading.{named}
+use Rattle.fsfs_revision.specs.Shows.Reading.{named}
 use Rattle.fsfs_dag.specs.Views.{entry_values}
 use Rattle.fsfs_dag.proofs.directory.entry_named.Given as goal
 

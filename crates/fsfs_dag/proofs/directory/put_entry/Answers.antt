@@ -3,7 +3,7 @@ use Rattle.fsfs_noderev.specs.Ids.{id_value}
 use Rattle.fsfs_noderev.specs.declared.node_id.NodeId.{NodeId}
 use Rattle.fsfs_noderev.proofs.Same.{id_same}
 use Rattle.fsfs_revision.specs.Nodes.{is_revision_id}
-use Rattle.fsfs_revision.specs.ShowsReading.{IsEntryName}
+use Rattle.fsfs_revision.specs.Shows.Reading.{IsEntryName}
 use Rattle.fsfs_dag.specs.declared.directory.DirEntry.{DirEntry}
 use Rattle.fsfs_dag.proofs.PairLemmas.{id_behind, bad_value, late_place, pushed}
 use Rattle.fsfs_dag.proofs.directory.put_entry.Goals as goal

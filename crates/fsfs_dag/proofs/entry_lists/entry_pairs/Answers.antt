@@ -1,6 +1,6 @@
 use Rattle.std.proofs.Common.{List, [], take, sym, subst}
 use Rattle.std.proofs.lemmas.List.{take_all}
-use Rattle.fsfs_revision.specs.ShowsReading.{Pairs, DirEntry}
+use Rattle.fsfs_revision.specs.Shows.Reading.{Pairs, DirEntry}
 use Rattle.fsfs_dag.specs.declared.directory.DirEntry.{DirEntry as Listed}
 use Rattle.fsfs_dag.specs.Entries.{LeadTo, HasFirsts}
 use Rattle.fsfs_dag.specs.Views.{entry_values}

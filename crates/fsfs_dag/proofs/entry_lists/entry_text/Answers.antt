@@ -3,7 +3,7 @@ use Rattle.std.proofs.lemmas.List.{length-append}
 use Rattle.fsfs_base.specs.declared.kind.Kind.{Kind}
 use Rattle.fsfs_base.specs.declared.kind.Kind.TheVariants.{File, Dir}
 use Rattle.fsfs_noderev.proofs.Lengths.{id_most}
-use Rattle.fsfs_revision.specs.ShowsReading.{kind_word}
+use Rattle.fsfs_revision.specs.Shows.Reading.{kind_word}
 use Rattle.fsfs_dag.proofs.entry_lists.entry_text.Goals as goal
 
 word_short : (k : Kind) → length (kind_word k) ≤ 5

@@ -3,7 +3,7 @@ use Rattle.std.specs.Prelude.{is_some, option_map}
 use Rattle.std.specs.BTreeMap.{insert_entry, is_at}
 use Rattle.std.specs.Map.{lookup}
 use Rattle.std.specs.String.{string_bytes}
-use Rattle.fsfs_revision.specs.ShowsReading.{Pairs}
+use Rattle.fsfs_revision.specs.Shows.Reading.{Pairs}
 use Rattle.fsfs_revision.proofs.PairLookups.{text_cmp}
 use Rattle.fsfs_dag.specs.Entries.{LeadTo, HasFirsts}
 use Rattle.fsfs_dag.specs.Views.{entry_value}

@@ -3,9 +3,9 @@ use Rattle.fsfs_revision.specs.declared.damage.RevOffset.{RevOffset}
 use Rattle.fsfs_revision.specs.declared.damage.DamageKind.TheVariants.{OtherId}
 use Rattle.fsfs_revision.specs.declared.wrong.ReadError.{ReadError}
 use Rattle.fsfs_revision.specs.declared.wrong.ReadError.TheVariants.{Wrong}
-use Rattle.fsfs_revision.specs.DamageDamages.{damaged}
-use Rattle.fsfs_revision.specs.Readings.{Answers}
-use Rattle.fsfs_revision.specs.ShowsReading.{HasId}
+use Rattle.fsfs_revision.specs.Damage.Damages.{damaged}
+use Rattle.fsfs_revision.specs.Damage.Readings.{Answers}
+use Rattle.fsfs_revision.specs.Shows.Reading.{HasId}
 use Rattle.fsfs_dag.proofs.IdLemmas.{id_true, id_false}
 use Rattle.fsfs_dag.proofs.reading.check_id.Goals as goal
 

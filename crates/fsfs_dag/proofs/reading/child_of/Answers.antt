@@ -1,6 +1,6 @@
 use Rattle.std.proofs.Common.{Err}
 use Rattle.std.proofs.lemmas.Result.{err_from_is_err_and}
-use Rattle.fsfs_revision.specs.ShowsReading.{OfId, HasKind}
+use Rattle.fsfs_revision.specs.Shows.Reading.{OfId, HasKind}
 use Rattle.fsfs_dag.specs.declared.node.PlacedNode.{PlacedNode}
 use Rattle.fsfs_dag.specs.Views.{entry_value}
 use Rattle.fsfs_revision.proofs.Answering.{stops, goes_on, err_as}

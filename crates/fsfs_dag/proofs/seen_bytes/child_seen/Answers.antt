@@ -3,8 +3,8 @@ use Rattle.std.proofs.lemmas.Result.{err_from_is_err_and}
 use Rattle.fsfs_revision.specs.Told.{RevisionBytes}
 use Rattle.fsfs_noderev.specs.declared.node_rev.NodeRev.{NodeRev}
 use Rattle.fsfs_revision.specs.declared.damage.RevOffset.{RevOffset}
-use Rattle.fsfs_revision.specs.Readings.{Answers}
-use Rattle.fsfs_revision.specs.ShowsReading.{NodeAt, HasId, HasKind, OfId, offset_of}
+use Rattle.fsfs_revision.specs.Damage.Readings.{Answers}
+use Rattle.fsfs_revision.specs.Shows.Reading.{NodeAt, HasId, HasKind, OfId, offset_of}
 use Rattle.fsfs_dag.specs.Seen.{IsSeen}
 use Rattle.fsfs_revision.specs.Told.{IsTold}
 use Rattle.fsfs_dag.specs.Views.{entry_value}

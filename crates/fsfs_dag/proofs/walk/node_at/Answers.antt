@@ -5,8 +5,8 @@ use Rattle.std.proofs.lemmas.Result.{err_from_is_err_and}
 use Rattle.fsfs_base.specs.Paths.{Path}
 use Rattle.fsfs_revision.specs.Told.{Knows}
 use Rattle.fsfs_revision.proofs.Keeping.{keeps_trans}
-use Rattle.fsfs_revision.specs.ShowsReading.{MetFrom, ChildOf}
-use Rattle.fsfs_revision.specs.Readings.{Answers}
+use Rattle.fsfs_revision.specs.Shows.Reading.{MetFrom, ChildOf}
+use Rattle.fsfs_revision.specs.Damage.Readings.{Answers}
 use Rattle.fsfs_dag.specs.declared.node.PlacedNode.{PlacedNode}
 use Rattle.fsfs_dag.specs.Views.{home_of, met_value}
 use Rattle.fsfs_dag.proofs.WalkLemmas.{names_step, names_end, from_root, walk_ends, walk_file, walk_down, walk_absent, walk_wrong}

@@ -2,7 +2,7 @@ use Rattle.std.proofs.Common.{◌≡◌, ◌≤◌, drop, map, Result}
 use Rattle.std.specs.String.{string_bytes}
 use Rattle.fsfs_revision.specs.Told.{RevisionBytes, Knows, Keeps}
 use Rattle.fsfs_revision.specs.declared.wrong.Wrong.{Wrong}
-use Rattle.fsfs_revision.specs.ShowsReading.{MetFrom, MetAt, Met}
+use Rattle.fsfs_revision.specs.Shows.Reading.{MetFrom, MetAt, Met}
 use Rattle.fsfs_dag.specs.Views.{home_of}
 use Rattle.fsfs_dag.proofs.walk.node_at.Given as goal
 

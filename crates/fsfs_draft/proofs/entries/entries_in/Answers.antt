@@ -1,9 +1,9 @@
 use Rattle.std.proofs.Common.{◌≤◌, Option, subst, ap, arith}
 use Rattle.std.specs.Prelude.{option_map}
 use Rattle.fsfs_noderev.specs.declared.node_id.NodeId.{NodeId}
-use Rattle.fsfs_revision.specs.ShowsReading.{offset_of}
-use Rattle.fsfs_dag.specs.declared.listing.Listing.{Listing}
-use Rattle.fsfs_dag.specs.ListingViews.{listed}
+use Rattle.fsfs_revision.specs.Shows.Reading.{offset_of}
+use Rattle.fsfs_dag.specs.declared.listing.entries.Listing.{Listing}
+use Rattle.fsfs_dag.specs.Listing.Views.{listed}
 use Rattle.fsfs_draft.specs.Entries.{IsWithin}
 use Rattle.fsfs_draft.specs.Views.{kept_value}
 use Rattle.fsfs_draft.proofs.Readings.{kept_reads}

@@ -2,7 +2,7 @@ use Rattle.std.proofs.Common.{List, Ok, sym, ap, subst}
 use Rattle.fsfs_revision.specs.Told.{Knows}
 use Rattle.fsfs_revision.proofs.Keeping.{keeps_trans}
 use Rattle.fsfs_noderev.specs.declared.node_id.NodeId.{NodeId}
-use Rattle.fsfs_revision.specs.ShowsReading.{offset_of, OfId}
+use Rattle.fsfs_revision.specs.Shows.Reading.{offset_of, OfId}
 use Rattle.fsfs_dag.specs.declared.directory.DirEntry.{DirEntry}
 use Rattle.fsfs_dag.specs.Views.{home_of, entry_values}
 use Rattle.fsfs_draft.specs.Entries.{OfKind}

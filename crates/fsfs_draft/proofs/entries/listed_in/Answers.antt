@@ -1,7 +1,7 @@
 use Rattle.std.proofs.Common.{Option, ap}
 use Rattle.std.specs.Prelude.{option_map}
-use Rattle.fsfs_dag.specs.declared.listing.Listing.{Listing}
-use Rattle.fsfs_dag.specs.ListingViews.{listed}
+use Rattle.fsfs_dag.specs.declared.listing.entries.Listing.{Listing}
+use Rattle.fsfs_dag.specs.Listing.Views.{listed}
 use Rattle.fsfs_draft.specs.Views.{kept_value}
 use Rattle.fsfs_draft.proofs.Readings.{listed_own}
 use Rattle.fsfs_draft.proofs.entries.listed_in.Goals as goal

@@ -8,7 +8,7 @@ use Rattle.std.specs.Ordering.{eq_by_cmp}
 use Rattle.std.proofs.lemmas.List.{take_all}
 use Rattle.std.proofs.lemmas.List.Folds.{list_any_more}
 use Rattle.fsfs_base.specs.Paths.{PathName, Path, path_cmp, same_name, paths_tie}
-use Rattle.fsfs_revision.specs.ShowsReading.{named}
+use Rattle.fsfs_revision.specs.Shows.Reading.{named}
 use Rattle.fsfs_dag.specs.declared.directory.DirEntry.{DirEntry}
 use Rattle.fsfs_dag.specs.Views.{entry_value, entry_values}
 use Rattle.fsfs_draft.specs.Names.{CountsNames}

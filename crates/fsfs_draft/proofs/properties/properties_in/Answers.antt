@@ -1,6 +1,6 @@
 use Rattle.std.proofs.Common.{◌≤◌, Option, subst, arith}
 use Rattle.fsfs_noderev.specs.declared.node_id.NodeId.{NodeId}
-use Rattle.fsfs_revision.specs.ShowsReading.{offset_of}
+use Rattle.fsfs_revision.specs.Shows.Reading.{offset_of}
 use Rattle.fsfs_draft.specs.Entries.{IsWithin}
 use Rattle.fsfs_draft.specs.Views.{kept_value}
 use Rattle.fsfs_draft.proofs.Readings.{kept_props_read}

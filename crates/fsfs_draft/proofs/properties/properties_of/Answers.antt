@@ -3,7 +3,7 @@ use Rattle.std.proofs.lemmas.Result.{err_from_is_err_and}
 use Rattle.fsfs_revision.specs.Told.{Knows}
 use Rattle.fsfs_revision.proofs.Keeping.{keeps_trans}
 use Rattle.fsfs_noderev.specs.declared.node_id.NodeId.{NodeId}
-use Rattle.fsfs_revision.specs.ShowsReading.{Pairs, offset_of, OfId, PropsOf}
+use Rattle.fsfs_revision.specs.Shows.Reading.{Pairs, offset_of, OfId, PropsOf}
 use Rattle.fsfs_dag.specs.Views.{home_of}
 use Rattle.fsfs_dag.specs.declared.node.PlacedNode.{PlacedNode}
 use Rattle.fsfs_revision.proofs.Answering.{stops, goes_on}

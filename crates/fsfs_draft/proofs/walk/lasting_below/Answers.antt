@@ -1,7 +1,7 @@
 use Rattle.std.proofs.Common.{◌≤◌, arith}
 use Rattle.std.specs.Prelude.{option_map}
 use Rattle.std.proofs.lemmas.Result.{err_from_is_err_and}
-use Rattle.fsfs_revision.specs.Chains.{own_rev}
+use Rattle.fsfs_revision.specs.Shows.Chains.{own_rev}
 use Rattle.fsfs_dag.specs.declared.node.PlacedNode.{PlacedNode}
 use Rattle.fsfs_draft.proofs.Walking.{lasting_within, below_none, below_some, below_fails}
 use Rattle.fsfs_draft.proofs.walk.lasting_below.Goals as goal

@@ -3,11 +3,11 @@ use Rattle.std.proofs.lemmas.Result.{err_from_is_err_and}
 use Rattle.fsfs_revision.proofs.Keeping.{keeps_trans}
 use Rattle.fsfs_revision.specs.Told.{Knows}
 use Rattle.fsfs_revision.specs.Nodes.{is_revision_id}
-use Rattle.fsfs_revision.specs.ShowsReading.{named, offset_of}
+use Rattle.fsfs_revision.specs.Shows.Reading.{named, offset_of}
 use Rattle.fsfs_dag.specs.declared.node.PlacedNode.{PlacedNode}
 use Rattle.fsfs_dag.specs.Views.{entry_value}
 use Rattle.fsfs_draft.specs.Drafts.{Kept}
-use Rattle.fsfs_dag.specs.ListingViews.{listed}
+use Rattle.fsfs_dag.specs.Listing.Views.{listed}
 use Rattle.fsfs_draft.specs.Entries.{IsWithin, IsListedAs, FailsLike}
 use Rattle.fsfs_draft.specs.Views.{kept_value}
 use Rattle.fsfs_draft.proofs.OwnEntries.{kept_same, pred_within, entries_here, entries_fail, lacks_node, own_child, lasting_entry, lasting_child, of_entry_read, of_entry_fails}

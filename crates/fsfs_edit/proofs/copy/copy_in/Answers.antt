@@ -1,7 +1,7 @@
 use Rattle.std.proofs.Common.{◌≡◌, Some, None, [], ◌∷◌, ◌++◌, sym, subst, ◌∙◌}
 use Rattle.std.specs.Prelude.{Ok}
 use Rattle.std.proofs.lemmas.Result.{err_from_is_err_and}
-use Rattle.fsfs_base.specs.declared.txn_name.TxnName.{TxnName}
+use Rattle.fsfs_base.specs.declared.fields.txn_name.TxnName.{TxnName}
 use Rattle.fsfs_base.specs.declared.kind.Kind.TheVariants.{Dir}
 use Rattle.fsfs_revision.specs.Told.{Knows}
 use Rattle.fsfs_revision.proofs.Keeping.{keeps_trans}
@@ -10,7 +10,7 @@ use Rattle.fsfs_draft.specs.Drafts.{IsDraft, kept_of}
 use Rattle.fsfs_edit.specs.Ways.{IsOpenedAt}
 use Rattle.fsfs_noderev.specs.declared.node_rev.CopySource.{CopySource}
 use Rattle.fsfs_edit.specs.Items.{IsAddOf}
-use Rattle.fsfs_edit.specs.Copied.{LeavesCopy}
+use Rattle.fsfs_edit.specs.DagEdits.Copied.{LeavesCopy}
 use Rattle.fsfs_edit.proofs.MakingAt.{kind_some}
 use Rattle.fsfs_edit.proofs.Room.{dir_kept, dir_within, room_fails_here, full_here, space_here}
 use Rattle.fsfs_edit.proofs.Bare.{bare_none}

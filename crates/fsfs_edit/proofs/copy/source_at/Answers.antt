@@ -3,8 +3,8 @@ use Rattle.std.specs.Prelude.{Option, Ok, IfSome}
 use Rattle.std.proofs.lemmas.Result.{err_from_is_err_and}
 use Rattle.fsfs_revision.specs.Told.{Knows}
 use Rattle.fsfs_revision.proofs.Keeping.{keeps_trans}
-use Rattle.fsfs_revision.specs.ShowsReading.{MetAt}
-use Rattle.fsfs_revision.specs.ByTree.{IsMetByTree}
+use Rattle.fsfs_revision.specs.Shows.Reading.{MetAt}
+use Rattle.fsfs_revision.specs.Shows.ByTree.{IsMetByTree}
 use Rattle.fsfs_revision.proofs.ByTree.{by_tree}
 use Rattle.fsfs_dag.specs.declared.walk.Met.{Met}
 use Rattle.fsfs_dag.specs.Views.{met_value}

@@ -1,13 +1,13 @@
 use Rattle.std.proofs.Common.{sym, subst, ◌∙◌}
 use Rattle.std.specs.Prelude.{Ok}
 use Rattle.std.proofs.lemmas.Result.{err_from_is_err_and}
-use Rattle.fsfs_base.specs.declared.txn_name.TxnName.{TxnName}
+use Rattle.fsfs_base.specs.declared.fields.txn_name.TxnName.{TxnName}
 use Rattle.fsfs_base.specs.declared.kind.Kind.TheVariants.{Dir}
 use Rattle.fsfs_revision.specs.Told.{Knows}
 use Rattle.fsfs_revision.proofs.Keeping.{keeps_trans}
 use Rattle.fsfs_draft.specs.Drafts.{IsDraft}
 use Rattle.fsfs_edit.specs.Ways.{IsOpenedAt}
-use Rattle.fsfs_edit.specs.Taken.{LeavesGone}
+use Rattle.fsfs_edit.specs.DagEdits.Taken.{LeavesGone}
 use Rattle.fsfs_edit.proofs.Whole.{stays, settle_fails, deleted_in}
 use Rattle.fsfs_edit.proofs.delete.delete_in.Goals as goal
 

@@ -1,14 +1,14 @@
 use Rattle.std.proofs.Common.{◌≡◌, None, [], ◌∷◌, ◌++◌, sym, subst, ◌∙◌}
 use Rattle.std.specs.Prelude.{Ok}
 use Rattle.std.proofs.lemmas.Result.{err_from_is_err_and}
-use Rattle.fsfs_base.specs.declared.txn_name.TxnName.{TxnName}
+use Rattle.fsfs_base.specs.declared.fields.txn_name.TxnName.{TxnName}
 use Rattle.fsfs_base.specs.declared.kind.Kind.TheVariants.{Dir}
 use Rattle.fsfs_revision.specs.Told.{Knows}
 use Rattle.fsfs_revision.proofs.Keeping.{keeps_trans}
 use Rattle.fsfs_draft.specs.Own.{draft_tree}
 use Rattle.fsfs_draft.specs.Drafts.{IsDraft, kept_of}
 use Rattle.fsfs_edit.specs.Ways.{IsOpenedAt}
-use Rattle.fsfs_edit.specs.Made.{LeavesNew}
+use Rattle.fsfs_edit.specs.DagEdits.Made.{LeavesNew}
 use Rattle.fsfs_edit.proofs.Room.{dir_kept, dir_within, room_fails_here, full_here, space_here}
 use Rattle.fsfs_edit.proofs.Bare.{bare_none}
 use Rattle.fsfs_edit.proofs.Whole.{stays, settle_fails, made_in}

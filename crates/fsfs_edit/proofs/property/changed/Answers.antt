@@ -1,7 +1,7 @@
 use Rattle.std.proofs.Common.{◌≡◌, Some, Ok, Err, sym, subst, ◌∙◌}
 use Rattle.std.proofs.lemmas.Result.{err_from_is_err_and}
-use Rattle.fsfs_revision.specs.Readings.{Answers}
-use Rattle.fsfs_revision.specs.ShowsReading.{Pairs}
+use Rattle.fsfs_revision.specs.Damage.Readings.{Answers}
+use Rattle.fsfs_revision.specs.Shows.Reading.{Pairs}
 use Rattle.fsfs_draft.specs.Drafts.{Kept}
 use Rattle.fsfs_draft.specs.Entries.{IsWithin}
 use Rattle.fsfs_draft.specs.Properties.{OfKeptProps}

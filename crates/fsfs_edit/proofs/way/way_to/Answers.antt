@@ -1,5 +1,5 @@
 use Rattle.std.proofs.Common.{subst}
-use Rattle.fsfs_base.specs.declared.txn_name.TxnName.{TxnName}
+use Rattle.fsfs_base.specs.declared.fields.txn_name.TxnName.{TxnName}
 use Rattle.fsfs_draft.specs.Walks.{IsRootId}
 use Rattle.fsfs_edit.proofs.Reaching.{root, root_here, root_same, root_kind, by_tree}
 use Rattle.fsfs_edit.proofs.way.way_to.Goals as goal

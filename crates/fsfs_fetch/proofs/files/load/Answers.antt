@@ -1,6 +1,6 @@
 use Rattle.std.proofs.Common.{◌≡◌, ℕ, List, [], Vec, Global, ap, subst, ◌∙◌}
 use Rattle.std.specs.Prelude.{Option, option_map, unwrap_or}
-use Rattle.fsfs_disk.specs.FirstBytes.{first_of}
+use Rattle.fsfs_disk.specs.WholeFiles.FirstBytes.{first_of}
 use Rattle.fsfs_fetch.proofs.ManifestLemmas.{first_or}
 use Rattle.fsfs_fetch.proofs.files.load.Goals as goal
 

@@ -1,5 +1,5 @@
 use Rattle.std.proofs.Common.{◌≡◌, rules, List, ℕ, [], ◌∷◌, ◌++◌, ◌+◌, ◌-◌, Bool, cond, take, length, refl, true, false, sym, ap, subst, ◌∙◌, arith}
-use Rattle.fsfs_base.specs.TxnNames.{txn_name_at}
+use Rattle.fsfs_base.specs.Fields.TxnNames.{txn_name_at}
 use Rattle.fsfs_base.specs.Files.{same_text}
 use Rattle.fsfs_folders.proofs.TxnEntries.{entry_named, entry_none, same_tested}
 use Rattle.fsfs_folders.proofs.listing.is_txn_entry.Goals as goal

@@ -1,6 +1,6 @@
 use Rattle.std.proofs.Common.{◌≡◌, ◌≤◌, ◌-◌, ◌++◌, length, take, drop}
 use Rattle.std.specs.Prelude.{IfSome}
-use Rattle.fsfs_folders.specs.CallRecord.{contents_now}
+use Rattle.fsfs_folders.specs.System.CallRecord.{contents_now}
 use Rattle.fsfs_folders.proofs.reading.fill.Given as goal
 
 -- so many bytes of the file stand in the buffer, and what was there behind them

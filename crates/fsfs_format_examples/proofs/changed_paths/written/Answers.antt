@@ -1,5 +1,5 @@
 use Rattle.std.proofs.Common.{sym, ◌∙◌}
-use Rattle.fsfs_noderev.specs.Items.{HasText}
+use Rattle.fsfs_noderev.specs.Changes.Items.{HasText}
 use Rattle.fsfs_noderev.proofs.ChangesWrites.{has_text, all_one}
 use Rattle.fsfs_format_examples.proofs.changed_paths.written.Goals as goal
 

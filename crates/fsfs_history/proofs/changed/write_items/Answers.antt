@@ -6,7 +6,7 @@ use Rattle.std.specs.declared.vec.Vec.{Vec}
 use Rattle.std.specs.declared.alloc.Global.{Global}
 use Rattle.fsfs_revision.specs.Told.{RevisionBytes, Knows}
 use Rattle.fsfs_revision.proofs.Keeping.{keeps_refl, keeps_trans}
-use Rattle.fsfs_noderev.specs.declared.item.ChangeItem.{ChangeItem}
+use Rattle.fsfs_noderev.specs.declared.changes.item.ChangeItem.{ChangeItem}
 use Rattle.fsfs_dag.proofs.Steps.{knows_later}
 use Rattle.fsfs_look.proofs.ProgressLemmas.{Progress, begins, flushed, write_fails}
 use Rattle.fsfs_stands.specs.Texts.{End}

@@ -1,6 +1,6 @@
 use Rattle.std.proofs.Common.{ℕ, List, length, Result, Ok, Err, take, Some, ap, ◌∙◌}
 use Rattle.std.proofs.lemmas.Result.{err_from_is_err_and}
-use Rattle.fsfs_revision.specs.DamageDamages.{place_of}
+use Rattle.fsfs_revision.specs.Damage.Damages.{place_of}
 use Rattle.fsfs_revision.specs.declared.wrong.Refusal.{Refusal}
 use Rattle.fsfs_revision.specs.declared.trailer.Trailer.{Trailer}
 use Rattle.fsfs_revision.specs.Damages.{TrailerIn}

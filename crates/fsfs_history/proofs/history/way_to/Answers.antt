@@ -5,12 +5,12 @@ use Rattle.std.proofs.lemmas.Result.{err_from_is_err_and}
 use Rattle.fsfs_base.specs.Paths.{Path}
 use Rattle.fsfs_revision.specs.Told.{Knows}
 use Rattle.fsfs_revision.proofs.Keeping.{keeps_trans}
-use Rattle.fsfs_revision.specs.ShowsReading.{MetFrom, ChildOf}
-use Rattle.fsfs_revision.specs.Readings.{Answers}
+use Rattle.fsfs_revision.specs.Shows.Reading.{MetFrom, ChildOf}
+use Rattle.fsfs_revision.specs.Damage.Readings.{Answers}
 use Rattle.fsfs_dag.specs.declared.node.PlacedNode.{PlacedNode}
 use Rattle.fsfs_dag.specs.Views.{home_of}
 use Rattle.fsfs_history.specs.Points.{way_met, root_value}
-use Rattle.fsfs_revision.specs.CopyRoots.{IsRootedFrom}
+use Rattle.fsfs_revision.specs.Ancestry.CopyRoots.{IsRootedFrom}
 use Rattle.fsfs_history.proofs.HistoryLemmas.{rooted_from_root, rooted_down, rooted_end}
 use Rattle.fsfs_dag.proofs.WalkLemmas.{names_step, names_end, from_root, walk_ends, walk_file, walk_down, walk_absent, walk_wrong}
 use Rattle.fsfs_history.proofs.history.way_to.Goals as goal

@@ -4,9 +4,9 @@ use Rattle.fsfs_base.specs.Paths.{Path}
 use Rattle.fsfs_revision.specs.Told.{RevisionBytes, Knows, Keeps}
 use Rattle.fsfs_noderev.specs.declared.node_rev.NodeRev.{NodeRev}
 use Rattle.fsfs_revision.specs.declared.wrong.Wrong.{Wrong}
-use Rattle.fsfs_revision.specs.ShowsReading.{MetFrom, MetAt, Met}
+use Rattle.fsfs_revision.specs.Shows.Reading.{MetFrom, MetAt, Met}
 use Rattle.fsfs_dag.specs.Views.{home_of}
-use Rattle.fsfs_revision.specs.CopyRoots.{IsRootedFrom, IsRootedAt}
+use Rattle.fsfs_revision.specs.Ancestry.CopyRoots.{IsRootedFrom, IsRootedAt}
 use Rattle.fsfs_history.specs.Points.{root_value}
 use Rattle.fsfs_history.proofs.history.way_to.Given as goal
 

@@ -1,5 +1,5 @@
 use Rattle.std.proofs.Common.{rules, ◌≡◌, ◌+◌, ℕ, List, take, sym, subst}
-use Rattle.fsfs_noderev.specs.Changes.{AreRevisionChanges}
+use Rattle.fsfs_noderev.specs.Changes.Texts.{AreRevisionChanges}
 use Rattle.fsfs_history.proofs.ItemLemmas.{before_it, refused_item}
 use Rattle.fsfs_history.proofs.items.items_before.Goals as goal
 

@@ -2,7 +2,7 @@ use Rattle.std.proofs.Common.{ℕ, List, Ok, Err, Option}
 use Rattle.std.proofs.lemmas.Result.{err_from_is_err_and}
 use Rattle.fsfs_revision.specs.declared.wrong.Wrong.{Wrong}
 use Rattle.fsfs_revision.proofs.Answering.{stops, goes_on}
-use Rattle.fsfs_noderev.specs.declared.item.ChangeItem.{ChangeItem}
+use Rattle.fsfs_noderev.specs.declared.changes.item.ChangeItem.{ChangeItem}
 use Rattle.fsfs_stands.specs.Items.{DataOf, ItemsIn}
 use Rattle.fsfs_history.specs.declared.data.ChangesData.{ChangesData}
 use Rattle.fsfs_history.specs.declared.items.ReadItems.{ReadItems}

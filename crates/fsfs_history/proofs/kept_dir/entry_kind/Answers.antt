@@ -1,6 +1,6 @@
 use Rattle.std.proofs.Common.{◌≡◌, refl, Ok}
 use Rattle.fsfs_revision.proofs.Answering.{stops}
-use Rattle.fsfs_revision.specs.ShowsReading.{OfEntry}
+use Rattle.fsfs_revision.specs.Shows.Reading.{OfEntry}
 use Rattle.fsfs_dag.specs.Views.{entry_value}
 use Rattle.fsfs_dag.specs.declared.node.PlacedNode.{PlacedNode}
 use Rattle.fsfs_history.proofs.KindLemmas.{same}

@@ -1,6 +1,6 @@
 use Rattle.std.proofs.Common.{ℕ, sym, subst, arith}
 use Rattle.fsfs_base.specs.Paths.{Path}
-use Rattle.fsfs_revision.specs.Readings.{Answers}
+use Rattle.fsfs_revision.specs.Damage.Readings.{Answers}
 use Rattle.fsfs_stands.specs.ChangedTexts.{KindAt}
 use Rattle.fsfs_history.proofs.KindLemmas.{same}
 use Rattle.fsfs_history.proofs.kept_dir.kind_below.Goals as goal

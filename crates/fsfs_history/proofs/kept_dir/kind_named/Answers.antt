@@ -1,7 +1,7 @@
 use Rattle.std.proofs.Common.{◌≡◌, ◌≤◌, ◌++◌, ◌∷◌, [], Some, sym, ◌∙◌, arith}
 use Rattle.fsfs_revision.proofs.Answering.{answers_as}
 use Rattle.fsfs_look.proofs.BelowHome.{stands_within, entry_within}
-use Rattle.fsfs_revision.specs.ShowsReading.{named, offset_of}
+use Rattle.fsfs_revision.specs.Shows.Reading.{named, offset_of}
 use Rattle.fsfs_dag.specs.Views.{entry_value}
 use Rattle.fsfs_stands.specs.ChangedTexts.{KindAt}
 use Rattle.fsfs_history.specs.KeptDirs.{EntryKind}

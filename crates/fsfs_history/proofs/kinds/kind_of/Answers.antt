@@ -1,6 +1,6 @@
 use Rattle.std.proofs.Common.{Option, sym, subst}
 use Rattle.fsfs_base.specs.declared.kind.Kind.{Kind}
-use Rattle.fsfs_revision.specs.Readings.{Answers}
+use Rattle.fsfs_revision.specs.Damage.Readings.{Answers}
 use Rattle.fsfs_stands.specs.ChangedTexts.{KindOf}
 use Rattle.fsfs_history.proofs.KindLemmas.{same}
 use Rattle.fsfs_history.proofs.kinds.kind_of.Goals as goal

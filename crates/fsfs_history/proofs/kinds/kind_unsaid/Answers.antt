@@ -1,6 +1,6 @@
 use Rattle.std.proofs.Common.{◌≡◌, ◌≤◌, Bool, true, false, sym, subst, ◌∙◌, arith}
 use Rattle.std.proofs.lemmas.Result.{err_from_is_err_and}
-use Rattle.fsfs_revision.specs.Readings.{Answers}
+use Rattle.fsfs_revision.specs.Damage.Readings.{Answers}
 use Rattle.fsfs_stands.specs.ChangedTexts.{is_nameable, KindUnsaid}
 use Rattle.fsfs_history.proofs.KindLemmas.{same, named_kind, named_fails, nameable_le}
 use Rattle.fsfs_history.proofs.kinds.kind_unsaid.Goals as goal

@@ -3,7 +3,7 @@ use Rattle.std.specs.Prelude.{codes}
 use Rattle.std.specs.declared.vec.Vec.{Vec}
 use Rattle.std.specs.declared.alloc.Global.{Global}
 use Rattle.fsfs_base.specs.declared.action.Action.{Action}
-use Rattle.fsfs_revision.specs.Readings.{Answers}
+use Rattle.fsfs_revision.specs.Damage.Readings.{Answers}
 use Rattle.fsfs_tree.specs.ChangedTexts.{changed_line, modified_line}
 use Rattle.fsfs_stands.specs.ChangedTexts.{ActionLines}
 use Rattle.fsfs_history.specs.Views.{by_text_value}

@@ -1,6 +1,6 @@
 use Rattle.std.proofs.Common.{◌≤◌, ℕ, Option, sym, subst, arith}
 use Rattle.fsfs_base.specs.Paths.{Path}
-use Rattle.fsfs_revision.specs.Readings.{Answers}
+use Rattle.fsfs_revision.specs.Damage.Readings.{Answers}
 use Rattle.fsfs_stands.specs.ChangedTexts.{source_at, KindFrom}
 use Rattle.fsfs_stands.proofs.Places.{taken_within}
 use Rattle.fsfs_history.specs.Views.{by_text_value, source_place}

@@ -12,7 +12,7 @@ use Rattle.fsfs_jobs.specs.declared.answer.JobAnswer.TheVariants.{Stopped}
 use Rattle.fsfs_job_run.specs.Running.{CommitsSo}
 use Rattle.fsfs_job_run.specs.TextReads.{IfAnswerFails}
 use Rattle.fsfs_job_run.proofs.Causes.{fails_on, begin_fails}
-use Rattle.fsfs_job_run.specs.Jobs.{bench_told}
+use Rattle.fsfs_job_run.specs.Serial.Jobs.{bench_told}
 use Rattle.fsfs_job_run.proofs.BenchCauses.{begin_told}
 use Rattle.fsfs_job_run.proofs.Begun.{lacking_so, unbegun_so}
 use Rattle.fsfs_job_run.proofs.Composed.{begun_so}

@@ -8,7 +8,7 @@ use Rattle.fsfs_turn.specs.Bytes.{bytes_of}
 use Rattle.fsfs_disk.specs.Trace.{labels_now}
 use Rattle.fsfs_turn.specs.Telling.{OwnedState}
 use Rattle.fsfs_turn.specs.OwnedLemmas.{owned_benches_tell}
-use Rattle.fsfs_repo.specs.Alone.{KnowsIn}
+use Rattle.fsfs_repo.specs.Owned.Alone.{KnowsIn}
 use Rattle.fsfs_job_run.proofs.BenchCauses.{bench_failed}
 use Rattle.fsfs_job_run.proofs.Composed.{edits_as, failed_as}
 use Rattle.fsfs_job_run.proofs.Seen.{revisions_seen}

@@ -2,10 +2,10 @@ use Rattle.std.proofs.Common.{ℕ, inr, subst, arith}
 use Rattle.fsfs_base.specs.Failures.{Rose}
 use Rattle.fsfs_machine.specs.Kept.{IsIn}
 use Rattle.fsfs_turn.specs.Alone.{KnowsAlone}
-use Rattle.fsfs_cli.specs.declared.faults_fault.Fault.TheVariants.{Memory}
-use Rattle.fsfs_script.specs.declared.job.Job.TheVariants as jobs
+use Rattle.fsfs_cli.specs.declared.faults.fault.Fault.TheVariants.{Memory}
+use Rattle.fsfs_script.specs.declared.job_lines.job.Job.TheVariants as jobs
 use Rattle.fsfs_jobs.specs.declared.answer.JobAnswer.TheVariants.{Stopped}
-use Rattle.fsfs_job_run.specs.Jobs.{ByMemory}
+use Rattle.fsfs_job_run.specs.Serial.Jobs.{ByMemory}
 use Rattle.fsfs_job_run.proofs.Alone.{is_lone}
 use Rattle.fsfs_job_run.proofs.Ends.{ends_purged}
 use Rattle.fsfs_job_run.proofs.Staying.{stays_here}

@@ -2,11 +2,11 @@ use Rattle.std.proofs.Common.{sym, ap, subst, ◌∙◌, arith}
 use Rattle.fsfs_base.specs.Failures.{Rose}
 use Rattle.fsfs_turn.specs.Alone.{KnowsAlone}
 use Rattle.fsfs_turn.specs.Mountings.{RoseBy}
-use Rattle.fsfs_repo.specs.Commits.{IfFailed, bench_faults_told}
+use Rattle.fsfs_repo.specs.Txns.Commits.{IfFailed, bench_faults_told}
 use Rattle.fsfs_jobs.specs.declared.answer.JobAnswer.{JobAnswer}
 use Rattle.fsfs_job_run.specs.TextReads.{IfAnswerFails}
 use Rattle.fsfs_job_run.specs.Running.{IsNoRequest}
-use Rattle.fsfs_job_run.specs.Jobs.{bench_told}
+use Rattle.fsfs_job_run.specs.Serial.Jobs.{bench_told}
 use Rattle.fsfs_job_run.proofs.BenchCauses.{bar_told}
 use Rattle.fsfs_job_run.proofs.Causes.{bar_fails}
 use Rattle.fsfs_job_run.proofs.Alone.{is_lone}

@@ -1,6 +1,6 @@
 use Rattle.std.proofs.Common.{inl, sym, subst}
 use Rattle.fsfs_base.specs.Failures.{Rose}
-use Rattle.fsfs_script.specs.declared.job.Job.{Job}
+use Rattle.fsfs_script.specs.declared.job_lines.job.Job.{Job}
 use Rattle.fsfs_turn.specs.Alone.{KnowsAlone}
 use Rattle.fsfs_job_run.specs.Running.{DoesSo, IfCounted, StopsOver}
 use Rattle.fsfs_job_run.proofs.ListedLemmas.{none_begun}

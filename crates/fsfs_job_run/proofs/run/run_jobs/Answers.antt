@@ -4,7 +4,7 @@ use Rattle.fsfs_base.specs.Failures.{Rose}
 use Rattle.fsfs_job_run.proofs.Causes.{any_none, any_more}
 use Rattle.fsfs_job_run.proofs.Listing.{lists_within}
 use Rattle.fsfs_job_run.proofs.Going.{done_none, runs_more, runs_all}
-use Rattle.fsfs_job_run.specs.Jobs.{bench_faults_in}
+use Rattle.fsfs_job_run.specs.Serial.Jobs.{bench_faults_in}
 use Rattle.fsfs_job_run.proofs.BenchCounts.{benches_more}
 use Rattle.fsfs_job_run.proofs.ListedLemmas.{none_begun, lists_on}
 use Rattle.fsfs_repo.proofs.Crashes.{survives}

@@ -1,13 +1,13 @@
 use Rattle.std.proofs.Common.{◌≡◌, ◌⊎◌, ◌∙◌, List, length, refl, sym, ap, subst, arith}
 use Rattle.std.specs.Prelude.{option_map}
 use Rattle.fsfs_disk.specs.Trace.{FirmNames, FailsAt, labels_now}
-use Rattle.fsfs_script.specs.declared.job.Job.{Job}
+use Rattle.fsfs_script.specs.declared.job_lines.job.Job.{Job}
 use Rattle.fsfs_base.specs.Failures.{Rose}
 use Rattle.fsfs_base.proofs.ResultLemmas.{if_ok, on_err}
 use Rattle.fsfs_machine.specs.Machine.{revisions}
 use Rattle.fsfs_turn.specs.Mountings.{RoseBy}
-use Rattle.fsfs_job_run.specs.Jobs.{bench_faults_in}
-use Rattle.fsfs_job_run.specs.Listed.{LeavesListed}
+use Rattle.fsfs_job_run.specs.Serial.Jobs.{bench_faults_in}
+use Rattle.fsfs_job_run.specs.Serial.Listed.{LeavesListed}
 use Rattle.fsfs_job_run.proofs.Causes.{any_on, calm_all}
 use Rattle.fsfs_job_run.proofs.Listing.{lists_behind}
 use Rattle.fsfs_job_run.specs.Runs.{NoRoom, Done, Ran}

@@ -2,7 +2,7 @@ use Rattle.std.proofs.Common.{Ok, subst}
 use Rattle.std.specs.Prelude.{MatchResult}
 use Rattle.std.proofs.lemmas.Result.{err_from_is_err_and}
 use Rattle.fsfs_noderev.specs.declared.rep.Rep.{Rep}
-use Rattle.fsfs_revision.specs.Frames.{IsWhole, IsFaultOf}
+use Rattle.fsfs_revision.specs.Rep.Frames.{IsWhole, IsFaultOf}
 use Rattle.fsfs_revision.proofs.WholeLemmas.{told_later, fault_for}
 use Rattle.fsfs_look.proofs.file.check_rep.Goals as goal
 

@@ -1,8 +1,8 @@
 use Rattle.std.proofs.Common.{◌≡◌, ◌≤◌, ◌-◌, ℕ, List, Some, Ok, Err, length}
 use Rattle.fsfs_revision.specs.declared.wrong.Refusal.{Refusal}
 use Rattle.fsfs_revision.specs.Told.{Keeps}
-use Rattle.fsfs_revision.specs.Frames.{rev_of}
-use Rattle.fsfs_revision.specs.Reading.{IsReading}
+use Rattle.fsfs_revision.specs.Rep.Frames.{rev_of}
+use Rattle.fsfs_revision.specs.Rep.Reading.{IsReading}
 use Rattle.fsfs_look.proofs.file.check_rep.Given as goal
 
 -- the representation is read up to here

@@ -4,7 +4,7 @@ use Rattle.std.proofs.lemmas.Result.{err_from_is_err_and}
 use Rattle.md5.specs.Md5.{Holds}
 use Rattle.fsfs_base.specs.Streams.{Adds}
 use Rattle.fsfs_base.proofs.StreamLemmas.{adds_then}
-use Rattle.fsfs_revision.specs.Frames.{text_of, rev_of}
+use Rattle.fsfs_revision.specs.Rep.Frames.{text_of, rev_of}
 use Rattle.fsfs_revision.proofs.Keeping.{keeps_trans}
 use Rattle.fsfs_revision.proofs.WholeLemmas.{bytes_more}
 use Rattle.fsfs_look.proofs.FileLemmas.{whole_fails, front_of, front_more, checked_whole, wrong_disk, wrong_sink}

@@ -2,7 +2,7 @@ use Rattle.std.proofs.Common.{◌≡◌, ◌≤◌, ◌-◌, ℕ, List, Some, Ok
 use Rattle.md5.specs.Md5.{Holds}
 use Rattle.fsfs_revision.specs.Told.{Keeps}
 use Rattle.fsfs_base.specs.Streams.{Adds}
-use Rattle.fsfs_revision.specs.Frames.{rev_of, text_of, IsWhole}
+use Rattle.fsfs_revision.specs.Rep.Frames.{rev_of, text_of, IsWhole}
 use Rattle.fsfs_look.proofs.file.write_rep.Given as goal
 
 -- the first bytes of the text were written and digested

@@ -1,5 +1,5 @@
 use Rattle.std.proofs.Common.{◌≡◌, [], take, drop}
-use Rattle.fsfs_folders.specs.CallRecord.{are_there}
+use Rattle.fsfs_folders.specs.System.CallRecord.{are_there}
 use Rattle.fsfs_memcalls.specs.Told.{beginning_of, calls_of}
 use Rattle.fsfs_memcalls.specs.Left.{left_names}
 use Rattle.fsfs_memcalls.proofs.crash.is_left_reached.Given as goal

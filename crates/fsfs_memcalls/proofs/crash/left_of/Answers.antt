@@ -1,5 +1,5 @@
 use Rattle.std.proofs.Common.{◌++◌, map, ◌∙◌}
-use Rattle.fsfs_folders.specs.CallRecord.{Beginning}
+use Rattle.fsfs_folders.specs.System.CallRecord.{Beginning}
 use Rattle.fsfs_memcalls.specs.Told.{file_of, beginning_of, calls_of}
 use Rattle.fsfs_memcalls.specs.Left.{kept_by}
 use Rattle.fsfs_memcalls.proofs.FoundLemmas.{found_by}

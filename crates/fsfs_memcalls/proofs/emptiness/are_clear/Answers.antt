@@ -1,7 +1,7 @@
 use Rattle.std.proofs.Common.{◌≡◌, ◌++◌, ◌∷◌, [], List, ℕ, ◌+◌, true, take, refl, sym, ap, subst, ◌∙◌, arith}
 use Rattle.std.proofs.lemmas.List.{take_all, take_more}
-use Rattle.fsfs_folders.specs.Paths.{has_path}
-use Rattle.fsfs_folders.specs.CallRecord.{names_after}
+use Rattle.fsfs_folders.specs.System.Paths.{has_path}
+use Rattle.fsfs_folders.specs.System.CallRecord.{names_after}
 use Rattle.fsfs_memcalls.specs.Told.{beginning_of, calls_of}
 use Rattle.fsfs_memcalls.proofs.EmptyLemmas.{clear_none, clear_more}
 use Rattle.fsfs_memcalls.proofs.emptiness.are_clear.Goals as goal

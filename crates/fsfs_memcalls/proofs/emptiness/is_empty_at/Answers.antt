@@ -1,5 +1,5 @@
 use Rattle.std.proofs.Common.{◌≡◌, List, ℕ, true, sym, subst}
-use Rattle.fsfs_folders.specs.Paths.{has_path}
+use Rattle.fsfs_folders.specs.System.Paths.{has_path}
 use Rattle.fsfs_memcalls.specs.Told.{beginning_of, calls_of}
 use Rattle.fsfs_memcalls.proofs.PlaceLemmas.{empty_by_paths}
 use Rattle.fsfs_memcalls.proofs.emptiness.is_empty_at.Goals as goal

@@ -1,6 +1,6 @@
 use Rattle.std.proofs.Common.{◌++◌, ◌∷◌, [], List, ℕ, ◌+◌, take, sym, ap, subst, ◌∙◌, arith}
 use Rattle.std.proofs.lemmas.List.{take_all, take_more}
-use Rattle.fsfs_folders.specs.CallRecord.{names_after}
+use Rattle.fsfs_folders.specs.System.CallRecord.{names_after}
 use Rattle.fsfs_memcalls.specs.Told.{beginning_of, calls_of}
 use Rattle.fsfs_memcalls.specs.Standing.{stands_as}
 use Rattle.fsfs_memcalls.specs.Entries.{IsListSoFar}

@@ -1,5 +1,5 @@
 use Rattle.std.proofs.Common.{take}
-use Rattle.fsfs_folders.specs.CallRecord.{names_after}
+use Rattle.fsfs_folders.specs.System.CallRecord.{names_after}
 use Rattle.fsfs_memcalls.specs.Told.{beginning_of, calls_of}
 use Rattle.fsfs_memcalls.specs.Standing.{stands_as}
 use Rattle.fsfs_memcalls.specs.Entries.{IsListSoFar}

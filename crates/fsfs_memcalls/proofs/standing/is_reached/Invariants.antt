@@ -1,5 +1,5 @@
 use Rattle.std.proofs.Common.{◌≡◌, [], take, drop}
-use Rattle.fsfs_folders.specs.CallRecord.{names_after, are_there}
+use Rattle.fsfs_folders.specs.System.CallRecord.{names_after, are_there}
 use Rattle.fsfs_memcalls.specs.Told.{beginning_of, calls_of}
 use Rattle.fsfs_memcalls.proofs.standing.is_reached.Given as goal
 

@@ -1,12 +1,12 @@
 use Rattle.std.proofs.Common.{◌≡◌, refl, sym, subst, arith}
 use Rattle.std.specs.Prelude.{Ok, Err}
 use Rattle.std.proofs.lemmas.Result.{err_from_is_err_and}
-use Rattle.fsfs_revision.specs.Readings.{Answers}
+use Rattle.fsfs_revision.specs.Damage.Readings.{Answers}
 use Rattle.fsfs_draft.specs.Drafts.{Folder}
 use Rattle.fsfs_draft.specs.Edits.{IsDraftAfter}
-use Rattle.fsfs_merge.specs.declared.walk.Merge.{Merge}
-use Rattle.fsfs_merge.specs.declared.walk.Merge.TheVariants as merges
-use Rattle.fsfs_merge.specs.Merges.{FindsMerge, MergeOf}
+use Rattle.fsfs_merge.specs.declared.clash.walk.Merge.{Merge}
+use Rattle.fsfs_merge.specs.declared.clash.walk.Merge.TheVariants as merges
+use Rattle.fsfs_merge.specs.Clash.Merges.{FindsMerge, MergeOf}
 use Rattle.fsfs_merge.specs.Relinked.{AreHere, AreRelinked, IsUnwritten}
 use Rattle.fsfs_merge.proofs.Answering.{this, read_stays, write_stays, write_quiet, read_told, write_told}
 use Rattle.fsfs_merge.proofs.Planned.{plans_land}

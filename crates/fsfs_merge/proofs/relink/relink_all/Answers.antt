@@ -1,7 +1,7 @@
 use Rattle.std.proofs.Common.{◌≡◌, ◌∙◌, ◌++◌, ◌∷◌, [], List, sym, subst, refl, append_assoc, append-nil, rules}
 use Rattle.std.proofs.lemmas.List.{nil_from_length}
 use Rattle.std.proofs.lemmas.Result.{err_from_is_err_and}
-use Rattle.fsfs_merge.specs.declared.merged.MergedDir.{MergedDir}
+use Rattle.fsfs_merge.specs.declared.clash.merged.MergedDir.{MergedDir}
 use Rattle.fsfs_merge.specs.Relinked.{AreRelinked}
 use Rattle.fsfs_merge.proofs.Writing.{none_written, one_written, never_here}
 use Rattle.fsfs_merge.proofs.Answering.{want_as}

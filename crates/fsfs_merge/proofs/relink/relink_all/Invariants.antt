@@ -1,5 +1,5 @@
 use Rattle.std.proofs.Common.{◌≡◌, ◌++◌, List, vec_len}
-use Rattle.fsfs_merge.specs.declared.merged.MergedDir.{MergedDir}
+use Rattle.fsfs_merge.specs.declared.clash.merged.MergedDir.{MergedDir}
 use Rattle.fsfs_merge.specs.Relinked.{AreRelinked}
 use Rattle.fsfs_merge.proofs.relink.relink_all.Given as goal
 

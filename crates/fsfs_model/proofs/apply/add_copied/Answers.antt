@@ -4,7 +4,7 @@ use Rattle.std.specs.BTreeSet as set
 use Rattle.std.specs.Map.Iter.{deref}
 use Rattle.std.proofs.lemmas.Map.Iter.{rest_more}
 use Rattle.fsfs_base.specs.Paths.{Path, path_cmp}
-use Rattle.fsfs_model.specs.Edits.{rest_after}
+use Rattle.fsfs_model.specs.Flat.Edits.{rest_after}
 use Rattle.fsfs_base.proofs.PathLemmas.{covers-length}
 use Rattle.fsfs_model.proofs.Copying.{put_there, added_or_left, skipped}
 use Rattle.fsfs_model.proofs.apply.add_copied.Goals as goal

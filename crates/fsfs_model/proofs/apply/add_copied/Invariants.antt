@@ -4,7 +4,7 @@ use Rattle.std.specs.List.{list_any}
 use Rattle.std.specs.Ordering.{eq_by_cmp}
 use Rattle.std.specs.BTreeSet as set
 use Rattle.fsfs_base.specs.Paths.{Path, path_cmp, covers}
-use Rattle.fsfs_model.specs.Edits.{rest_after}
+use Rattle.fsfs_model.specs.Flat.Edits.{rest_after}
 use Rattle.fsfs_tree.specs.Revisions.{tree_of}
 use Rattle.fsfs_model.proofs.apply.add_copied.Given as goal
 

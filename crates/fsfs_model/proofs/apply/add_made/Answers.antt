@@ -3,7 +3,7 @@ use Rattle.std.specs.Prelude.{is_some}
 use Rattle.std.specs.Ordering.{eq_by_cmp}
 use Rattle.std.specs.BTreeSet as set
 use Rattle.fsfs_base.specs.Paths.{path_cmp}
-use Rattle.fsfs_model.specs.Edits.{applied}
+use Rattle.fsfs_model.specs.Flat.Edits.{applied}
 use Rattle.fsfs_tree.specs.Nodes.{empty_node}
 use Rattle.fsfs_base.specs.declared.kind.Kind.TheVariants.{File, Dir}
 use Rattle.fsfs_tree.specs.Revisions.{tree_of}

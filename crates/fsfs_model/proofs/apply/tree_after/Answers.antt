@@ -8,7 +8,7 @@ use Rattle.std.specs.Map.Iter.{deref}
 use Rattle.std.proofs.lemmas.Map.Iter.{rest_more}
 use Rattle.fsfs_base.specs.Paths.{path_cmp}
 use Rattle.fsfs_tree.specs.Nodes.{TreeFunction}
-use Rattle.fsfs_model.specs.Edits.{applied}
+use Rattle.fsfs_model.specs.Flat.Edits.{applied}
 use Rattle.fsfs_tree.specs.Revisions.{tree_of}
 use Rattle.fsfs_base.proofs.ResultLemmas.{none_of}
 use Rattle.fsfs_model.proofs.Filling.{IsFilling, start, put, skip}

@@ -3,7 +3,7 @@ use Rattle.std.specs.List.{list_any}
 use Rattle.std.specs.Ordering.{eq_by_cmp}
 use Rattle.std.specs.FinMap as map
 use Rattle.fsfs_base.specs.Paths.{Path, path_cmp}
-use Rattle.fsfs_model.specs.Edits.{applied}
+use Rattle.fsfs_model.specs.Flat.Edits.{applied}
 use Rattle.fsfs_tree.specs.Revisions.{tree_of}
 use Rattle.fsfs_model.proofs.apply.tree_after.Given as goal
 

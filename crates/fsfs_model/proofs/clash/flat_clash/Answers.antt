@@ -2,10 +2,10 @@ use Rattle.std.proofs.Common.{◌∙◌, sym, ap, subst, Bool, ◌&&◌, List}
 use Rattle.std.specs.FinMap as map
 use Rattle.std.specs.Map.Iter.{deref}
 use Rattle.std.proofs.lemmas.Map.Iter.{rest_more}
-use Rattle.fsfs_model.specs.declared.mark.Mark.{Mark}
+use Rattle.fsfs_model.specs.declared.flat.mark.Mark.{Mark}
 use Rattle.fsfs_base.specs.Paths.{Path}
-use Rattle.fsfs_model.specs.Marks.{effects_by}
-use Rattle.fsfs_model.specs.Landing.{goes_on, clashes_at, reached, is_clash, IsFirstClash}
+use Rattle.fsfs_model.specs.Flat.Marks.{effects_by}
+use Rattle.fsfs_model.specs.Flat.Landing.{goes_on, clashes_at, reached, is_clash, IsFirstClash}
 use Rattle.fsfs_model.proofs.PathSearch.{searched, fails_before, still_rising}
 use Rattle.fsfs_model.proofs.clash.flat_clash.Goals as goal
 

@@ -4,7 +4,7 @@ use Rattle.std.specs.List.Sorted.{IsStrictlySortedBy}
 use Rattle.std.specs.Ordering.{eq_by_cmp}
 use Rattle.std.specs.FinMap as map
 use Rattle.fsfs_base.specs.Paths.{Path, path_cmp}
-use Rattle.fsfs_model.specs.Landing.{is_clash}
+use Rattle.fsfs_model.specs.Flat.Landing.{is_clash}
 use Rattle.fsfs_model.proofs.clash.flat_clash.Given as goal
 
 -- each path is known not to clash, or still to come; and what is to come rises

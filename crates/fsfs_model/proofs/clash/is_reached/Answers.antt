@@ -1,7 +1,7 @@
 use Rattle.std.proofs.Common.{◌∙◌, sym, arith}
 use Rattle.std.specs.FinMap as map
-use Rattle.fsfs_model.specs.Marks.{effects_by}
-use Rattle.fsfs_model.specs.Landing.{goes_on}
+use Rattle.fsfs_model.specs.Flat.Marks.{effects_by}
+use Rattle.fsfs_model.specs.Flat.Landing.{goes_on}
 use Rattle.fsfs_model.proofs.PathSearch.{reached_more, reached_not}
 use Rattle.fsfs_model.proofs.clash.is_reached.Goals as goal
 

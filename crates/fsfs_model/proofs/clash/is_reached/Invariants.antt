@@ -1,7 +1,7 @@
 use Rattle.std.proofs.Common.{◌≡◌, true, take}
 use Rattle.std.specs.FinMap as map
-use Rattle.fsfs_model.specs.Marks.{effects_by}
-use Rattle.fsfs_model.specs.Landing.{goes_on, reached}
+use Rattle.fsfs_model.specs.Flat.Marks.{effects_by}
+use Rattle.fsfs_model.specs.Flat.Landing.{goes_on, reached}
 use Rattle.fsfs_model.proofs.clash.is_reached.Given as goal
 
 abbrev pub invariant-loop-count : goal.invariant-loop-count

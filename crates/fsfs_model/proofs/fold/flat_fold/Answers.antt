@@ -4,10 +4,10 @@ use Rattle.std.specs.Ordering.{eq_by_cmp}
 use Rattle.std.specs.FinMap as map
 use Rattle.std.specs.Map.Iter.{deref}
 use Rattle.std.proofs.lemmas.Map.Iter.{rest_more}
-use Rattle.fsfs_model.specs.declared.mark.Mark.{Mark}
+use Rattle.fsfs_model.specs.declared.flat.mark.Mark.{Mark}
 use Rattle.fsfs_tree.specs.declared.change_map.Change.{Change}
 use Rattle.fsfs_base.specs.Paths.{Path, path_cmp, same_path}
-use Rattle.fsfs_model.specs.Folding.{fold}
+use Rattle.fsfs_model.specs.Flat.Folding.{fold}
 use Rattle.fsfs_model.proofs.FoldLemmas.{unmarked}
 use Rattle.fsfs_model.proofs.Filling.{IsFilling, start, put, skip}
 use Rattle.fsfs_model.proofs.fold.flat_fold.Goals as goal

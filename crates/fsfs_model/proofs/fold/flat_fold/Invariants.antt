@@ -3,7 +3,7 @@ use Rattle.std.specs.List.{list_any}
 use Rattle.std.specs.Ordering.{eq_by_cmp}
 use Rattle.std.specs.FinMap as map
 use Rattle.fsfs_base.specs.Paths.{Path, path_cmp}
-use Rattle.fsfs_model.specs.Folding.{fold}
+use Rattle.fsfs_model.specs.Flat.Folding.{fold}
 use Rattle.fsfs_model.proofs.fold.flat_fold.Given as goal
 
 -- each path is done, or nothing is said of it yet and it is still to come

@@ -1,5 +1,5 @@
 use Rattle.std.proofs.Common.{◌≡◌, drop}
-use Rattle.fsfs_model.specs.Folding.{fold_from}
+use Rattle.fsfs_model.specs.Flat.Folding.{fold_from}
 use Rattle.std.specs.Prelude.{None}
 use Rattle.fsfs_model.proofs.fold.fold_path.Given as goal
 

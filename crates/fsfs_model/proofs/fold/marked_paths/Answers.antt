@@ -3,7 +3,7 @@ use Rattle.std.specs.List.{list_any}
 use Rattle.std.specs.BTreeSet as set
 use Rattle.std.specs.Ordering.{eq_by_cmp}
 use Rattle.std.proofs.lemmas.List.Folds.{list_any_more}
-use Rattle.fsfs_model.specs.declared.mark.Mark.{Mark}
+use Rattle.fsfs_model.specs.declared.flat.mark.Mark.{Mark}
 use Rattle.fsfs_base.specs.Paths.{Path, path_cmp, same_path, paths_tie}
 use Rattle.fsfs_model.proofs.fold.marked_paths.Goals as goal
 

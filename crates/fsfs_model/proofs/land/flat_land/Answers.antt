@@ -8,8 +8,8 @@ use Rattle.std.specs.Map.Iter.{deref}
 use Rattle.std.proofs.lemmas.Map.Iter.{rest_more}
 use Rattle.fsfs_base.specs.Paths.{path_cmp}
 use Rattle.fsfs_tree.specs.Nodes.{TreeFunction}
-use Rattle.fsfs_model.specs.Marks.{effects, effects_by}
-use Rattle.fsfs_model.specs.Landing.{land, landed_at}
+use Rattle.fsfs_model.specs.Flat.Marks.{effects, effects_by}
+use Rattle.fsfs_model.specs.Flat.Landing.{land, landed_at}
 use Rattle.fsfs_base.proofs.ResultLemmas.{none_of}
 use Rattle.fsfs_model.proofs.Filling.{IsFilling, start, put, skip}
 use Rattle.fsfs_model.proofs.land.flat_land.Goals as goal

@@ -3,7 +3,7 @@ use Rattle.std.proofs.lemmas.Option.{same_Some}
 use Rattle.std.specs.Prelude.{IfSome}
 use Rattle.fsfs_base.proofs.CutLemmas.{cut_found, two_none, two_parts}
 use Rattle.fsfs_base.specs.Paths.{Path}
-use Rattle.fsfs_base.specs.RevNums.{IsRev}
+use Rattle.fsfs_base.specs.Fields.RevNums.{IsRev}
 use Rattle.fsfs_noderev.specs.Fields.{IsPathText}
 use Rattle.fsfs_base.proofs.RevNumTexts.{rev_spells}
 use Rattle.fsfs_noderev.proofs.FieldTexts.{rev_lacks}

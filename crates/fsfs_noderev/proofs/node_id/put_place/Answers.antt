@@ -1,5 +1,5 @@
 use Rattle.std.proofs.Common.{refl, sym, subst}
-use Rattle.fsfs_base.specs.Grammar.{Appends}
+use Rattle.fsfs_base.specs.Grammar.Relations.{Appends}
 use Rattle.fsfs_base.proofs.Appending.{appends_marked}
 use Rattle.fsfs_noderev.specs.Ids.{In, place_value, IsPlace}
 use Rattle.fsfs_noderev.specs.declared.node_id.Place.{Place}

@@ -1,6 +1,6 @@
 use Rattle.std.proofs.Common.{refl, sym, subst}
 use Rattle.std.specs.Prelude.{codes}
-use Rattle.fsfs_base.specs.Grammar.{Appends}
+use Rattle.fsfs_base.specs.Grammar.Relations.{Appends}
 use Rattle.fsfs_base.specs.declared.kind.Kind.{Kind}
 use Rattle.fsfs_noderev.specs.Fields.{IsKindText}
 use Rattle.fsfs_noderev.specs.Writing.{IsLineOf}

@@ -1,7 +1,7 @@
 use Rattle.std.proofs.Common.{◌≡◌, ◌+◌, ℕ, List, Option, Some, Ok, sym, subst, arith}
 use Rattle.std.proofs.lemmas.Result.{err_from_is_err_and}
 use Rattle.std.specs.Prelude.{◌==◌}
-use Rattle.fsfs_script.specs.declared.job.Job.{Job}
+use Rattle.fsfs_script.specs.declared.job_lines.job.Job.{Job}
 use Rattle.fsfs_script.specs.Places.{place_of}
 use Rattle.fsfs_script.specs.Jobs.{ReadsNext}
 use Rattle.fsfs_script.proofs.WholeLemmas.{IsWhole, whole_more, whole_ends, whole_read, whole_breaks, whole_full}

@@ -3,7 +3,7 @@ use Rattle.std.specs.Prelude.{codes, Err}
 use Rattle.fsfs_base.specs.Streams.{Adds}
 use Rattle.fsfs_base.specs.Output.{Prints}
 use Rattle.fsfs_base.proofs.OutputLemmas.{printed_more, printed_less, passed_on}
-use Rattle.fsfs_disk.specs.Txns.{text_of}
+use Rattle.fsfs_disk.specs.Transactions.Txns.{text_of}
 use Rattle.fsfs_top.proofs.output.print_txn.Goals as goal
 
 pub returns-in_err-print : goal.returns-in_err-print

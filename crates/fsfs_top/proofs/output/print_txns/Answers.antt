@@ -1,11 +1,11 @@
 use Rattle.std.proofs.Common.{◌∙◌, ◌++◌, ◌+◌, List, ℕ, refl, sym, ap, subst, map, take, drop, arith}
 use Rattle.std.specs.Prelude.{codes, Err, slice_index_or}
-use Rattle.fsfs_base.specs.declared.txn_name.TxnName.{TxnName}
+use Rattle.fsfs_base.specs.declared.fields.txn_name.TxnName.{TxnName}
 use Rattle.fsfs_base.specs.Streams.{Adds}
 use Rattle.fsfs_base.specs.Output.{Prints}
 use Rattle.fsfs_base.proofs.StreamLemmas.{adds_then}
 use Rattle.fsfs_base.proofs.OutputLemmas.{printed_more, printed_less, passed_on}
-use Rattle.fsfs_disk.specs.Txns.{text_of}
+use Rattle.fsfs_disk.specs.Transactions.Txns.{text_of}
 use Rattle.fsfs_top.specs.TxnAnswers.{names_text}
 use Rattle.fsfs_top.proofs.NameLines.{lines_more, lines_around}
 use Rattle.fsfs_top.proofs.output.print_txns.Goals as goal

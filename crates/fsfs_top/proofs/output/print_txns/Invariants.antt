@@ -1,6 +1,6 @@
 use Rattle.std.proofs.Common.{◌≤◌, map, take}
 use Rattle.fsfs_base.specs.Streams.{Adds}
-use Rattle.fsfs_disk.specs.Txns.{text_of}
+use Rattle.fsfs_disk.specs.Transactions.Txns.{text_of}
 use Rattle.fsfs_top.specs.TxnAnswers.{names_text}
 use Rattle.fsfs_top.proofs.output.print_txns.Given as goal
 

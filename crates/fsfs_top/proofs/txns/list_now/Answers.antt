@@ -1,8 +1,8 @@
 use Rattle.std.proofs.Common.{inl, inr, refl, map, ap, subst, List}
 use Rattle.std.specs.Prelude.{Err}
 use Rattle.fsfs_disk.specs.declared.disk.ListFault.{ListFault}
-use Rattle.fsfs_disk.specs.Txns.{text_of}
-use Rattle.fsfs_base.specs.declared.txn_name.TxnName.{TxnName}
+use Rattle.fsfs_disk.specs.Transactions.Txns.{text_of}
+use Rattle.fsfs_base.specs.declared.fields.txn_name.TxnName.{TxnName}
 use Rattle.fsfs_top.specs.Command.{fault_of}
 use Rattle.fsfs_top.specs.Looks.{PrintsLine}
 use Rattle.fsfs_top.specs.Scenes.{sink_scene}

@@ -1,7 +1,7 @@
 use Rattle.std.proofs.Common.{◌≡◌, ℕ, List, refl, sym, subst, arith}
 use Rattle.std.specs.Prelude.{IsTrue, Bool}
 use Rattle.fsfs_base.specs.Failures.{Rose}
-use Rattle.fsfs_disk.specs.Removals.{Removes}
+use Rattle.fsfs_disk.specs.Transactions.Removals.{Removes}
 use Rattle.fsfs_top.specs.Command.{fault_of}
 use Rattle.fsfs_top.proofs.FilesDecide.{opening_done, opening_refusal}
 use Rattle.fsfs_top.proofs.TxnsTold.{labels_firm, removal_done, removal_fails, removal_images, removal_labels, removal_refused, removal_unopened}

@@ -1,5 +1,5 @@
 use Rattle.std.proofs.Common.{◌≤◌, arith}
-use Rattle.fsfs_revision.specs.Chains.{own_rev}
+use Rattle.fsfs_revision.specs.Shows.Chains.{own_rev}
 use Rattle.fsfs_draft.proofs.Walking.{lasting_within}
 use Rattle.fsfs_txn.proofs.Viewing.{lasting_props, lasting_fails}
 use Rattle.fsfs_txn.proofs.getting.lasting_props.Goals as goal

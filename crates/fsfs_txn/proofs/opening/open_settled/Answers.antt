@@ -3,13 +3,13 @@ use Rattle.std.specs.Prelude.{Ok, Err}
 use Rattle.std.proofs.lemmas.Result.{err_from_is_err_and}
 use Rattle.fsfs_revision.specs.Told.{Knows}
 use Rattle.fsfs_revision.proofs.Keeping.{keeps_trans}
-use Rattle.fsfs_txn.specs.declared.opened_opening.Opening.{Opening}
-use Rattle.fsfs_txn.specs.Knowing.{AreKnown}
-use Rattle.fsfs_txn.specs.OpenedOpening.{IsOpening, IfOpened}
+use Rattle.fsfs_txn.specs.declared.opened.opening.Opening.{Opening}
+use Rattle.fsfs_txn.specs.Opened.Knowing.{AreKnown}
+use Rattle.fsfs_txn.specs.Opened.Opening.{IsOpening, IfOpened}
 use Rattle.fsfs_txn.specs.declared.seeing.Seen.{Seen}
 use Rattle.fsfs_txn.specs.Seeing.{IsSeen}
 use Rattle.fsfs_txn.proofs.Looking.{same_sees, same_opens}
-use Rattle.fsfs_txn.specs.OpenedLeading.{Leads}
+use Rattle.fsfs_txn.specs.Opened.Leading.{Leads}
 use Rattle.fsfs_txn.proofs.Leading.{same_leading}
 use Rattle.fsfs_txn.proofs.opening.open_settled.Goals as goal
 

@@ -2,13 +2,13 @@ use Rattle.std.proofs.Common.{◌≡◌, Bool, [], Some, None, sym, ap, subst, �
 use Rattle.std.proofs.lemmas.Result.{err_from_is_err_and}
 use Rattle.fsfs_revision.specs.Told.{Knows}
 use Rattle.fsfs_noderev.specs.declared.node_id.NodeId.{NodeId}
-use Rattle.fsfs_revision.specs.ShowsReading.{offset_of}
+use Rattle.fsfs_revision.specs.Shows.Reading.{offset_of}
 use Rattle.fsfs_dag.specs.declared.node.PlacedNode.{PlacedNode}
 use Rattle.fsfs_draft.specs.Drafts.{Kept}
 use Rattle.fsfs_draft.specs.Steps.{kept_at}
 use Rattle.fsfs_draft.specs.Views.{kept_value}
 use Rattle.fsfs_draft.proofs.OwnEntries.{there_kept, kept_same}
-use Rattle.fsfs_txn.specs.Mergeinfo.{RevisionHas}
+use Rattle.fsfs_txn.specs.Edits.Mergeinfo.{RevisionHas}
 use Rattle.fsfs_txn.proofs.Counting.{has_before, base_root, base_has, base_fails}
 use Rattle.fsfs_txn.proofs.seeing.base_counts.Goals as goal
 

@@ -12,7 +12,7 @@ use Rattle.fsfs_draft.specs.Own.{draft_tree}
 use Rattle.fsfs_draft.specs.Walks.{IsAt, HasKind, IsChild}
 use Rattle.fsfs_draft.specs.declared.walk.Child.{Child}
 use Rattle.fsfs_draft.proofs.Walking.{own_has, lacks_at, blocked_at, pushed}
-use Rattle.fsfs_txn.specs.Mergeinfo.{CountsTo}
+use Rattle.fsfs_txn.specs.Edits.Mergeinfo.{CountsTo}
 use Rattle.fsfs_txn.proofs.Counting.{counts_begin, counts_more, take_pushed}
 use Rattle.fsfs_txn.proofs.seeing.seen_below.Goals as goal
 

@@ -7,7 +7,7 @@ use Rattle.fsfs_revision.specs.Told.{RevisionBytes, Knows, Keeps}
 use Rattle.fsfs_draft.specs.Own.{Own as Owns, OwnNode, draft_tree}
 use Rattle.fsfs_draft.specs.Drafts.{IsDraft, ShowTrees}
 use Rattle.fsfs_draft.specs.Walks.{IsAt, HasKind}
-use Rattle.fsfs_txn.specs.Mergeinfo.{CountsTo}
+use Rattle.fsfs_txn.specs.Edits.Mergeinfo.{CountsTo}
 use Rattle.fsfs_txn.proofs.seeing.seen_below.Given as goal
 
 -- what the walk came to stands at the names so far, and so are the counts that were met

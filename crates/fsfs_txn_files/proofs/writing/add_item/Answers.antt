@@ -1,5 +1,5 @@
 use Rattle.std.proofs.Common.{ℕ, List}
-use Rattle.fsfs_noderev.specs.Items.{IsItem}
+use Rattle.fsfs_noderev.specs.Changes.Items.{IsItem}
 use Rattle.fsfs_txn_files.specs.declared.folder_file.FolderFile.TheVariants.{Changes}
 use Rattle.fsfs_txn_files.specs.declared.change.How.TheVariants.{AtEnd}
 use Rattle.fsfs_txn_files.proofs.ChangeLemmas.{made_as, left_as}

@@ -1,11 +1,11 @@
 use Rattle.std.proofs.Common.{◌≡◌, ◌∙◌, List, length, sym, ap, subst, arith}
 use Rattle.fsfs_disk.specs.Trace.{Trace, FirmNames, FailsAt}
 use Rattle.fsfs_machine.specs.Machine.{revisions}
-use Rattle.fsfs_pass.specs.declared.seat_view.Kin.{Kin}
-use Rattle.fsfs_script.specs.declared.job.Job.{Job}
+use Rattle.fsfs_pass.specs.declared.seats.seat_view.Kin.{Kin}
+use Rattle.fsfs_script.specs.declared.job_lines.job.Job.{Job}
 use Rattle.fsfs_job_run.proofs.RunLemmas.{firm_fails}
-use Rattle.fsfs_job_run.specs.Jobs.{bench_faults_in}
-use Rattle.fsfs_job_run.specs.Lines.{disk_faults_in, RoseBy}
+use Rattle.fsfs_job_run.specs.Serial.Jobs.{bench_faults_in}
+use Rattle.fsfs_job_run.specs.Workers.Lines.{disk_faults_in, RoseBy}
 use Rattle.fsfs_workers.specs.Two.{RanTwo}
 use Rattle.fsfs_workers.proofs.Begun.{is_ready, has_nothing, beside_over}
 use Rattle.fsfs_workers.proofs.Ends.{rose_since, unopened, unread, unroomed, worked}

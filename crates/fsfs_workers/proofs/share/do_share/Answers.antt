@@ -2,12 +2,12 @@ use Rattle.std.proofs.Common.{◌≡◌, ◌+◌, ◌<◌, ℕ, List, ◌∙◌,
 use Rattle.std.proofs.lemmas.List.{take_all}
 use Rattle.std.specs.Prelude.{vec_len}
 use Rattle.std.specs.Vec.{vec_capacity}
-use Rattle.fsfs_script.specs.declared.job.Job.{Job}
+use Rattle.fsfs_script.specs.declared.job_lines.job.Job.{Job}
 use Rattle.fsfs_jobs.specs.declared.answer.JobAnswer.{JobAnswer}
-use Rattle.fsfs_job_run.specs.Lines.{dealt, disk_faults_in}
-use Rattle.fsfs_job_run.specs.Passes.{WorkedSo}
+use Rattle.fsfs_job_run.specs.Workers.Lines.{dealt, disk_faults_in}
+use Rattle.fsfs_job_run.specs.Workers.Passes.{WorkedSo}
 use Rattle.fsfs_workers.specs.InTurn.{turn_after}
-use Rattle.fsfs_job_run.specs.Jobs.{bench_faults_in}
+use Rattle.fsfs_job_run.specs.Serial.Jobs.{bench_faults_in}
 use Rattle.fsfs_job_run.proofs.BenchCounts.{benches_more}
 use Rattle.fsfs_workers.proofs.Counting.{rose_more}
 use Rattle.fsfs_workers.proofs.Sharing.{none_worked, share_others, turn_is_mine, turn_is_others, each_mine, worked_mine}

@@ -2,9 +2,9 @@ use Rattle.std.proofs.Common.{◌≡◌, ◌<◌, ◌≤◌, take, length}
 use Rattle.std.specs.Prelude.{None, true, vec_len}
 use Rattle.std.specs.Vec.{vec_capacity}
 use Rattle.fsfs_turn.specs.Views.{View}
-use Rattle.fsfs_job_run.specs.Lines.{dealt, disk_faults_in, RoseBy}
-use Rattle.fsfs_job_run.specs.Passes.{WorkedSo}
-use Rattle.fsfs_job_run.specs.Jobs.{bench_faults_in}
+use Rattle.fsfs_job_run.specs.Workers.Lines.{dealt, disk_faults_in, RoseBy}
+use Rattle.fsfs_job_run.specs.Workers.Passes.{WorkedSo}
+use Rattle.fsfs_job_run.specs.Serial.Jobs.{bench_faults_in}
 use Rattle.fsfs_workers.specs.InTurn.{turn_after}
 use Rattle.fsfs_workers.proofs.share.do_share.Given as goal
 

@@ -2,8 +2,8 @@ use Rattle.std.proofs.Common.{◌≡◌, ◌∙◌, sym, ap, subst, true, arith}
 use Rattle.fsfs_turn.specs.Views.{View}
 use Rattle.fsfs_pass.specs.Passes.{Seating}
 use Rattle.fsfs_pass.specs.Seats.{view_of}
-use Rattle.fsfs_job_run.specs.Lines.{dealt}
-use Rattle.fsfs_job_run.specs.Passes.{WorkJobs}
+use Rattle.fsfs_job_run.specs.Workers.Lines.{dealt}
+use Rattle.fsfs_job_run.specs.Workers.Passes.{WorkJobs}
 use Rattle.fsfs_workers.proofs.worker.work.Goals as goal
 
 pub new-pass-requires-clause-sitting : goal.new-pass-requires-clause-sitting

@@ -1,6 +1,6 @@
 use Rattle.std.proofs.Common.{◌≡◌, rules, [], refl, true, false, sym, ap, subst, ◌∙◌, arith}
 use Rattle.std.specs.Prelude.{IfSome}
-use Rattle.fsfs_folders.specs.CallRecord.{DropFolder}
+use Rattle.fsfs_folders.specs.System.CallRecord.{DropFolder}
 use Rattle.fsfs_folders.specs.Told.{is_inner_folder}
 use Rattle.fsfs_folders.specs.Keeping.{are_names_firm}
 use Rattle.fsfs_folders.specs.Standing.{told}

@@ -1,6 +1,6 @@
 use Rattle.std.proofs.Common.{◌≡◌, rules, true, false, inl, inr, refl, sym, ap, subst, ◌∙◌}
 use Rattle.fsfs_disk.specs.Labels.{label_of}
-use Rattle.fsfs_folders.specs.CallRecord.{DropFolder}
+use Rattle.fsfs_folders.specs.System.CallRecord.{DropFolder}
 use Rattle.fsfs_folders.proofs.PutLemmas.{if_given}
 use Rattle.fsfs_folders.proofs.WritingLemmas.{on_err}
 use Rattle.fsfs_folders.proofs.FolderCalls.{made_or_not, sound_label_dropped, sound_label_synced, label_dropped, label_dropped_failed, label_not_dropped, label_was_there, label_was_absent}

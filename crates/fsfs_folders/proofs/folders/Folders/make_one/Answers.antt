@@ -1,5 +1,5 @@
 use Rattle.std.proofs.Common.{◌≡◌, rules, refl, true, false, sym, ap, subst, ◌∙◌, arith}
-use Rattle.fsfs_folders.specs.CallRecord.{MakeFolder}
+use Rattle.fsfs_folders.specs.System.CallRecord.{MakeFolder}
 use Rattle.fsfs_folders.specs.Told.{is_in_bench}
 use Rattle.fsfs_folders.specs.Standing.{told}
 use Rattle.fsfs_folders.proofs.SoundLemmas.{told_folder}

@@ -1,6 +1,6 @@
 use Rattle.std.proofs.Common.{◌≡◌, refl, sym, subst, ◌∙◌}
 use Rattle.std.specs.Prelude.{Some, None, IfSome, MatchOption}
-use Rattle.fsfs_folders.specs.CallRecord.{names_now}
+use Rattle.fsfs_folders.specs.System.CallRecord.{names_now}
 use Rattle.fsfs_folders.proofs.FolderCalls.{told_apart}
 use Rattle.fsfs_folders.proofs.OpenLemmas.{none_told}
 use Rattle.fsfs_folders.proofs.folders.Folders.open.Goals as goal

@@ -1,6 +1,6 @@
 use Rattle.std.proofs.Common.{◌≡◌, rules, sym, subst, ◌∙◌}
 use Rattle.std.specs.Prelude.{IfSome, None, IsErrOf}
-use Rattle.fsfs_folders.specs.CallRecord.{Remove, Makes, names_now}
+use Rattle.fsfs_folders.specs.System.CallRecord.{Remove, Makes, names_now}
 use Rattle.fsfs_folders.proofs.PutLemmas.{none_beside, there_gone, none_absent, if_given}
 use Rattle.fsfs_folders.proofs.folders.Folders.remove.Goals as goal
 

@@ -1,6 +1,6 @@
 use Rattle.std.proofs.Common.{◌≡◌, rules, refl, sym, ap, subst, ◌∙◌}
 use Rattle.std.specs.Prelude.{IfSome, codes}
-use Rattle.fsfs_folders.specs.CallRecord.{names_now, IsEmptyAt}
+use Rattle.fsfs_folders.specs.System.CallRecord.{names_now, IsEmptyAt}
 use Rattle.fsfs_folders.proofs.PutLemmas.{if_given}
 use Rattle.fsfs_folders.proofs.TxnEntries.{bare_list}
 use Rattle.fsfs_folders.proofs.folders.Folders.txn_folders.Goals as goal

@@ -1,5 +1,5 @@
 use Rattle.std.proofs.Common.{◌≡◌, ◌∷◌, [], List, ℕ, true, sym, ap, subst, ◌∙◌, arith}
-use Rattle.fsfs_folders.specs.Paths.{has_path}
+use Rattle.fsfs_folders.specs.System.Paths.{has_path}
 use Rattle.fsfs_folders.proofs.NotedLemmas.{has_last, within_longer, has_member}
 use Rattle.fsfs_folders.proofs.noted.Noted.add.Goals as goal
 

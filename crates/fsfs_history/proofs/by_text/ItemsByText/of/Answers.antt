@@ -3,7 +3,7 @@ use Rattle.std.proofs.lemmas.List.{nil_from_length}
 use Rattle.std.proofs.lemmas.Grind.{common_steps}
 use Rattle.std.specs.Vec.Iter.{into_iter_items, into_iter_len}
 use Rattle.fsfs_base.specs.Paths.{path_text}
-use Rattle.fsfs_noderev.specs.declared.item.ChangeItem.{ChangeItem}
+use Rattle.fsfs_noderev.specs.declared.changes.item.ChangeItem.{ChangeItem}
 use Rattle.fsfs_tree.specs.ChangedTexts.{put_by}
 use Rattle.fsfs_stands.specs.ChangedTexts.{ByText}
 use Rattle.fsfs_history.specs.Views.{by_text_value}

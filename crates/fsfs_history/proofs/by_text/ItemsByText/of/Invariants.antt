@@ -1,7 +1,7 @@
 use Rattle.std.proofs.Common.{◌≡◌, length}
 use Rattle.std.specs.Vec.Iter.{into_iter_items, into_iter_len}
 use Rattle.fsfs_base.specs.Paths.{path_text}
-use Rattle.fsfs_noderev.specs.declared.item.ChangeItem.{ChangeItem}
+use Rattle.fsfs_noderev.specs.declared.changes.item.ChangeItem.{ChangeItem}
 use Rattle.fsfs_tree.specs.ChangedTexts.{put_by}
 use Rattle.fsfs_stands.specs.ChangedTexts.{by_text}
 use Rattle.fsfs_history.specs.Views.{by_text_value}

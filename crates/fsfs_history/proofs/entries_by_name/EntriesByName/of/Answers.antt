@@ -3,7 +3,7 @@ use Rattle.std.specs.Prelude.{option_map}
 use Rattle.std.specs.String.{string_bytes}
 use Rattle.std.proofs.lemmas.List.{nil_from_length}
 use Rattle.fsfs_base.specs.Paths.{same_name}
-use Rattle.fsfs_revision.specs.ShowsReading.{DirEntry as EntryValue, named}
+use Rattle.fsfs_revision.specs.Shows.Reading.{DirEntry as EntryValue, named}
 use Rattle.fsfs_dag.specs.Views.{entry_value, entry_values}
 use Rattle.fsfs_dag.specs.declared.directory.DirEntry.{DirEntry}
 use Rattle.fsfs_history.proofs.TextKeys.{Key}

@@ -1,5 +1,5 @@
 use Rattle.std.proofs.Common.{◌≡◌, ◌++◌, ℕ, List, length}
-use Rattle.fsfs_revision.specs.ShowsReading.{named}
+use Rattle.fsfs_revision.specs.Shows.Reading.{named}
 use Rattle.fsfs_dag.specs.Views.{entry_values}
 use Rattle.fsfs_dag.specs.declared.directory.DirEntry.{DirEntry}
 use Rattle.fsfs_history.specs.KeptDirs.{by_name}

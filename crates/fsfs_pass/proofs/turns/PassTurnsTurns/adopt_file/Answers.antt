@@ -2,9 +2,9 @@ use Rattle.std.proofs.Common.{ap, subst, ◌∙◌, ◌≡◌}
 use Rattle.std.specs.Prelude.{unwrap_or}
 use Rattle.fsfs_disk.specs.Benches.{bytes_on}
 use Rattle.fsfs_turn.specs.Views.{Answers, Adopted}
-use Rattle.fsfs_pass.specs.declared.seat_view.SeatView.{SeatView}
+use Rattle.fsfs_pass.specs.declared.seats.seat_view.SeatView.{SeatView}
 use Rattle.fsfs_pass.specs.Seats.{view_of}
-use Rattle.fsfs_pass.specs.SeatCallsTells.{AdoptedAs, no_adoption}
+use Rattle.fsfs_pass.specs.SeatCalls.Tells.{AdoptedAs, no_adoption}
 use Rattle.fsfs_pass.proofs.Turning.{Keeps, back_keeps, low_on, knows_went, sits_so, stays, mounted_still}
 use Rattle.fsfs_pass.proofs.turns.PassTurnsTurns.adopt_file.Goals as goal
 

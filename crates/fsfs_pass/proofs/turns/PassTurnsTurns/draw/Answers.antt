@@ -2,7 +2,7 @@ use Rattle.std.proofs.Common.{sym, ap, subst, ◌∙◌, ◌≡◌, ◌≤◌}
 use Rattle.std.specs.Prelude.{Some}
 use Rattle.fsfs_machine.specs.declared.machine.Section.TheVariants.{Begun}
 use Rattle.fsfs_turn.specs.Learning.{ReadsCounter}
-use Rattle.fsfs_pass.specs.declared.seat_view.SeatView.{SeatView}
+use Rattle.fsfs_pass.specs.declared.seats.seat_view.SeatView.{SeatView}
 use Rattle.fsfs_pass.specs.Met.{seat_store}
 use Rattle.fsfs_pass.specs.Passes.{KnowsIt}
 use Rattle.fsfs_pass.proofs.Turning.{Keeps, back_keeps, low_on, knows_now, sits_so, stays, mounted_still}

@@ -3,8 +3,8 @@ use Rattle.std.specs.Prelude.{option_map, unwrap_or}
 use Rattle.fsfs_machine.specs.Kept.{IsIn}
 use Rattle.fsfs_turn.specs.Views.{Answers}
 use Rattle.fsfs_turn.specs.Learning.{MayPurge, Purged, SpentPurged}
-use Rattle.fsfs_pass.specs.declared.seat_view.SeatView.{SeatView}
-use Rattle.fsfs_pass.specs.SeatCallsTells.{counting}
+use Rattle.fsfs_pass.specs.declared.seats.seat_view.SeatView.{SeatView}
+use Rattle.fsfs_pass.specs.SeatCalls.Tells.{counting}
 use Rattle.fsfs_pass.proofs.Turning.{Keeps, back_keeps, count_keeps, count_dropped, low_on, knows_went, sits_so, stays, seated}
 use Rattle.fsfs_pass.proofs.turns.PassTurnsTurns.drop_bench.Goals as goal
 

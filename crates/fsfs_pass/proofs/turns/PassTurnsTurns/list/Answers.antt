@@ -2,7 +2,7 @@ use Rattle.std.proofs.Common.{ap, ◌∙◌, ◌≡◌}
 use Rattle.std.specs.Prelude.{true, false}
 use Rattle.fsfs_machine.specs.declared.machine.Went.TheVariants.{Fine, Before}
 use Rattle.fsfs_turn.specs.Learning.{Listed}
-use Rattle.fsfs_pass.specs.declared.seat_view.SeatView.{SeatView}
+use Rattle.fsfs_pass.specs.declared.seats.seat_view.SeatView.{SeatView}
 use Rattle.fsfs_pass.proofs.Turning.{Keeps, back_keeps, empty_keeps, low_on, knows_on, known_empty, on_listing, on_ok_map, on_ok_both, sits_so, stays, mounted_still}
 use Rattle.fsfs_pass.proofs.turns.PassTurnsTurns.list.Goals as goal
 

@@ -4,7 +4,7 @@ use Rattle.fsfs_disk.specs.Trace.{Put}
 use Rattle.fsfs_machine.specs.declared.machine.Went.TheVariants.{Before}
 use Rattle.fsfs_turn.specs.Views.{IsDue, MayAdopt, Called, Adopted}
 use Rattle.fsfs_turn.specs.Adoptions.{NeedsFolder}
-use Rattle.fsfs_pass.specs.declared.seat_view.SeatView.{SeatView}
+use Rattle.fsfs_pass.specs.declared.seats.seat_view.SeatView.{SeatView}
 use Rattle.fsfs_pass.proofs.Turning.{Keeps, back_keeps, empty_keeps, low_on, knows_on, on_either, on_ok_map, on_err_map, on_err_both, sits_so, stays, mounted_still}
 use Rattle.fsfs_pass.proofs.turns.PassTurnsTurns.make_folder.Goals as goal
 

@@ -1,13 +1,13 @@
 use Rattle.std.proofs.Common.{ap, subst, ◌∙◌, length, ◌≡◌, ◌<◌, ◌≤◌, ◌^◌, ℕ}
 use Rattle.std.specs.Prelude.{List, Some, IfOk, slice_get}
 use Rattle.fsfs_layout.specs.Small.{IsRevLine}
-use Rattle.fsfs_layout.specs.Dump.{IsDump}
+use Rattle.fsfs_layout.specs.Hash.Dump.{IsDump}
 use Rattle.fsfs_disk.specs.Trace.{IsRead}
 use Rattle.fsfs_machine.specs.declared.machine.Went.{Went}
 use Rattle.fsfs_turn.specs.Views.{View, rev_name, props_name, Answers, ReadTurn}
 use Rattle.fsfs_turn.specs.Courses.{ReadOnly}
 use Rattle.fsfs_turn.specs.Learning.{PropsRead, FloorRead}
-use Rattle.fsfs_pass.specs.declared.seat_view.SeatView.{SeatView}
+use Rattle.fsfs_pass.specs.declared.seats.seat_view.SeatView.{SeatView}
 use Rattle.fsfs_pass.specs.Seats.{view_of}
 use Rattle.fsfs_pass.specs.Passes.{KnowsIt}
 use Rattle.fsfs_pass.proofs.Turning.{Keeps, back_keeps, low_on, knows_now, knows_on, sits_so, stays, mounted_still}

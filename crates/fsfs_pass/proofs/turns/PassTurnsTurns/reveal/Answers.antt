@@ -1,7 +1,7 @@
 use Rattle.std.proofs.Common.{ap, sym, subst, ◌∙◌, length, ◌≡◌}
 use Rattle.fsfs_turn.specs.Views.{Revealed}
 use Rattle.fsfs_pass.specs.Seats.{view_of, reveal_in}
-use Rattle.fsfs_pass.specs.declared.seat_view.SeatView.{SeatView}
+use Rattle.fsfs_pass.specs.declared.seats.seat_view.SeatView.{SeatView}
 use Rattle.fsfs_pass.proofs.Turning.{Keeps, reveal_keeps, low_on, knows_on, sits_so, stays, mounted_still, reveal_kin, reveal_benches}
 use Rattle.fsfs_pass.proofs.turns.PassTurnsTurns.reveal.Goals as goal
 

@@ -4,7 +4,7 @@ use Rattle.fsfs_disk.specs.Trace.{IsSize}
 use Rattle.fsfs_machine.specs.declared.machine.Went.{Went}
 use Rattle.fsfs_turn.specs.Views.{View, rev_name, Answers, ReadTurn}
 use Rattle.fsfs_turn.specs.Courses.{ReadOnly}
-use Rattle.fsfs_pass.specs.declared.seat_view.SeatView.{SeatView}
+use Rattle.fsfs_pass.specs.declared.seats.seat_view.SeatView.{SeatView}
 use Rattle.fsfs_pass.specs.Seats.{view_of}
 use Rattle.fsfs_pass.specs.Passes.{KnowsIt}
 use Rattle.fsfs_pass.proofs.Turning.{Keeps, back_keeps, low_on, knows_now, knows_on, sits_so, stays, mounted_still}

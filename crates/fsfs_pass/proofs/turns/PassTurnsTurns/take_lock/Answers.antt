@@ -1,6 +1,6 @@
 use Rattle.std.proofs.Common.{◌≡◌, true, ap}
 use Rattle.fsfs_turn.specs.Views.{View, LockTaken, FoundStuck}
-use Rattle.fsfs_pass.specs.declared.seat_view.SeatView.{SeatView}
+use Rattle.fsfs_pass.specs.declared.seats.seat_view.SeatView.{SeatView}
 use Rattle.fsfs_pass.specs.Seats.{view_of, stuck_view}
 use Rattle.fsfs_pass.specs.Passes.{pass_store, KnowsIt}
 use Rattle.fsfs_pass.proofs.Turning.{knows_still, on_ok_map, if_err_map, sits_so, mounted_still, on_taken, stays}

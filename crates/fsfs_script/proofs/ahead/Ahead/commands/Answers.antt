@@ -1,6 +1,6 @@
 use Rattle.std.proofs.Common.{Ok, sym, subst, arith}
-use Rattle.fsfs_script.specs.declared.job.CommitJob.{CommitJob}
-use Rattle.fsfs_script.specs.declared.verbs.Stage.{Stage}
+use Rattle.fsfs_script.specs.declared.job_lines.job.CommitJob.{CommitJob}
+use Rattle.fsfs_script.specs.declared.job_lines.verbs.Stage.{Stage}
 use Rattle.fsfs_script.specs.Places.{place_of}
 use Rattle.fsfs_script.specs.Reading.{Reads}
 use Rattle.fsfs_script.specs.Commands.{next_at}

@@ -3,7 +3,7 @@ use Rattle.std.proofs.lemmas.Result.{err_from_is_err_and}
 use Rattle.std.specs.declared.vec.Vec.{Vec}
 use Rattle.std.specs.declared.alloc.Global.{Global}
 use Rattle.fsfs_base.specs.Paths.{Path}
-use Rattle.fsfs_script.specs.declared.edit.Edit.TheVariants as edits
+use Rattle.fsfs_script.specs.declared.job_lines.edit.Edit.TheVariants as edits
 use Rattle.fsfs_script.specs.Places.{place_of}
 use Rattle.fsfs_script.specs.Commands.{to_at}
 use Rattle.fsfs_script.specs.declared.commands.Command.TheVariants as commands

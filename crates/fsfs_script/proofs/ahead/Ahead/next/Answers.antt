@@ -2,9 +2,9 @@ use Rattle.std.proofs.Common.{◌≡◌, ℕ, List, Ok, subst}
 use Rattle.std.proofs.lemmas.Result.{err_from_is_err_and}
 use Rattle.std.specs.declared.vec.Vec.{Vec}
 use Rattle.std.specs.declared.alloc.Global.{Global}
-use Rattle.fsfs_script.specs.Judging.{Fails}
-use Rattle.fsfs_script.specs.Lines.{command_line_at}
-use Rattle.fsfs_script.specs.declared.job_lines_lines.CommandLine.{CommandLine}
+use Rattle.fsfs_script.specs.JobLines.Judging.{Fails}
+use Rattle.fsfs_script.specs.JobLines.Lines.{command_line_at}
+use Rattle.fsfs_script.specs.declared.job_lines.lines.CommandLine.{CommandLine}
 use Rattle.fsfs_script.specs.Places.{place_of}
 use Rattle.fsfs_script.specs.Commands.{judged_at, rest_at}
 use Rattle.fsfs_script.specs.declared.commands.Next.{Next}

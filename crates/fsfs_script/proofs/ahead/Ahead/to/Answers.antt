@@ -3,8 +3,8 @@ use Rattle.std.proofs.lemmas.Result.{err_from_is_err_and}
 use Rattle.std.specs.declared.vec.Vec.{Vec}
 use Rattle.std.specs.declared.alloc.Global.{Global}
 use Rattle.fsfs_base.specs.Paths.{Path}
-use Rattle.fsfs_script.specs.Judging.{Fails}
-use Rattle.fsfs_script.specs.Lines.{to_line_at}
+use Rattle.fsfs_script.specs.JobLines.Judging.{Fails}
+use Rattle.fsfs_script.specs.JobLines.Lines.{to_line_at}
 use Rattle.fsfs_script.specs.Places.{place_of}
 use Rattle.fsfs_script.proofs.ReadLemmas.{judged, judged_bad, judged_stop}
 use Rattle.fsfs_script.proofs.ahead.Ahead.to.Goals as goal

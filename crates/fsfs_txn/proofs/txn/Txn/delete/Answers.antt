@@ -4,7 +4,7 @@ use Rattle.fsfs_draft.specs.Drafts.{Folder}
 use Rattle.fsfs_txn.specs.declared.txn_error.TxnError.{TxnError}
 use Rattle.fsfs_draft.specs.Errors as errors
 use Rattle.fsfs_txn.specs.Spending.{IfStays}
-use Rattle.fsfs_txn.specs.Deleting.{IsDeleting}
+use Rattle.fsfs_txn.specs.Edits.Deleting.{IsDeleting}
 use Rattle.fsfs_txn.proofs.Meeting.{deleted_over}
 use Rattle.fsfs_txn.proofs.txn.Txn.delete.Goals as goal
 

@@ -4,7 +4,7 @@ use Rattle.fsfs_draft.specs.Drafts.{Folder}
 use Rattle.fsfs_txn.specs.declared.txn_error.TxnError.{TxnError}
 use Rattle.fsfs_draft.specs.Errors as errors
 use Rattle.fsfs_txn.specs.Spending.{IfStays}
-use Rattle.fsfs_txn.specs.Making.{IsMaking}
+use Rattle.fsfs_txn.specs.Edits.Making.{IsMaking}
 use Rattle.fsfs_txn.proofs.Meeting.{made_over}
 use Rattle.fsfs_txn.proofs.txn.Txn.make.Goals as goal
 

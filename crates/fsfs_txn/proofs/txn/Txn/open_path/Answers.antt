@@ -3,7 +3,7 @@ use Rattle.fsfs_draft.specs.Errors as errors
 use Rattle.fsfs_txn.specs.declared.txn_error.TxnError.{TxnError}
 use Rattle.fsfs_txn.specs.Spending.{IsFailure}
 use Rattle.fsfs_txn.proofs.Meeting.{is_tree, opened_over}
-use Rattle.fsfs_txn.specs.OpenedLeading.{Leads}
+use Rattle.fsfs_txn.specs.Opened.Leading.{Leads}
 use Rattle.fsfs_txn.specs.declared.opening.Opened.{Opened}
 use Rattle.fsfs_txn.proofs.Leading.{opened_as}
 use Rattle.fsfs_txn.proofs.txn.Txn.open_path.Goals as goal

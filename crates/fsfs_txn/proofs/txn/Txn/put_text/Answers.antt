@@ -2,12 +2,12 @@ use Rattle.std.proofs.Common.{◌≡◌, sym, subst}
 use Rattle.std.specs.Prelude.{Result, Err}
 use Rattle.fsfs_draft.specs.Drafts.{Folder}
 use Rattle.fsfs_txn.specs.declared.txn_error.TxnError.{TxnError}
-use Rattle.fsfs_txn.specs.Texts.{IsLeftStanding, IfLeft}
+use Rattle.fsfs_txn.specs.Edits.Texts.{IsLeftStanding, IfLeft}
 use Rattle.fsfs_txn.proofs.Meeting.{is_tree}
 use Rattle.fsfs_txn.proofs.Putting.{failure_left, text_put_as}
-use Rattle.fsfs_txn.specs.OpenedLeading.{Leads}
+use Rattle.fsfs_txn.specs.Opened.Leading.{Leads}
 use Rattle.fsfs_txn.specs.Leading.{HasAll}
-use Rattle.fsfs_txn.specs.declared.texts.TextSet.{TextSet}
+use Rattle.fsfs_txn.specs.declared.edits.texts.TextSet.{TextSet}
 use Rattle.fsfs_txn.proofs.txn.Txn.put_text.Goals as goal
 
 pub returns-in-Ok-clause-meets : goal.returns-in-Ok-clause-meets

@@ -2,13 +2,13 @@ use Rattle.std.proofs.Common.{◌≡◌, sym, subst, ◌∙◌}
 use Rattle.std.specs.Prelude.{Result, Ok, Err}
 use Rattle.fsfs_draft.specs.Drafts.{Folder}
 use Rattle.fsfs_txn.specs.declared.txn_error.TxnError.{TxnError}
-use Rattle.fsfs_txn.specs.Texts.{IfLeft}
-use Rattle.fsfs_txn.specs.Properties.{is_mergeinfo, IsSettingProp}
+use Rattle.fsfs_txn.specs.Edits.Texts.{IfLeft}
+use Rattle.fsfs_txn.specs.Edits.Properties.{is_mergeinfo, IsSettingProp}
 use Rattle.fsfs_txn.proofs.Meeting.{is_tree}
 use Rattle.fsfs_txn.proofs.Putting.{neither, prop_put}
-use Rattle.fsfs_txn.specs.OpenedLeading.{Leads}
+use Rattle.fsfs_txn.specs.Opened.Leading.{Leads}
 use Rattle.fsfs_txn.specs.Leading.{HasAll}
-use Rattle.fsfs_txn.specs.declared.properties.PropertySet.{PropertySet}
+use Rattle.fsfs_txn.specs.declared.edits.properties.PropertySet.{PropertySet}
 use Rattle.fsfs_txn.proofs.txn.Txn.set_prop.Goals as goal
 
 pub returns-in-Ok-clause-meets : goal.returns-in-Ok-clause-meets

@@ -1,5 +1,5 @@
 use Rattle.std.proofs.Common.{refl}
-use Rattle.fsfs_noderev.specs.Items.{IsItem}
+use Rattle.fsfs_noderev.specs.Changes.Items.{IsItem}
 use Rattle.fsfs_txn_files.proofs.ChangeLemmas.{alone}
 use Rattle.fsfs_txn_files.proofs.change.FileChange.item.Goals as goal
 

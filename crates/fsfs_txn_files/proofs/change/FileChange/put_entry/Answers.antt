@@ -1,5 +1,5 @@
 use Rattle.std.proofs.Common.{ℕ, List, refl, subst}
-use Rattle.fsfs_layout.specs.Dump.{Pair}
+use Rattle.fsfs_layout.specs.Hash.Dump.{Pair}
 use Rattle.fsfs_txn_files.proofs.ChangeLemmas.{alone}
 use Rattle.fsfs_txn_files.proofs.change.FileChange.put_entry.Goals as goal
 

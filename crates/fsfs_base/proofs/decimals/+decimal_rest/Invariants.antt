@@ -1,5 +1,0 @@
-use Rattle.std.proofs.Common.{length}
-use Rattle.fsfs_base.proofs.decimals.+decimal_rest.Given as goal
-
-abbrev pub decreases-decimal_rest : goal.decreases-decimal_rest
-decreases-decimal_rest l = length l.bytes.now

@@ -1,5 +1,0 @@
-use Rattle.std.proofs.Common.{length}
-use Rattle.fsfs_base.proofs.pieces.+text.Given as goal
-
-abbrev pub decreases-text : goal.decreases-text
-decreases-text l = length l.given.now

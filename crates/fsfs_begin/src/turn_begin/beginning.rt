@@ -1,0 +1,142 @@
+//! A transaction is begun by turns.
+ghost use Rattle.std.specs.Prelude.{◌≡◌, ◌⊎◌, ◌≤◌, true, false, None, OnOk, OnErr, IfOk, IfErr, IfSome};
+ghost use Rattle.fsfs_base.specs.Failures.{Rose};
+ghost use Rattle.fsfs_disk.specs.Labels.{has_label, with_label};
+ghost use Rattle.fsfs_disk.specs.Transactions.Txns.{pair_of, txn_label};
+ghost use Rattle.fsfs_begin.specs.Begun.{IsBegunOn};
+ghost use Rattle.fsfs_begin.specs.Benches.{TellsRoot};
+ghost use Rattle.fsfs_turn.specs.Bytes.{bytes_of};
+ghost use Rattle.fsfs_turn.specs.Labels.{Relabels};
+ghost use Rattle.fsfs_turn.specs.Mountings.{RoseBy};
+ghost use Rattle.fsfs_turn.specs.Views.{View};
+ghost use Rattle.fsfs_turn.specs.Learning.{MayMake, drawn_of};
+ghost use Rattle.fsfs_begin.specs.TurnBegin.Steps.{MeetsPastNumbers, Moved};
+ghost use Rattle.fsfs_begin.specs.TurnBegin.Faults.{Cause, IfBench, IfDisk, IsAbove, IsDropped, LacksNumber, LeavesNone, bench_faults_in, read_fault};
+ghost use Rattle.fsfs_begin.specs.TurnBegin.Begun.{HoldsRoot, IsMade, IsMadeAmong, HasBegun, HasBegunAmong};
+ghost use Rattle.fsfs_begin.specs.TurnBegin.Labels.{ListsNoMore};
+ghost use Rattle.fsfs_begin.specs.declared.turn_begin.numbers.Numbers.TheVariants.{OfMachine};
+
+use crate::Begun;
+use crate::turn_begin::begin_fault::BeginFault;
+use crate::turn_begin::drawing::draw;
+use crate::turn_begin::making::make;
+use crate::turn_begin::numbers::Numbers;
+use crate::turn_begin::root::base_root;
+use fsfs_base::{DiskPlace, RevNum, TxnName};
+use fsfs_revision::ReadError;
+use fsfs_turn::Turns;
+use std::alloc::Global;
+
+fn read_fault(error: ReadError) -> BeginFault
+    ensures { result ≡ read_fault error }
+{
+    match error {
+        ReadError::OutOfMemory => BeginFault::Memory,
+        ReadError::DiskFault => BeginFault::DiskFault(DiskPlace::Read),
+        ReadError::Wrong(wrong) => BeginFault::Wrong(wrong),
+    }
+}
+
+// Begins a transaction whose name was drawn, and gives the turns back.
+fn begin_named<R, T: Turns<R>>(
+    alloc: Global,
+    rt: &R,
+    turns: T,
+    name: TxnName,
+) -> (T, Result<Begun<T::Bench>, BeginFault>)
+    requires due { T.bound turns ≡ true → (v : View) × T.knows turns v × MayMake v (drawn_of name.base name.number.number) }
+    ensures name { IfOk result.1 (λ begun. begun.name ≡ name) }
+    ensures filled { IfOk result.1 (λ begun. HoldsRoot begun.root (T.labels result.0) (T.Bench.contents begun.bench)) }
+    ensures tells { IfOk result.1 (λ begun. TellsRoot begun.root (T.Bench.contents begun.bench)) }
+    ensures sound { IfOk result.1 (λ begun. T.Bench.faults begun.bench ≡ 0) }
+    ensures kept { IfSome (T.labels result.0) (λ ls. OnOk result.1 (has_label (txn_label (pair_of name)) ls ≡ true)) }
+    ensures begun { (v : View) → T.knows turns v → MayMake v (drawn_of name.base name.number.number)
+        → IfOk result.1 (λ begun. (u : View) × T.knows result.0 u × IsMadeAmong v u × IsBegunOn (bytes_of v.seen) name begun.root) }
+    ensures alone { ((old new : T) (v : View) → (T.store new).below ≡ (T.store old).below → T.knows old v → T.knows new v)
+        → (v : View) → T.knows turns v → MayMake v (drawn_of name.base name.number.number)
+        → IfOk result.1 (λ begun. (u : View) × T.knows result.0 u × IsMade v u × IsBegunOn (bytes_of v.seen) name begun.root) }
+    ensures refused { (v : View) → T.knows turns v → MayMake v (drawn_of name.base name.number.number)
+        → IfErr result.1 (λ why. (u : View) × T.knows result.0 u × Moved v u × (u.given ≡ v.given) × Cause name.base why u) }
+    ensures dropped { IfErr result.1 (λ why. IfBench why (IsDropped (txn_label (pair_of name)) (T.labels result.0) (Rose (T.faults turns) (T.faults result.0)))) }
+    ensures listed { OnOk result.1 (Relabels (T.bound turns) (with_label (txn_label (pair_of name))) (T.labels turns) (T.labels result.0)) }
+    ensures unlisted { OnErr result.1 (T.bound turns ≡ false → ListsNoMore name.base (Rose (T.faults turns) (T.faults result.0)) (T.labels turns) (T.labels result.0)) }
+    ensures mounted { (T.mounting result.0).mount ≡ (T.mounting turns).mount }
+    ensures benches { RoseBy (bench_faults_in result.1) (T.mounting turns).bench_faults (T.mounting result.0).bench_faults }
+    ensures duty { T.bound result.0 ≡ T.bound turns }
+    ensures later { T.faults turns ≤ T.faults result.0 }
+    ensures cause { IfErr result.1 (λ why. IfDisk why (Rose (T.faults turns) (T.faults result.0))) }
+    ensures there { IfErr result.1 (IsAbove name.base) }
+{
+    let (back, found) = base_root(alloc, rt, turns, name.base);
+    let mut turns = back;
+    match found {
+        Ok(base) => {
+            let begun = make(alloc, rt, &mut turns, name, &base.node);
+            (turns, begun)
+        }
+        Err(error) => (turns, Err(read_fault(error))),
+    }
+}
+
+/// Begins a transaction on a revision, and gives the turns back, whatever is answered. Its name is drawn first, by a section of its
+/// own; then the root of the base is read, and last the bench is made and filled. No name is given twice, whatever fails and whenever
+/// the disk stops, and whatever fails the lock is given, unless it was found stuck. Where the bench fails it is dropped again, and its
+/// label, as far as the disk lets. Of the numbers that a name may have it draws these; where the next isn't among them, names are full.
+pub fn begin<R, T: Turns<R>>(
+    alloc: Global,
+    rt: &R,
+    turns: T,
+    base: RevNum,
+    numbers: Numbers,
+) -> (T, Result<Begun<T::Bench>, BeginFault>)
+    requires few { T.bound turns ≡ true → numbers ≡ OfMachine }
+    requires due { T.bound turns ≡ true → (v : View) × T.knows turns v × (v.section ≡ None) }
+    ensures base { IfOk result.1 (λ begun. begun.name.base ≡ base) }
+    // Its bench holds the files that a transaction begins with, and no others: among them its root's text. Its label is kept.
+    ensures filled { IfOk result.1 (λ begun. HoldsRoot begun.root (T.labels result.0) (T.Bench.contents begun.bench)) }
+    // So they tell the folder that it begins with.
+    ensures tells { IfOk result.1 (λ begun. TellsRoot begun.root (T.Bench.contents begun.bench)) }
+    ensures sound { IfOk result.1 (λ begun. T.Bench.faults begun.bench ≡ 0) }
+    ensures kept { IfSome (T.labels result.0) (λ ls. IfOk result.1 (λ begun. has_label (txn_label (pair_of begun.name)) ls ≡ true)) }
+    // What the pass knows then; and why none was begun, where none was. Or a number stood in `db/txn-current`, as a call met it, that the
+    // machine doesn't read: where only those that it reads are drawn, none was begun then, for want of a number or since its read failed, and
+    // the lock was given.
+    ensures begun { (v : View) → T.knows turns v → v.section ≡ None
+        → IfOk result.1 (λ begun. ((u : View) × T.knows result.0 u × HasBegunAmong begun.name begun.root (T.Bench.contents begun.bench) v u)
+        ⊎ (MeetsPastNumbers T.store turns × (numbers ≡ OfMachine → ⊥))) }
+    ensures refused { (v : View) → T.knows turns v → v.section ≡ None
+        → IfErr result.1 (λ why. ((u : View) × T.knows result.0 u × Moved v u × Cause base why u
+        × IfBench why (LeavesNone base (T.labels result.0) (Rose (T.faults turns) (T.faults result.0)) v u))
+        ⊎ (MeetsPastNumbers T.store turns × (numbers ≡ OfMachine → LacksNumber why × ((u : View) × T.knows result.0 u × Moved v u)))) }
+    // Where what is known is of what no reading changes, as it is for a pass that is alone, reading tells it nothing.
+    ensures alone { ((old new : T) (v : View) → (T.store new).below ≡ (T.store old).below → T.knows old v → T.knows new v)
+        → (v : View) → T.knows turns v → v.section ≡ None
+        → IfOk result.1 (λ begun. ((u : View) × T.knows result.0 u × HasBegun begun.name begun.root (T.Bench.contents begun.bench) v u)
+        ⊎ (MeetsPastNumbers T.store turns × (numbers ≡ OfMachine → ⊥))) }
+    // Its label came to those that were kept, and no other came or went. Where none was begun, none came.
+    ensures listed { IfOk result.1 (λ begun. Relabels (T.bound turns) (with_label (txn_label (pair_of begun.name))) (T.labels turns) (T.labels result.0)) }
+    ensures unlisted { OnErr result.1 (T.bound turns ≡ false → ListsNoMore base (Rose (T.faults turns) (T.faults result.0)) (T.labels turns) (T.labels result.0)) }
+    // Whatever the disk tells.
+    ensures above { IfErr result.1 (IsAbove base) }
+    ensures duty { T.bound result.0 ≡ T.bound turns }
+    ensures mounted { (T.mounting result.0).mount ≡ (T.mounting turns).mount }
+    ensures benches { RoseBy (bench_faults_in result.1) (T.mounting turns).bench_faults (T.mounting result.0).bench_faults }
+    ensures later { T.faults turns ≤ T.faults result.0 }
+    ensures cause { IfErr result.1 (λ why. IfDisk why (Rose (T.faults turns) (T.faults result.0))) }
+{
+    let mut turns = turns;
+    let youngest = turns.look();
+    if youngest < base {
+        return (
+            turns,
+            Err(BeginFault::NoRev {
+                asked: base,
+                youngest,
+            }),
+        );
+    }
+    match draw(alloc, rt, &mut turns, base, numbers) {
+        Ok(name) => begin_named(alloc, rt, turns, name),
+        Err(fault) => (turns, Err(fault)),
+    }
+}

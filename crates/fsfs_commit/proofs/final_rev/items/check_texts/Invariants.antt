@@ -1,0 +1,8 @@
+use Rattle.std.proofs.Common.{take}
+use Rattle.std.specs.Prelude.{All}
+use Rattle.fsfs_noderev.specs.Changes.Items.{HasText}
+use Rattle.fsfs_commit.proofs.final_rev.items.check_texts.Given as goal
+
+-- those so far have texts
+abbrev pub invariant-loop-item : goal.invariant-loop-item
+invariant-loop-item l = All HasText (take l.item-index l.items)

@@ -1,5 +1,0 @@
-use Rattle.fsfs_commit.proofs.FinalBytesLaw.{final_bytes_are_enough}
-use Rattle.fsfs_commit.proofs.laws.final_bytes_are_enough.Goals as goal
-
-pub returns : goal.returns
-returns c = final_bytes_are_enough

@@ -1,5 +1,0 @@
-use Rattle.fsfs_final.proofs.NodeLaws.{put_nodes_are_laid}
-use Rattle.fsfs_final.proofs.laying_laws.put_nodes_are_laid.Goals as goal
-
-pub returns : goal.returns
-returns c = put_nodes_are_laid

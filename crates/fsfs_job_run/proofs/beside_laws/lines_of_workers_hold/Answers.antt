@@ -1,5 +1,0 @@
-use Rattle.fsfs_job_run.proofs.BesideLemmas.{worked}
-use Rattle.fsfs_job_run.proofs.beside_laws.lines_of_workers_hold.Goals as goal
-
-pub returns : goal.returns
-returns c = worked

@@ -1,5 +1,0 @@
-use Rattle.fsfs_job_run.proofs.SerialJobLemmas.{grow}
-use Rattle.fsfs_job_run.proofs.laws.runs_grow.Goals as goal
-
-pub returns : goal.returns
-returns c = grow

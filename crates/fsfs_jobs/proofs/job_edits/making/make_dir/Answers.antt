@@ -1,0 +1,17 @@
+use Rattle.fsfs_jobs.specs.JobEdits.Answers.{fault_of_failure, made_fault}
+use Rattle.fsfs_jobs.proofs.TellLemmas.{made_quiet, tells_lasts, tells_disk, tells_bench}
+use Rattle.fsfs_jobs.proofs.EditLemmas.{make_dir}
+use Rattle.fsfs_jobs.proofs.job_edits.making.make_dir.Goals as goal
+
+pub returns-clause-edits : goal.returns-clause-edits
+returns-clause-edits g c = λ look trees top tree marks knows youngest shown revs within stands.
+    make_dir look trees top c.args.txn.now.base _ _ tree marks revs stands c.args.path.now _ c.mkdir-outcome.result c.tell_made.result (c.mkdir-outcome.ensures.meets c.requires.lasting look trees top tree marks knows shown revs within stands) c.tell_made.ensures
+
+pub returns-clause-lasts : goal.returns-clause-lasts
+returns-clause-lasts g c = tells_lasts (made_fault c.args.path.now) (made_quiet c.args.path.now) fault_of_failure _ _ c.mkdir-outcome.result c.tell_made.result c.mkdir-outcome.ensures.spent c.tell_made.ensures
+
+pub returns-clause-disk : goal.returns-clause-disk
+returns-clause-disk g c = tells_disk (made_fault c.args.path.now) (made_quiet c.args.path.now) _ _ c.mkdir-outcome.result c.tell_made.result c.tell_made.ensures c.mkdir-outcome.ensures.cause
+
+pub returns-clause-bench : goal.returns-clause-bench
+returns-clause-bench g c = tells_bench (made_fault c.args.path.now) (made_quiet c.args.path.now) _ _ _ _ c.mkdir-outcome.result c.tell_made.result c.requires.lasting c.mkdir-outcome.ensures.spent c.tell_made.ensures c.mkdir-outcome.ensures.bench

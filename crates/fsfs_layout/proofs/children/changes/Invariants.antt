@@ -1,9 +1,0 @@
-use Rattle.std.proofs.Common.{◌≡◌, ◌-◌, suc, length}
-use Rattle.fsfs_base.specs.Reading.{many_at}
-use Rattle.fsfs_layout.specs.HashReading.{change_views}
-use Rattle.fsfs_layout.specs.Children.{change_at}
-use Rattle.fsfs_layout.proofs.ManyLoops.{with_all}
-use Rattle.fsfs_layout.proofs.children.changes.Given as goal
-
-abbrev pub invariant-loop : goal.invariant-loop
-invariant-loop l = with_all (change_views l.found.items) (many_at change_at (suc (length l.bytes) - l.counter) l.rest) ≡ many_at change_at (suc (length l.bytes)) l.bytes

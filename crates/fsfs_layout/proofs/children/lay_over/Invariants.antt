@@ -1,7 +1,0 @@
-use Rattle.std.proofs.Common.{◌≡◌, take}
-use Rattle.fsfs_layout.specs.HashReading.{change_views}
-use Rattle.fsfs_layout.specs.Children.{change_all}
-use Rattle.fsfs_layout.proofs.children.lay_over.Given as goal
-
-abbrev pub invariant-loop-key : goal.invariant-loop-key
-invariant-loop-key l = l.pairs ≡ change_all l.initial.pairs (change_views (take l.key-index l.changes))

@@ -1,4 +1,0 @@
-use Rattle.fsfs_layout.proofs.manifest_file.+reaches.Given as goal
-
-abbrev pub decreases-reaches : goal.decreases-reaches
-decreases-reaches l = l.digits

@@ -1,4 +1,0 @@
-use Rattle.fsfs_pass.proofs.labels.drop_bench.Given as goal
-
-abbrev pub ghosts-give_purged : goal.ghosts-give_purged
-ghosts-give_purged g a = record { faults = a.faults.now.value }

@@ -1,0 +1,19 @@
+use Rattle.std.proofs.Common.{ap}
+use Rattle.fsfs_turn.specs.Adoptions.{NeedsFolder}
+use Rattle.fsfs_pass.specs.declared.seats.seat_view.Hand.TheVariants.{Out}
+use Rattle.fsfs_pass.proofs.Answering.{later_still, later_call, may_so}
+use Rattle.fsfs_pass.proofs.seat_calls.calls.make_folder.Goals as goal
+
+pub give_unmade-requires-clause-due : goal.give_unmade-requires-clause-due
+give_unmade-requires-clause-due g c = may_so NeedsFolder c.args.seat.now.me.0 c.take-disk.new.seat.me.0 (Out c.take-disk.result) (ap (λ m. m.0) c.take-disk.ensures.out) c.requires.due
+
+pub give_back-requires-clause-out : goal.give_back-requires-clause-out
+give_back-requires-clause-out g c = (ap (λ m. m.1) c.take-disk.ensures.out, c.take-disk.result, ap (λ m. m.0.hand) c.take-disk.ensures.out, c.make_folder.ensures.same, later_still c.take-disk.result c.make_folder.new.self c.make_folder.ensures.mounted c.make_folder.ensures.cause.later c.make_folder.ensures.benches)
+
+pub give_unmade-requires-clause-out : goal.give_unmade-requires-clause-out
+give_unmade-requires-clause-out g c = (
+  c.take-disk.result,
+  ap (λ m. m.0.hand) c.take-disk.ensures.out,
+  later_call c.take-disk.result c.make_folder.new.self c.make_folder.result c.make_folder.ensures.mounted c.make_folder.ensures.flag c.make_folder.ensures.cause c.make_folder.ensures.benches,
+  c.make_folder.ensures.same,
+)

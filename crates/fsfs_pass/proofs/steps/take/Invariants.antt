@@ -1,4 +1,0 @@
-use Rattle.fsfs_pass.proofs.steps.take.Given as goal
-
-abbrev pub ghosts-take_of : goal.ghosts-take_of
-ghosts-take_of g a = record { disk = a.board.now.shared.key.value.disk }

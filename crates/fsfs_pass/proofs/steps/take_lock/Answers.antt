@@ -1,6 +1,0 @@
-use Rattle.std.proofs.Common.{rules}
-use Rattle.fsfs_pass.proofs.Rules.{locks}
-use Rattle.fsfs_pass.proofs.steps.take_lock.Goals as goal
-
-pub compare_exchange-found-requires : goal.compare_exchange-found-requires
-compare_exchange-found-requires g c = (search rules, search rules, locks _ _ _ _ _ (search rules))

@@ -1,0 +1,140 @@
+-- What a pass is told as it gives the disk back with a call done: the step that the call was.
+use Rattle.std.specs.Prelude.{◌≡◌, ◌+◌, ◌<◌, ◌≤◌, ◌-◌, ◌^◌, ◌⊎◌, ℕ, List, [], Bool, true, Option, Some, None, Result, is_some, slice_get}
+use Rattle.std.specs.FinMap as finmap
+use Rattle.fsfs_tree.specs.Revisions.{Revision}
+use Rattle.fsfs_layout.specs.FileNames.{only_name}
+use Rattle.fsfs_layout.specs.Small.{IsBase36Line}
+use Rattle.fsfs_layout.specs.declared.only_file.OnlyFile.TheVariants.{TxnCurrent}
+use Rattle.fsfs_fetch.specs.Views.{Later}
+use Rattle.fsfs_disk.specs.Labels.{Label}
+use Rattle.fsfs_disk.specs.Trace.{Trace, NameChange, Put, Adopt, file_at}
+use Rattle.fsfs_base.specs.declared.places.place.DiskPlace.{DiskPlace}
+use Rattle.fsfs_machine.specs.declared.machine.Recorded.{Recorded}
+use Rattle.fsfs_machine.specs.declared.machine.Drawn.{Drawn}
+use Rattle.fsfs_machine.specs.declared.machine.Txn.{Txn}
+use Rattle.fsfs_machine.specs.declared.machine.Went.{Went}
+use Rattle.fsfs_machine.specs.declared.machine.Went.TheVariants.{Before}
+use Rattle.fsfs_machine.specs.Kept.{IsIn}
+use Rattle.fsfs_turn.specs.Views.{View, IsDue, Answers, Called, MayAdopt, Adopted, ReadTurn}
+use Rattle.fsfs_turn.specs.declared.adoption.Adoption.{Adoption}
+use Rattle.fsfs_turn.specs.Learning.{PropsRead, FloorRead, CounterRead, Listed, MayMake, BenchMade, MayPurge, Purged, SpentPurged}
+use Rattle.fsfs_pass.specs.declared.seats.seat_view.Hand.TheVariants.{Empty}
+use Rattle.fsfs_pass.specs.declared.seats.seat_view.SeatView.{SeatView}
+use Rattle.fsfs_pass.specs.Seats.{view_of}
+use Rattle.fsfs_pass.specs.Met.{seat_store}
+use Rattle.fsfs_pass.specs.Tells.{Sat, At, TellsIt}
+use Rattle.fsfs_pass.specs.SeatCalls.Made.{Ended, went_of, risen, carried, failed_of, trace_of}
+
+-- the pass has the disk no more, and knows what else it knew, but for what a call tells
+abbrev pub IsBack : Bool → SeatView → SeatView → Type 0
+IsBack failed v u = u ≡ record v { pass = u.pass; seen = u.seen; section = u.section; given = u.given; hand = Empty; met = u.met; failures = risen failed v.failures }
+
+-- The pass gave the disk back, left so. What it tells of the files is later than what it told; and where the disk tells, P is the step.
+pub record GivenBack (P : View → Type 0) (failed : Bool) (trace : Option Trace) (v u : SeatView) : Type 0 where
+  pub back : IsBack failed v u
+  pub left : u.met ≡ trace
+  pub was : is_some v.met ≡ v.told
+  pub tells : TellsIt u
+  pub later : Later (seat_store v) (seat_store u)
+  pub step : v.told ≡ true → P (view_of u)
+
+abbrev pub Back : (Sat → View → Type 0) → At → Sat → ℕ → Sat → Type 0
+Back P st m found m' = (m'.1 ≡ []) × GivenBack (P m) (failed_of (carried m.1)) (trace_of (carried m.1)) m.0 m'.0
+
+-- ---- a call of its section
+
+abbrev pub CalledBy : Bool → View → View → Type 0
+CalledBy failed v u = (place : DiskPlace) (change : NameChange) → IsDue v place change → (went : Went) × Ended failed went × Called place went v u
+
+abbrev pub called_back : At → Sat → ℕ → Sat → Type 0
+called_back = Back (λ m u. CalledBy (failed_of (carried m.1)) (view_of m.0) u)
+
+-- ---- a read
+
+-- whatever was read: the file of a revision that the pass has seen, its properties, the floor
+pub record ReadBy (went : Went) (v u : View) : Type 0 where
+  pub bytes : (r offset size : ℕ) (x : Recorded) → slice_get v.seen r ≡ Some x → ReadTurn r offset size x went v u
+  pub properties : (r : ℕ) (x : Recorded) → slice_get v.seen r ≡ Some x → PropsRead r x went v u
+  pub floor : FloorRead v.pass.floor went v u
+
+abbrev pub read_back : At → Sat → ℕ → Sat → Type 0
+read_back = Back (λ m u. ReadBy (went_of (failed_of (carried m.1))) (view_of m.0) u)
+
+-- ---- a listing
+
+abbrev pub listed_back : At → Sat → ℕ → Sat → Type 0
+listed_back = Back (λ m u. (ls : List Label) → Listed ls (went_of (failed_of (carried m.1))) (view_of m.0) u)
+
+-- ---- a begin's first call
+
+-- the number in `txn-current` was read for this base; of numbers from 2^64 - 1 on the machine has no reading
+pub record DrawnBy (base : ℕ) (told : Option Trace) (went : Went) (v u : View) : Type 0 where
+  pub trace : Trace
+  pub told_is : told ≡ Some trace
+  pub text : List ℕ
+  pub number : ℕ
+  pub line : IsBase36Line text number
+  pub there : file_at trace (only_name TxnCurrent) ≡ Some text
+  pub turned : number < 2 ^ 64 - 1 → CounterRead base number went v u
+  pub full : 2 ^ 64 - 1 ≤ number → u ≡ v
+
+abbrev pub drawn_back : ℕ → At → Sat → ℕ → Sat → Type 0
+drawn_back base = Back (λ m u. DrawnBy base (trace_of (carried m.1)) (went_of (failed_of (carried m.1))) (view_of m.0) u)
+
+-- ---- a commit's first call
+
+-- it may put its revision file, for this transaction, with these properties, and with these bytes
+abbrev pub MayAdoptIt : View → Adoption → List ℕ → Type 0
+MayAdoptIt v a bytes = MayAdopt v a.txn a.properties a.next bytes
+
+-- the bytes get the name, as those of a new file or of one of a bench
+abbrev pub IsPutOf : List ℕ → List ℕ → NameChange → Type 0
+IsPutOf name bytes change = (change ≡ Put name bytes) ⊎ (change ≡ Adopt name bytes)
+
+abbrev pub AdoptedBy : Adoption → List ℕ → Bool → View → View → Type 0
+AdoptedBy a bytes failed v u = (went : Went) × Ended failed went × Adopted a.txn a.properties a.next bytes went v u
+
+abbrev pub adopted_back : Adoption → List ℕ → At → Sat → ℕ → Sat → Type 0
+adopted_back a bytes = Back (λ m u. AdoptedBy a bytes (failed_of (carried m.1)) (view_of m.0) u)
+
+-- as the call answers it
+abbrev pub AdoptedAs : {X E : Type 0} → Adoption → List ℕ → Result X E → View → View → Type 0
+AdoptedAs a bytes result v u = (went : Went) × Answers result went × Adopted a.txn a.properties a.next bytes went v u
+
+-- where nothing is told nothing is meant
+abbrev pub no_adoption : Adoption
+no_adoption = record { txn = record { name = 0; base = 0; tree = finmap.empty; marks = []; landings = 0 }; properties = []; next = record { tree = finmap.empty; changes = finmap.empty; properties = [] } }
+
+-- ---- a folder that wasn't made
+
+-- the call that is due failed before it reached the disk
+pub record Unmade (v u : View) : Type 0 where
+  pub call : (place : DiskPlace) (file bytes : List ℕ) → IsDue v place (Put file bytes) → Called place Before v u
+  pub first : (txn : Txn) (properties : List (List ℕ × List ℕ)) (next : Revision) (bytes : List ℕ) → MayAdopt v txn properties next bytes → Adopted txn properties next bytes Before v u
+
+abbrev pub unmade_back : At → Sat → ℕ → Sat → Type 0
+unmade_back = Back (λ m u. Unmade (view_of m.0) u)
+
+-- ---- labels
+
+abbrev pub BenchedBy : Bool → View → View → Type 0
+BenchedBy failed v u = (x : Drawn) → MayMake v x → (went : Went) × Ended failed went × BenchMade x went v u
+
+abbrev pub benched_back : At → Sat → ℕ → Sat → Type 0
+benched_back = Back (λ m u. BenchedBy (failed_of (carried m.1)) (view_of m.0) u)
+
+-- a label may be dropped: that of a transaction whose name the pass knows to be given
+abbrev pub MayDrop : View → Type 0
+MayDrop v = (name : ℕ) × (v.section ≡ None) × IsIn name v.given
+
+pub record PurgedBy (failed : Bool) (v u : View) : Type 0 where
+  pub under_way : (txn : Txn) → MayPurge v txn → (went : Went) × Ended failed went × Purged txn went v u
+  pub no_more : (name : ℕ) → v.section ≡ None → IsIn name v.given → (went : Went) × Ended failed went × SpentPurged name went v u
+
+-- the seat with so many failures of benches more
+abbrev pub counting : ℕ → SeatView → SeatView
+counting n v = record v { bench_failures = v.bench_failures + n }
+
+-- with a bench dropped whose calls failed so often
+abbrev pub purged_back : ℕ → At → Sat → ℕ → Sat → Type 0
+purged_back n st m found m' = Back (λ m u. PurgedBy (failed_of (carried m.1)) (view_of m.0) u) st (counting n m.0, m.1) found m'

@@ -1,0 +1,39 @@
+use Rattle.std.proofs.Common.{◌≡◌, false, ⊎_elim, refl}
+use Rattle.std.proofs.lemmas.Bool.{both_ways}
+use Rattle.std.proofs.lemmas.Result.{IfOk-weaker, IfErr-weaker}
+use Rattle.std.specs.Prelude.{option_map}
+use Rattle.fsfs_disk.specs.Labels.{with_label}
+use Rattle.fsfs_disk.specs.Trace.{labels_now}
+use Rattle.fsfs_disk.specs.Transactions.Txns.{pair_of, txn_label}
+use Rattle.fsfs_turn.specs.OwnedLemmas.{known_still}
+use Rattle.fsfs_turn.specs.Telling.{state_of}
+use Rattle.fsfs_begin.proofs.Reading.{either_way}
+use Rattle.fsfs_repo.proofs.Unlisted.{relabelled}
+use Rattle.fsfs_repo.proofs.Crashes.{survives}
+use Rattle.fsfs_repo.proofs.OwnedRepoUnlisted.{if_free}
+use Rattle.fsfs_repo.proofs.owned.repo.Repo.begin.Goals as goal
+
+-- nobody rests on the turns of an owned store
+pub begin_txn-back-requires : goal.begin_txn-back-requires
+begin_txn-back-requires g c = record { few = λ bound. absurd (both_ways false refl bound); due = λ bound. absurd (both_ways false refl bound) }
+
+pub returns-clause-begun : goal.returns-clause-begun
+returns-clause-begun g c = λ v known none.
+    IfOk-weaker c.begin_txn-back.result.1 _ _ (λ txn w. ⊎_elim (λ a. a) (λ past. absurd (past.1 refl)) w)
+    (c.begin_txn-back.ensures.alone (λ a b v same known. known_still (state_of a.layout a.young a.stuck (g.D.Disk.trace a.disk) (g.D.Disk.mount_path a.disk) (g.D.Disk.bench_faults a.disk)) (state_of b.layout b.young b.stuck (g.D.Disk.trace b.disk) (g.D.Disk.mount_path b.disk) (g.D.Disk.bench_faults b.disk)) v same known) v known none)
+
+pub returns-clause-refused : goal.returns-clause-refused
+returns-clause-refused g c = λ v known none.
+    IfErr-weaker c.begin_txn-back.result.1 _ _ (λ why w. either_way (λ a. a) (λ past. past.1 refl) w) (c.begin_txn-back.ensures.refused v known none)
+
+pub returns-clause-listed : goal.returns-clause-listed
+returns-clause-listed g c =
+    let old = option_map labels_now (g.D.Disk.trace c.args.self.turns.disk) in
+    let new = option_map labels_now (g.D.Disk.trace c.begin_txn-back.result.0.disk) in
+    IfOk-weaker c.begin_txn-back.result.1 _ (λ txn. new ≡ option_map (with_label (txn_label (pair_of txn.own.txn))) old) (λ txn w. relabelled false (with_label (txn_label (pair_of txn.own.txn))) old new refl w) c.begin_txn-back.ensures.listed
+
+pub returns-clause-unlisted : goal.returns-clause-unlisted
+returns-clause-unlisted g c = if_free c.begin_txn-back.result.1 _ c.begin_txn-back.ensures.unlisted
+
+pub returns-clause-crashes : goal.returns-clause-crashes
+returns-clause-crashes g c = λ u known. let turns = c.begin_txn-back.result.0 in survives turns.layout turns.young turns.stuck (g.D.Disk.trace turns.disk) u known

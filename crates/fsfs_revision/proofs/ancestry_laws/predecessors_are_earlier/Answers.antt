@@ -1,5 +1,0 @@
-use Rattle.fsfs_revision.proofs.Earlier.{predecessors_earlier}
-use Rattle.fsfs_revision.proofs.ancestry_laws.predecessors_are_earlier.Goals as goal
-
-pub returns : goal.returns
-returns c = predecessors_earlier

@@ -1,5 +1,0 @@
-use Rattle.fsfs_revision.proofs.Revisions.{shown_revisions}
-use Rattle.fsfs_revision.proofs.ancestry_laws.shown_trees_are_a_history.Goals as goal
-
-pub returns : goal.returns
-returns c = shown_revisions

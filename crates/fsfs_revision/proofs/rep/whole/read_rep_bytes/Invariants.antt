@@ -1,0 +1,19 @@
+use Rattle.std.proofs.Common.{◌≡◌, ◌≤◌, ◌-◌, ℕ, List, Some, Ok, Err, take}
+use Rattle.fsfs_revision.specs.declared.wrong.Refusal.{Refusal}
+use Rattle.fsfs_revision.specs.Told.{Keeps}
+use Rattle.fsfs_revision.specs.Rep.Frames.{rev_of, text_of}
+use Rattle.fsfs_revision.specs.Rep.Reading.{IsReading}
+use Rattle.fsfs_revision.proofs.rep.whole.read_rep_bytes.Given as goal
+
+-- the bytes so far are the first of the text
+abbrev pub invariant-pieces : goal.invariant-pieces
+invariant-pieces g l = record {
+  rep : l.reader.rep ≡ l.fn.rep;
+  read : (bytes : List ℕ) → (g.B.Book.told l.fn.book).revs (rev_of l.fn.rep) ≡ Some (Ok bytes) → IsReading l.reader bytes × (l.bytes.items ≡ take l.reader.done (text_of l.fn.rep bytes));
+  there : (why : Refusal) → (g.B.Book.told l.fn.book).revs (rev_of l.fn.rep) ≡ Some (Err why) → ⊥;
+  kept : Keeps (g.B.Book.told l.fn.book) (g.B.Book.told l.book);
+  later : g.B.Book.faults l.fn.book ≤ g.B.Book.faults l.book;
+}
+
+abbrev pub decreases-pieces : goal.decreases-pieces
+decreases-pieces g l = l.reader.rep.length - l.reader.done

@@ -1,5 +1,0 @@
-use Rattle.fsfs_revision.proofs.OneTree.{one_tree}
-use Rattle.fsfs_revision.proofs.shows_laws.one_tree_is_shown.Goals as goal
-
-pub returns : goal.returns
-returns c = one_tree

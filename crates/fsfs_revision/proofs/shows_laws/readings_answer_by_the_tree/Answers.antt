@@ -1,5 +1,0 @@
-use Rattle.fsfs_revision.proofs.ByTree.{by_tree}
-use Rattle.fsfs_revision.proofs.shows_laws.readings_answer_by_the_tree.Goals as goal
-
-pub returns : goal.returns
-returns c = by_tree

@@ -1,5 +1,0 @@
-use Rattle.fsfs_revision.proofs.TreeLaw.{sound}
-use Rattle.fsfs_revision.proofs.shows_laws.shown_trees_are_sound.Goals as goal
-
-pub returns : goal.returns
-returns c = sound

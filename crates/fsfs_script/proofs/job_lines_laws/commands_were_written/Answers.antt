@@ -1,5 +1,0 @@
-use Rattle.fsfs_script.proofs.LineTexts.{line_found}
-use Rattle.fsfs_script.proofs.job_lines_laws.commands_were_written.Goals as goal
-
-pub returns : goal.returns
-returns c = line_found

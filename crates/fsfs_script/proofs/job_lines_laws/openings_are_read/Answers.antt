@@ -1,5 +1,0 @@
-use Rattle.fsfs_script.proofs.OpeningTexts.{opening_again}
-use Rattle.fsfs_script.proofs.job_lines_laws.openings_are_read.Goals as goal
-
-pub returns : goal.returns
-returns c = opening_again

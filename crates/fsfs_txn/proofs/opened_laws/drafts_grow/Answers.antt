@@ -1,5 +1,0 @@
-use Rattle.fsfs_txn.proofs.Growing.{drafts_grow}
-use Rattle.fsfs_txn.proofs.opened_laws.drafts_grow.Goals as goal
-
-pub returns : goal.returns
-returns c = drafts_grow

@@ -1,5 +1,0 @@
-use Rattle.fsfs_txn_files.proofs.Longer.{read}
-use Rattle.fsfs_txn_files.proofs.proto_laws.appended_texts_are_read.Goals as goal
-
-pub returns : goal.returns
-returns c = read

@@ -1,5 +1,0 @@
-use Rattle.fsfs_txn_nodes.proofs.StepLemmas.{changes_tell}
-use Rattle.fsfs_txn_nodes.proofs.laws.changes_tell_the_folder.Goals as goal
-
-pub returns : goal.returns
-returns c = changes_tell

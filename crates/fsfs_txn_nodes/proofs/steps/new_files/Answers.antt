@@ -1,7 +1,0 @@
-use Rattle.fsfs_txn_nodes.proofs.Writing.{one_file, tells_new}
-use Rattle.fsfs_txn_nodes.proofs.steps.new_files.Goals as goal
-
-pub returns : goal.returns
-returns c =
-    tells_new c.args.node.now c.in_ok-file.file c.push.new.self.items c.id_fits.ensures c.in_ok-file.ensures
-    (one_file c.new-files.result.items c.push.new.self.items c.in_ok-file.file c.new-files.ensures.items c.in_ok-push.ensures.items)

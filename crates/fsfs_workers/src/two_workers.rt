@@ -1,0 +1,110 @@
+//! Two workers beside each other.
+ghost use Rattle.std.specs.Prelude.{◌≡◌, ◌<◌, ◌≤◌, [], length, true, is_some, IfOk, OnErr};
+ghost use Rattle.std.specs.Vec.{vec_capacity};
+ghost use Rattle.fsfs_job_run.specs.Workers.Lines.{dealt, disk_faults_in, RoseBy};
+ghost use Rattle.fsfs_job_run.specs.Serial.Jobs.{bench_faults_in};
+ghost use Rattle.fsfs_workers.specs.Ready.{IsAtRest, IsReady};
+ghost use Rattle.fsfs_workers.specs.Two.{BothWorked};
+ghost use Rattle.fsfs_workers.specs.OneWorker.{HasWorked};
+
+use crate::answers::{Rooms, in_order};
+use crate::share::Share;
+use crate::worker::work;
+use fsfs_base::{Gate, Note};
+use fsfs_disk::Disk;
+use fsfs_jobs::JobAnswer;
+use fsfs_layout::Layout;
+use fsfs_pass::{Board, SharedSeat, join, said_again, split};
+use fsfs_script::Job;
+use std::alloc::{AllocError, Global};
+use std::sync::Wait;
+use std::thread;
+use std::thread::Threads;
+
+// The first of two workers has the jobs 1, 3 and so on.
+const FIRST: Share = Share {
+    workers: 2,
+    before: 0,
+};
+
+// The second has the jobs 2, 4 and so on.
+const SECOND: Share = Share {
+    workers: 2,
+    before: 1,
+};
+
+/// Does jobs by two workers beside each other, one in a thread of its own; where none can be made, one after the other. The pass in this
+/// seat has the jobs 1, 3 and so on. A pass that is split from it, and joined into it again behind the last, has the others. The answers
+/// are in the order of the jobs. The room for them is taken first: an `Err` is for want of it, and then no job was done.
+pub fn do_beside<R: Threads + Wait + Sync, D: Disk + Drop + Send, G: Gate + Sync>(
+    rt: &R,
+    alloc: Global,
+    board: &Board<D>,
+    seat: SharedSeat<D>,
+    layout: Layout,
+    first: &Note<D>,
+    jobs: &[Job],
+    micros: u64,
+    gate: &G,
+) -> (SharedSeat<D>, Result<Vec<JobAnswer>, AllocError>)
+where
+    D::Bench: Send,
+    requires moment { micros ≤ 4102444799999999 }
+    requires sits { (seat.table_id ≡ board.now.shared.table_id) × (board.now.shared.table_id.words ≡ 3) × (board.now.shared.table_id.slots ≡ 1) × (seat.me.1 ≡ []) }
+    requires parts { 1 < seat.me.0.kin.parts }
+    requires ready { IsReady layout (is_some (D.trace first.now.value)) seat.me.0 }
+    // Where the disk tells: the lines of both hold of the one history, and each revision that they tell is the pass's own or the other's.
+    ensures did { seat.me.0.told ≡ true → IfOk result.1 (λ answers. BothWorked micros jobs.now answers.items seat.me.0 result.0.me.0) }
+    ensures each { IfOk result.1 (λ answers. length answers.items ≡ length jobs.now) }
+    // Whatever the disk tells: as many turns failed as lines tell of, and as many calls of benches.
+    ensures cause { IfOk result.1 (λ answers. RoseBy (disk_faults_in answers.items) seat.me.0.failures result.0.me.0.failures) }
+    ensures benches { IfOk result.1 (λ answers. RoseBy (bench_faults_in answers.items) seat.me.0.bench_failures result.0.me.0.bench_failures) }
+    ensures none { OnErr result.1 (result.0 ≡ seat) }
+    ensures sits { (result.0.table_id ≡ seat.table_id) × (result.0.me.1 ≡ []) }
+    ensures rests { IsAtRest result.0.me.0 }
+    // No part of the right to know that no other sits is lost.
+    ensures parts { result.0.me.0.kin.parts ≡ seat.me.0.kin.parts }
+    ensures duty { result.0.me.0.told ≡ seat.me.0.told }
+{
+    let Rooms {
+        first: firsts,
+        second: seconds,
+        both,
+    } = match Rooms::new(alloc, jobs.len()) {
+        Ok(rooms) => rooms,
+        Err(error) => return (seat, Err(error)),
+    };
+    let mut seat = seat;
+    let other = split(board, &mut seat);
+    let note = said_again(first);
+    let other_note = said_again(first);
+    let ((mut seat, firsts), (other, seconds)) = thread::join(
+        rt,
+        move || -> (SharedSeat<D>, Vec<JobAnswer>)
+            requires moment { micros ≤ 4102444799999999 }
+            requires room { (firsts.items ≡ []) × (length jobs.now ≤ vec_capacity firsts) }
+            requires sits { (seat.table_id ≡ board.now.shared.table_id) × (board.now.shared.table_id.words ≡ 3) × (board.now.shared.table_id.slots ≡ 1) × (seat.me.1 ≡ []) }
+            requires ready { IsReady layout (is_some (D.trace note.value)) seat.me.0 }
+            ensures worked { HasWorked micros (dealt 2 0 jobs.entry.now) result.1.items seat.me.0 result.0.me.0 }
+            ensures sits { (result.0.table_id ≡ seat.table_id) × (result.0.me.1 ≡ []) }
+        {
+            work(
+                rt, alloc, board, seat, layout, note, jobs, FIRST, micros, gate, firsts,
+            )
+        },
+        move || -> (SharedSeat<D>, Vec<JobAnswer>)
+            requires moment { micros ≤ 4102444799999999 }
+            requires room { (seconds.items ≡ []) × (length jobs.now ≤ vec_capacity seconds) }
+            requires sits { (other.table_id ≡ board.now.shared.table_id) × (board.now.shared.table_id.words ≡ 3) × (board.now.shared.table_id.slots ≡ 1) × (other.me.1 ≡ []) }
+            requires ready { IsReady layout (is_some (D.trace other_note.value)) other.me.0 }
+            ensures worked { HasWorked micros (dealt 2 1 jobs.entry.now) result.1.items other.me.0 result.0.me.0 }
+            ensures sits { (result.0.table_id ≡ other.table_id) × (result.0.me.1 ≡ []) }
+        {
+            work(
+                rt, alloc, board, other, layout, other_note, jobs, SECOND, micros, gate, seconds,
+            )
+        },
+    );
+    join(board, &mut seat, other);
+    (seat, Ok(in_order(firsts, seconds, both)))
+}
