@@ -50,9 +50,6 @@ base36_numeral n lt = last_digits_numeral 12 n lt
 pub numeral_base36 : (text : List ℕ) (n : ℕ) → n < 170581728179578208256 → IsNumeral 36 text n → text ≡ base36 n
 numeral_base36 text n lt w = numeral_same 36 (omega arith) (omega arith) text (base36 n) n w (base36_numeral n lt)
 
-pub appended_base36 : (old new : List ℕ) (n : ℕ) → n < 170581728179578208256 → AppendsNumeral 36 old new n → new ≡ old ++ base36 n
-appended_base36 old new n lt w = w.parts ∙ ap (λ (ds : List ℕ). old ++ ds) (numeral_base36 w.digits n lt w.numeral)
-
 -- numbers of one value are the same
 pub b36_same : (a b : B36) → a.number ≡ b.number → a ≡ b
 b36_same a b e = go b.number e b.small

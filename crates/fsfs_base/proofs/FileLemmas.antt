@@ -27,9 +27,6 @@ get_new m k v = get-insert nat_list_cmp_total m k v k ∙ at_same k (Some v) (ge
 pub get_kept : (m : Files) (k v q : List ℕ) → (q ≡ k → ⊥) → get (insert m k v) q ≡ get m q
 get_kept m k v q apart = get-insert nat_list_cmp_total m k v q ∙ at_other q k (Some v) (get m q) apart
 
-pub get_gone : (m : Files) (k : List ℕ) → get (remove m k) k ≡ None
-get_gone m k = get-remove nat_list_cmp_total m k k ∙ at_same k None (get m k)
-
 pub get_left : (m : Files) (k q : List ℕ) → (q ≡ k → ⊥) → get (remove m k) q ≡ get m q
 get_left m k q apart = get-remove nat_list_cmp_total m k q ∙ at_other q k None (get m q) apart
 

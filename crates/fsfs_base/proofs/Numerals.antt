@@ -313,9 +313,6 @@ numeral_push base (d ∷ ds) n c one some w is =
 pub digit-decimal : (d : ℕ) → d < 10 → digit (48 + d) ≡ d
 digit-decimal d lt = grind (arith, nat_tests)
 
-pub digit-letter : (d : ℕ) → 10 ≤ d → d < 36 → digit (97 + (d - 10)) ≡ d
-digit-letter d le lt = grind (arith, nat_tests)
-
 pub appends_one : (base n c : ℕ) (old new : List ℕ) → n < base → digit c ≡ n → new ≡ old ++ c ∷ [] → AppendsNumeral base old new n
 appends_one base n c old new lt is parts = record { digits = c ∷ []; numeral = subst (λ (k : ℕ). IsNumeral base (c ∷ []) k) is (numeral_one base c (omega (arith, is, lt))); parts = parts }
 

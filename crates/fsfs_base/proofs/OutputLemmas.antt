@@ -34,9 +34,6 @@ passed_on old new text before now (Ok x) s bad h p = cc
 passed_on old new text before now (Err e) (Ok x) bad h p = cc
 passed_on old new text before now (Err e) (Err f) bad h p = record { whole = tt; part = p.part; later = p.later; failed = p.failed }
 
-pub err_is_err : {E : Type 0} (r : Result (Unit {0}) E) (e : E) → r ≡ Err e → IsErr r
-err_is_err r e is = subst IsErr (sym is) refl
-
 -- a write failed after so many bytes
 pub printed_front : {E : Type 0} (old new : Option (List ℕ)) (text : List ℕ) (k before now : ℕ) (r : Result (Unit {0}) E) → IsErr r → Adds old new (take k text) → before ≤ now → Rose before now → Prints old new text before now r
 printed_front old new text k before now (Ok x) bad a le rose = cc

@@ -271,10 +271,6 @@ join_refusal above text bad fits e = rw (le-ltb 4096 (length (names_text above) 
 
 -- ---- a whole text
 
-pub not_absolute : (text : List ℕ) → ((rest : List ℕ) → text ≢ 47 ∷ rest) → IsBadPath text 0 NotAbsolute
-not_absolute [] none = (refl, refl)
-not_absolute (c ∷ text) none = rw (ne_eqb c 47 (λ e. none text (ap (λ (k : ℕ). k ∷ text) e))) (refl, refl)
-
 pub absolute : (path : Path) → (rest : List ℕ) × (path_text path ≡ 47 ∷ rest)
 absolute [] = ([], refl)
 absolute (x ∷ p) = (x ++ names_text p, refl)
@@ -303,9 +299,6 @@ joined_path above text path root w = go w.names (w.path_is ∙ ap (λ (p : Path)
 pub path_joined : (above : Path) (text : List ℕ) (path : Path) → above ≡ [] → text ≢ [] → IsPath path → path_text path ≡ 47 ∷ text → IsJoined above text path
 path_joined above text [] root some is e = absurd (some (let none : [] ≡ text = cc in sym none))
 path_joined above text (x ∷ p) root some is e = record { names = x ∷ p; path_is = ap (λ (q : Path). q ++ x ∷ p) (sym root); text_is = e; good = is.names; deep = is.deep; fits = is.fits }
-
-pub joined_refusal : (above : Path) (whole text : List ℕ) (at : ℕ) (why : PathFault) → above ≡ [] → whole ≡ 47 ∷ text → text ≢ [] → IsBadJoin above text at why → IsBadPath whole at why
-joined_refusal above whole text at why root e some bad = subst (λ (t : List ℕ). IsBadPath t at why) (sym e) (some, subst (λ (p : Path). IsBadJoin p text at why) root bad)
 
 -- ---- writing
 

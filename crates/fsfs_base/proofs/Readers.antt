@@ -625,18 +625,6 @@ except_reads {X} {n} {G} {r} k filled some reads = record {
     first_blocked [] is = tt
     first_blocked (b ∷ bs) is = λ g. let e = g.text.1 in absurd cc
 
-pub choice_all : {X : Type 0} {n : ℕ} {G H : List ℕ → X → Type 0} {r s : List ℕ → Result X ℕ} → (b : Bool) → ReadsAll n G r → ReadsAll n H s → ReadsAll n (Choice b G H) (λ bytes. cond b (r bytes) (s bytes))
-choice_all true first second = first
-choice_all false first second = second
-
-pub anything_reads : {X : Type 0} (x : X) (n : ℕ) → ReadsAll n (Anything x) (λ bytes. Ok x)
-anything_reads x n = record {
-  found = λ bytes y lt e. sym (ok_is x y e);
-  again = λ bytes y lt g. rw g refl;
-  fault = λ bytes left lt e. absurd cc;
-  some = record { more = []; value = x; text = refl };
-}
-
 pub mapped_all : {X Y : Type 0} {n : ℕ} {G : List ℕ → X → Type 0} {r : List ℕ → Result X ℕ} → (f : X → Y) → ReadsAll n G r → ReadsAll n (Mapped f G) (λ bytes. r bytes >>= λ x. Ok (f x))
 mapped_all {X} {Y} {n} {G} {r} f reads = record {
   some = let g = reads.some in record { more = g.more; value = f g.value; text = record { inner = g.value; inner_is = g.text; value_is = refl } };

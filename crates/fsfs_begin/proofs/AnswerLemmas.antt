@@ -57,12 +57,6 @@ decides_unread rose told NamesFull unread = absurd unread
 decides_unread rose told (DiskFault call) unread = decides_outside told (DiskFault call) tt
 decides_unread rose told Memory unread = absurd unread
 
-pub fails_unread : (rose : Type 0) (old new : Option Trace) (why : NameFault) → new ≡ old → IsUnread rose old why → NameFails rose old new why
-fails_unread rose old new (Small fault) same unread = (unread, same)
-fails_unread rose old new NamesFull same unread = absurd unread
-fails_unread rose old new (DiskFault call) same (r, at) = (r, subst (λ (k : BeginPlace). IsStopped k old new) (sym at) same)
-fails_unread rose old new Memory same unread = absurd unread
-
 pub fails_stopped : (rose : Type 0) (old new : Option Trace) (n : ℕ) (text : List ℕ) (call : BeginPlace) → rose → IfSome old (λ t. HasNumber (files_now t) n) → IsBase36Line text (n + 1) → StopsRaising call text old new
     → NameFails rose old new (DiskFault call)
 fails_stopped rose old new n text places.Read r has line at = absurd at

@@ -17,8 +17,6 @@ pub mod turn_purge;
 
 pub use begin_fault::BeginFault;
 pub use beginning::{Begun, begin};
-pub use drawing::next_name;
-pub use making::{BenchFault, begin_bench, fill};
+pub use making::{BenchFault, begin_bench};
 pub use name_fault::NameFault;
 pub use purging::purge;
-pub use root::first_root;

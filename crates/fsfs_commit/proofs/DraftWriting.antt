@@ -31,10 +31,6 @@ pub ok_then : {X E : Type 0} (r : Result X E) (P Q : Type 0) → (P → Q) → O
 ok_then (Ok x) P Q f p = f p
 ok_then (Err e) P Q f p = tt
 
-pub err_then : {X E : Type 0} (r : Result X E) (P Q : Type 0) → (P → Q) → OnErr r P → OnErr r Q
-err_then (Ok x) P Q f p = tt
-err_then (Err e) P Q f p = f p
-
 -- what was made last, where that is there
 pub held_text : {V : Type 0} (items : V → List ℕ) (o : Option V) (v : V) (more : List ℕ) → o ≡ Some v → option_map items o ≡ Some more → items v ≡ more
 held_text items o v more e w = same_Some (items v) more (sym (ap (option_map items) e) ∙ w)

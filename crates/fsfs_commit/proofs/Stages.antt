@@ -26,12 +26,6 @@ behind contents bytes o = HoldsBehind (contents o.txn.own.bench) (settled_in con
 pub if_open : {B : Type 0} {D : _} (s : Stage B D) (o : OpenTxn B D) (P : OpenTxn B D → Type 0) → s ≡ Open o → IfOpen s P → P o
 if_open s o P e w = subst (λ z. IfOpen z P) e w
 
-pub open_if : {B : Type 0} {D : _} (s : Stage B D) (o : OpenTxn B D) (P : OpenTxn B D → Type 0) → s ≡ Open o → P o → IfOpen s P
-open_if s o P e w = subst (λ z. IfOpen z P) (sym e) w
-
-pub ended_if : {B : Type 0} {D : _} (s : Stage B D) (e : EndedTxn B) (P : OpenTxn B D → Type 0) → s ≡ Ended e → IfOpen s P
-ended_if s e P is = subst (λ z. IfOpen z P) (sym is) tt
-
 pub of_ended : {B : Type 0} {D : _} (s : Stage B D) (e : EndedTxn B) (P : OpenTxn B D → Type 0) (Q : EndedTxn B → Type 0) → s ≡ Ended e → OfStage s P Q → Q e
 of_ended s e P Q is w = subst (λ z. OfStage z P Q) is w
 

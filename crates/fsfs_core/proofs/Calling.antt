@@ -109,9 +109,6 @@ pub call_is_barred : (w u : World) (p : ℕ) (place : DiskPlace) (went : Went) (
 call_is_barred w u p place went s o held is none found =
     ap (λ (v : World). did v outcome.Barred) (put_back w u p s held is) ∙ called_at w u p place went s None held is (sym none ∙ found)
 
-pub edit_none : (w : World) (t : ℕ) (edit : Edit) → length w.txns ≤ t → Edits w t edit (slice_get w.txns t) (did w outcome.Barred)
-edit_none w t edit le = subst (λ o. Edits w t edit o (did w outcome.Barred)) (sym (slice_get_past w.txns t le)) refl
-
 pub edit_refused : (w : World) (t : ℕ) (edit : Edit) (x : Txn) (h : List Revision) (o : Option (FinMap path_cmp Node × Mark)) → slice_get w.txns t ≡ Some x → h ≡ revisions w.history
     → o ≡ None → GivesEdit edit h x.tree o → Edits w t edit (slice_get w.txns t) (did w outcome.Barred)
 edit_refused w t edit x h o there here none gives =
@@ -190,9 +187,6 @@ dated_by properties text None b at found only is = ((λ t. let f : true ≡ fals
 abbrev pub Finds : List Revision → ℕ → Txn → List (List ℕ × List ℕ) → Option Revision → Type 0
 Finds h p x properties o = MatchOption o ((next : Revision) → IsDated properties → IsNext h (entry_of p x properties) next → ⊥) (λ next. IsDated properties × IsNext h (entry_of p x properties) next)
 
-pub next_past : (h : List Recorded) (p t : ℕ) (txns : List Txn) (properties : List (List ℕ × List ℕ)) → length txns ≤ t → AddsNext h p (slice_get txns t) properties None
-next_past h p t txns properties le = subst (λ z. AddsNext h p z properties None) (sym (slice_get_past txns t le)) refl
-
 pub next_at : {E : Type 0} (r : Result (Option Revision) E) (h : List Recorded) (read : List Revision) (p t : ℕ) (txns : List Txn) (x : Txn) (properties : List (List ℕ × List ℕ)) → slice_get txns t ≡ Some x → read ≡ revisions h
     → IfOk r (λ o. Finds read p x properties o) → IfOk r (λ o. AddsNext h p (slice_get txns t) properties o)
 next_at (Err _) h read p t txns x properties there here found = tt
@@ -207,11 +201,6 @@ next_within_at h p t txns (Some x) properties o next there is adds = slice_get_w
 
 pub next_within : (h : List Recorded) (p t : ℕ) (txns : List Txn) (properties : List (List ℕ × List ℕ)) (o : Option Revision) (next : Revision) → o ≡ Some next → AddsNext h p (slice_get txns t) properties o → t < length txns
 next_within h p t txns properties o next = next_within_at h p t txns (slice_get txns t) properties o next refl
-
-pub used_up : (w v : World) (p t : ℕ) (properties : List (List ℕ × List ℕ)) (revision : Revision) (bytes : List ℕ) (x : Txn) (coming : Coming) → slice_get w.txns t ≡ Some x
-    → coming ≡ record { entry = entry_of p x properties; revision = revision; bytes = bytes } → v ≡ record w { txns = without_place w.txns t; spent = w.spent ++ x.name ∷ [] }
-    → IsUsed w p t properties revision bytes (slice_get w.txns t) coming v
-used_up w v p t properties revision bytes x coming there comes left = subst (λ z. IsUsed w p t properties revision bytes z coming v) (sym there) (comes, left)
 
 pub adopts_none : (w : World) (p t : ℕ) (properties : List (List ℕ × List ℕ)) (bytes : List ℕ) (went : Went) (z : Option Txn) (o : Option Revision)
     → o ≡ None → AddsNext w.history p z properties o → AdoptsTxn w p t properties bytes went z (did w outcome.Barred)

@@ -88,14 +88,6 @@ same_list es new is = record {
   count = ap (λ (l : List DirEntry). length l) is;
 }
 
--- a changed list in another form
-pub changed_same : (old between new : List DirEntry) (name : PathName) (e : Option DirEntry) → IsChangedList old between name e → IsSameList between new → IsChangedList old new name e
-changed_same old between new name e c s = record {
-  put = λ y. s.alike y ∙ c.put y;
-  keeps = λ also all this. s.keeps also (c.keeps also all this);
-  count = (let h = c.count in let g = s.count in omega (arith, h, g));
-}
-
 -- ---- a branch
 
 -- a name whose hash is below the number is looked for on the low side

@@ -50,10 +50,6 @@ pub rep_le : (home : RevOffset) (rev : Option ℕ) (offset : ℕ) → rep_place_
 rep_le home None offset h = absurd cc
 rep_le home (Some rev) offset h = before_le rev offset home h
 
-pub rep_named : (home : RevOffset) (rev : Option ℕ) (offset : ℕ) → rep_place_before home rev offset ≡ true → IsSome rev
-rep_named home None offset h = absurd cc
-rep_named home (Some rev) offset h = refl
-
 -- what is read of the representation that a node-revision has
 pub contents_some : {B Y : Type 0} (seen : B → Y) (result : Result B ReadError) (nothing : Y) (R : Rep → Result Y Wrong → Type 0) (k : Option Contents) (rep : Rep)
     → k ≡ Some (contents.At rep) → Answers seen (R rep) result → Answers seen (OfContents nothing R k) result

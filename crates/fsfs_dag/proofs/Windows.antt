@@ -255,9 +255,6 @@ root_own at v h = (and_parts (is_own_place at v.id.place) (is_directory v.kind) 
 pub placed_root : (at : RevOffset) (v : NodeRev) → is_root at v ≡ true → is_ordered at v ≡ true → is_ordered (offset_of v.id.place) v ≡ true
 placed_root at v root h = subst (λ (a : RevOffset). is_ordered a v ≡ true) (sym (own_place at v (root_own at v root))) h
 
-pub placed_named : (id : NodeId) (at : RevOffset) (v : NodeRev) → at ≡ offset_of id.place → v.id ≡ id → is_ordered at v ≡ true → is_ordered (offset_of v.id.place) v ≡ true
-placed_named id at v is same h = subst (λ (a : RevOffset). is_ordered a v ≡ true) (is ∙ ap (λ (n : NodeId). offset_of n.place) (sym same)) h
-
 -- what is read at one place is read at another that is the same
 pub along : (P : RevOffset → Type 0) (a b : RevOffset) → a ≡ b → P a → P b
 along P a b e h = subst P e h

@@ -145,14 +145,6 @@ keeps_rename from to P old new h at all =
     let stable : (t : Trace) → old ≡ Some t → Stable (Rename from to) P t = λ t e. stable_rename from to P t (h t e) (all_of P old t e all) in
     (all_at (Rename from to) P old new at all stable, leaves_at (Rename from to) P old new at stable)
 
-stable_remove : (name : List ℕ) (P : Files → Type 0) → ((m : Files) → P m → P (remove m name)) → (t : Trace) → ((m : Files) → IsImage t.first t.operations m → P m) → Stable (Remove name) P t
-stable_remove name P h t all = (λ m left. ⊎_elim (all m) (λ w. subst P (sym w.2) (h w.0 (all w.0 w.1))) left, λ m torn. absurd torn)
-
-pub keeps_remove : (name : List ℕ) (P : Files → Type 0) (old new : Option Trace) → ((m : Files) → P m → P (remove m name)) → FailsAt (Remove name) old new → KeepsImages old new P
-keeps_remove name P old new h at all =
-    let stable : (t : Trace) → old ≡ Some t → Stable (Remove name) P t = λ t e. stable_remove name P h t (all_of P old t e all) in
-    (all_at (Remove name) P old new at all stable, leaves_at (Remove name) P old new at stable)
-
 -- labels are no files
 pub keeps_label : (l : Label) (P : Files → Type 0) (old new : Option Trace) → FailsAt (KeepLabel l) old new → KeepsImages old new P
 keeps_label l P old new at all =

@@ -6,20 +6,6 @@ use Rattle.fsfs_base.specs.Grammar.Relations.{GoesOn, IsFaultAt}
 use Rattle.fsfs_disk.specs.Fronts.{IsFrontOf}
 use Rattle.fsfs_disk.specs.WholeFiles.FirstBytes.{first_of, IsShorter}
 
--- as many as were asked for
-pub first_full : (file : Option (List ℕ)) (items : List ℕ) (most : ℕ) → 0 < most → IsFrontOf items file → length items ≡ most → Some items ≡ first_of most file
-first_full None items most some front size = absurd (omega (arith, some, size, ap length front))
-first_full (Some bytes) items most some front size = ap (λ (b : List ℕ). Some b) (front ∙ ap (λ (k : ℕ). take k bytes) size)
-
--- the whole file, which has no more
-pub first_all : (file : Option (List ℕ)) (items : List ℕ) (most : ℕ) → Some items ≡ file → length items ≤ most → Some items ≡ first_of most file
-first_all file items most is le =
-    let P : Option (List ℕ) → Type 0 = λ f. Some items ≡ first_of most f in
-    subst P is (ap (λ (b : List ℕ). Some b) (sym (take_all most items le)))
-
-pub first_none : (file : Option (List ℕ)) (most : ℕ) → None ≡ file → None ≡ first_of most file
-first_none file most is = ap (first_of most) is
-
 pub all_of_short : (most : ℕ) (text : List ℕ) → length (take most text) < most → take most text ≡ text
 all_of_short most text lt = take_all most text (omega (arith, length-take most text, lt))
 

@@ -116,10 +116,6 @@ pub record AreRemoved (txns : List (ℕ × ℕ)) (old new : Option Trace) : Type
   pub labels : HasLabels (labels_left txns) old new
   pub all : IfSome old (λ t. first_lacking txns (labels_now t) ≡ None)
 
-pub removed_none : (old : Option Trace) → AreRemoved [] old old
-removed_none None = record { labels = refl; all = tt }
-removed_none (Some t) = record { labels = refl; all = refl }
-
 -- what a disk tells whose labels are made of others
 told : (left : List Label → List Label) (t : Trace) (mid : Option Trace) → HasLabels left (Some t) mid → (u : Trace) × (mid ≡ Some u) × (labels_now u ≡ left (labels_now t))
 told left t None has = absurd (none-some (left (labels_now t)) has)

@@ -13,14 +13,6 @@ pub left_now : (n : ℕ) (first : Files) (labels : List Label) (operations : Lis
 left_now n first labels [] m ls image left = (image, left)
 left_now n first labels (operation ∷ operations) m ls image left = inl (image, left)
 
--- what is left has an image of its moment
-pub left_shows_image : (n : ℕ) (first : Files) (labels : List Label) (operations : List Operation) (m : Files) (ls : List Label)
-    → LeftSince n first labels operations m ls → ImageSince n first operations m
-left_shows_image n first labels [] m ls left = left.0
-left_shows_image n first labels (operation ∷ operations) m ls left =
-    ⊎_elim (λ now. inl now.0)
-    (λ before. inr (before.0, ⊎_elim (λ amid. ⊎_elim (λ i. inl i) (λ t. inr (inl t)) amid.0) (λ e. inr (inr (left_shows_image n first labels operations m ls e))) before.1)) left
-
 pub both_none : (t : Trace) (P : Files → List Label → Type 0) → LeavesBothOnly t t P
 both_none t P = record { later = omega arith; each = λ n m ls le left. inl left }
 

@@ -35,12 +35,6 @@ publish_leaves l name text old mid named new kept ended dropped =
     (keeps_then old mid new P (keeps_label l P old mid kept)
     (keeps_then mid named new P (ends_keeps name text P mid named (closed name text old) ended) (keeps_no_label l P named new dropped)) (starts name text old)).1
 
--- where no bench could be made
-pub refused_leaves : (l : Label) (name text : List ℕ) (old mid new : Option Trace) → FailsAt (KeepLabel l) old mid → FailsAt (DropLabel l) mid new → Leaves old new (IsOldOrNew name text old)
-refused_leaves l name text old mid new kept dropped =
-    let P = λ (m : Files). IsOldOrNew name text old m in
-    (keeps_then old mid new P (keeps_label l P old mid kept) (keeps_no_label l P mid new dropped) (starts name text old)).1
-
 -- nothing was named
 pub ends_same : (name text : List ℕ) (old new : Option Trace) → new ≡ old → EndsNaming name text old new
 ends_same name text old new same = (old, inl refl, inl same)
@@ -56,10 +50,6 @@ publish_firm l name text mid named new is dropped = (keeps_no_label l (λ m. get
 named_files : (name text : List ℕ) (l : Label) (old mid : Option Trace) → Performs (KeepLabel l) old mid → option_map files_now (option_map (after_naming name text) mid) ≡ option_map (λ t. insert (files_now t) name text) old
 named_files name text l None mid kept = ap (λ o. option_map files_now (option_map (after_naming name text) o)) kept
 named_files name text l (Some t) mid kept = ap (λ o. option_map files_now (option_map (after_naming name text) o)) kept
-
-pub publish_files : (l : Label) (name text : List ℕ) (old mid named new : Option Trace) → Performs (KeepLabel l) old mid → named ≡ option_map (after_naming name text) mid
-    → option_map files_now new ≡ option_map files_now named → option_map files_now new ≡ option_map (λ t. insert (files_now t) name text) old
-publish_files l name text old mid named new kept is same = same ∙ ap (λ o. option_map files_now o) is ∙ named_files name text l old mid kept
 
 -- the label is gone
 pub label_gone : (l : Label) (old new : Option Trace) (there : Bool) → IfSome old (λ t. there ≡ has_label l (labels_now t)) → PerformsIfThere there (DropLabel l) old new → IfSome new (λ t. has_label l (labels_now t) ≡ false)

@@ -28,17 +28,6 @@ ended_if_there change old new (Ok true) done failed = inr (inr done)
 ended_if_there change old new (Ok false) done failed = inl done
 ended_if_there change old new (Err e) done failed = failed
 
--- an adopted file is there
-pub file_at-adopt : (old new : Option Trace) (name bytes : List ℕ) → Performs (Adopt name bytes) old new → IfSome new (λ t. file_at t name ≡ Some bytes)
-file_at-adopt None new name bytes performed = subst (λ o. IfSome o (λ t. file_at t name ≡ Some bytes)) (sym performed) tt
-file_at-adopt (Some t) new name bytes performed = subst (λ o. IfSome o (λ u. file_at u name ≡ Some bytes)) (sym performed) (get_new (files_now t) name bytes)
-
--- a label that was dropped is no change of the files
-pub files-dropped : (l : Label) (old new : Option Trace) (there : Bool) → PerformsIfThere there (DropLabel l) old new → option_map files_now new ≡ option_map files_now old
-files-dropped l None new true performed = ap (λ o. option_map files_now o) performed
-files-dropped l (Some t) new true performed = ap (λ o. option_map files_now o) performed
-files-dropped l old new false same = ap (λ o. option_map files_now o) same
-
 pub fails_to_adopt : (change : NameChange) (old new : Option Trace) (without : Files → Files) (held left : Option Files) → FailsToAdopt change old new without held left → FailsAt change old new
 fails_to_adopt change old new without held left failed = ⊎_elim (λ w. ⊎_elim (λ e. inl e) (λ a. inr (inl a)) w.0) (λ w. inr (inr w.0)) failed
 

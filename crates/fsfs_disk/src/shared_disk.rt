@@ -61,13 +61,6 @@ impl<D: Disk> SharedDisk<D> {
         let _disk = &self.disk;
     }
 
-    /// As if its last call had been done.
-    pub fn forgive(&mut self)
-        ensures { self.new ≡ record self.old { failed = false } }
-    {
-        self.failed = false;
-    }
-
     /// Fills the buffer from an offset on, as far as the file goes. `None`: there is no such file.
     pub fn read(
         &mut self,

@@ -84,10 +84,6 @@ last_same (z ∷ p) (w ∷ q) x y e =
     let tail : p ++ x ∷ [] ≡ q ++ y ∷ [] = cc in
     λ i. head i ∷ last_same p q x y tail i
 
-longer_than : (p : Path) (x : PathName) → p ++ x ∷ [] ≡ p → ⊥
-longer_than [] x e = absurd cc
-longer_than (z ∷ p) x e = longer_than p x (let tail : p ++ x ∷ [] ≡ p = cc in tail)
-
 not_empty : (s t : Path) → (t ≡ [] → ⊥) → s ++ t ≡ [] → ⊥
 not_empty [] t n e = n e
 not_empty (y ∷ s) t n e = absurd cc

@@ -96,9 +96,6 @@ blocked_at tree front name rest p depth parts deep has = subst (λ (t : Path). I
 pub pushed : (front : Path) (name : PathName) (depth : ℕ) → depth ≡ length front → depth + 1 ≡ length (front ++ name ∷ [])
 pushed front name depth deep = let h = length_push front name in omega (arith, h, deep)
 
-found_node : {A B : Type 0} (f : A → B) (x : A) → option_map f (Some x) ≡ Some (f x)
-found_node f x = refl
-
 module _ (look : RevisionBytes) (top base : ℕ) (trees : ℕ → TreeFunction) (shown : ShowTrees look top trees) (le : base ≤ top) (txn : TxnName) (f : Folder) (own : Own) (draft : IsDraft look top base txn f own)
     (path : Path) (u : NodeRev) (at : IsLastingAt look trees base own path u) where
   abbrev Stands : Path → NodeRev → Type 0

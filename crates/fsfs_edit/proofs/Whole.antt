@@ -51,13 +51,6 @@ pub settle_fails : (e : OwnError) (P Q : Type 0) → (P → Q) → IfMemory e P 
 settle_fails owns.OutOfMemory P Q g h = g h
 settle_fails owns.BenchFault P Q g h = tt
 
-pub want_fails : (e : EditError) (P : Type 0) → (P → ⊥) → IsWant e P → IsFailure e
-want_fails errors.BenchFault P g h = tt
-want_fails errors.OutOfMemory P g h = tt
-want_fails errors.DiskFault P g h = tt
-want_fails (errors.Wrong w) P g h = h
-want_fails errors.Lacking P g h = g h
-
 -- ---- what the flat model accepts
 
 root_more : (p : Path) (x : PathName) → is_root (p ++ x ∷ []) ≡ false

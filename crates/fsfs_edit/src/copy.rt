@@ -4,9 +4,9 @@ ghost use Rattle.fsfs_revision.specs.Told.{Keeps};
 ghost use Rattle.fsfs_edit.specs.Copying.{IsSource, FindsSource, CopiesIn, CopiesFree, MeetsCopy};
 ghost use Rattle.fsfs_draft.specs.Causes.{HasDiskCause, HasBenchCause};
 
+use crate::dag_edits::copied::{copy_to, same_source};
 use crate::items::added;
 use crate::way::{Target, opened_to, way_to};
-use crate::{copy_to, same_source};
 use fsfs_base::{FsPath, RevNum};
 use fsfs_dag::{Met, PlacedNode, node_at};
 use fsfs_draft::{EditError, Own, room_in};

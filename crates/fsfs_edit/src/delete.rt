@@ -4,8 +4,8 @@ ghost use Rattle.fsfs_revision.specs.Told.{Keeps};
 ghost use Rattle.fsfs_edit.specs.Deleting.{IsDeletedId, DeletesIn, MeetsDelete};
 ghost use Rattle.fsfs_draft.specs.Causes.{HasDiskCause, HasBenchCause};
 
+use crate::dag_edits::deleted::take_away;
 use crate::items::deleted;
-use crate::take_away;
 use crate::way::{Target, opened_to, way_to};
 use fsfs_base::FsPath;
 use fsfs_draft::{Child, EditError, Own, Step};

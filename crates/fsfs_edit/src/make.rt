@@ -4,8 +4,8 @@ ghost use Rattle.fsfs_revision.specs.Told.{Keeps};
 ghost use Rattle.fsfs_edit.specs.Making.{MakesIn, MeetsMake};
 ghost use Rattle.fsfs_draft.specs.Causes.{HasDiskCause, HasBenchCause};
 
+use crate::dag_edits::made::make_node;
 use crate::items::added;
-use crate::make_node;
 use crate::way::{Target, opened_to, way_to};
 use fsfs_base::{FsPath, Kind};
 use fsfs_draft::{EditError, Own, room_in};

@@ -10,7 +10,7 @@ ghost use Rattle.fsfs_draft.specs.Walks.{IsAt, HasKind};
 ghost use Rattle.fsfs_edit.specs.Ways.{IsTarget, LooksAt, Finds, Opens};
 ghost use Rattle.fsfs_draft.specs.Causes.{HasDiskCause, HasBenchCause};
 
-use crate::bubble_up;
+use crate::dag_edits::path_mutable::bubble_up;
 use fsfs_base::{FsPath, Kind};
 use fsfs_draft::{Child, EditError, Found, Own, Step, met, next, root_id};
 use fsfs_noderev::NodeId;

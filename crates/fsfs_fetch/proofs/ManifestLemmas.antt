@@ -39,24 +39,8 @@ pub refused_ok : {X : Type 0} (r : Result X SmallFault) (x : X) → refused r �
 refused_ok (Ok y) x e = let same : y ≡ x = cc in ap (λ z. Ok z) same
 refused_ok (Err f) x e = cc
 
-offsets_same : (offsets : List ℕ) (r : Result (List ℕ) SmallFault) → are_offsets offsets r ≡ true → r ≡ Ok offsets
-offsets_same offsets (Ok found) e = ap (λ (xs : List ℕ). Ok xs) (sym (same_text offsets found (sym e)))
-offsets_same offsets (Err f) e = cc
-
 pub same_offsets : (offsets : List ℕ) (r : Result (List ℕ) SmallFault) → r ≡ Ok offsets → are_offsets offsets r ≡ true
 same_offsets offsets r e = ap (are_offsets offsets) e ∙ nat_list_eq_equiv.refl offsets
-
-kept_ok : (n : Layout) (m : Files) (kept : Option KeptManifest) (rev shard : ℕ) → fits n m kept rev ≡ true → shard_of n rev ≡ shard → keeps_shard kept shard ≡ true → manifest_in n m shard ≡ Ok (kept_offsets kept)
-kept_ok n m None rev shard fit e is = cc
-kept_ok n m (Some kept) rev shard fit e is =
-    let here : (kept.shard == shard_of n rev) ≡ true = ap (λ k. kept.shard == k) e ∙ is in
-    let P : Bool → Type 0 = λ b. cond b (are_offsets kept.offsets.items (manifest_in n m (shard_of n rev))) true ≡ true in
-    let found : manifest_in n m (shard_of n rev) ≡ Ok kept.offsets.items = offsets_same kept.offsets.items (manifest_in n m (shard_of n rev)) (subst P here fit) in
-    let Q : ℕ → Type 0 = λ k. manifest_in n m k ≡ Ok kept.offsets.items in
-    subst Q e found
-
-pub kept_told : {B : Type 0} (view : View B) (kept : Option KeptManifest) (rev : ℕ) (m : Files) (shard : ℕ) → IsPackedAt view kept rev m → shard_of view.layout rev ≡ shard → keeps_shard kept shard ≡ true → refused (manifest_in view.layout m shard) ≡ Ok (kept_offsets kept)
-kept_told view kept rev m shard p e is = ap refused (kept_ok view.layout m kept rev shard p.fits e is)
 
 if_other : (b test : Bool) → (b ≡ true → test ≡ true) → cond b test true ≡ true
 if_other true test f = f refl

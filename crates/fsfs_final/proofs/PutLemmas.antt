@@ -54,32 +54,3 @@ end_put start root changes old a b c new text items at is first second third fou
 root_fits : (n : ℕ) (root : Option CopyRoot) → FitsRoot root → FitsRoot (final_root n root)
 root_fits n None h = tt
 root_fits n (Some root) h = h
-
--- a finished node-revision has the paths that it had
-pub finished_text : (n o : ℕ) (text props : Option Contents) (u v : NodeRev) → v ≡ finish n o text props u → HasText u → HasText v
-finished_text n o text props u v e h = subst HasText (sym e) (record { created_path = h.created_path; copy_from = h.copy_from; copy_root = root_fits n u.copy_root h.copy_root })
-
-pub node_put : (n start o : ℕ) (old mid front new lines : List ℕ) (u v : NodeRev) (entries props : Option Pairs) (text set : Option Contents) → AreContentsPut n start old mid u.text entries text → AreContentsPut n start mid front u.props props set
-    → o ≡ start + length front → v ≡ finish n o text set u → IsNodeRev lines v → length lines ≤ 65536 → new ≡ front ++ lines → IsNodePut n start old new u entries props v
-node_put n start o old mid front new lines u v entries props text set first second at e is short added =
-    let text_is : v.text ≡ text = ap (λ (x : NodeRev). x.text) e in
-    let set_is : v.props ≡ set = ap (λ (x : NodeRev). x.props) e in
-    record {
-      mid = mid;
-      front = front;
-      lines = lines;
-      text_put = subst (λ (x : Option Contents). AreContentsPut n start old mid u.text entries x) (sym text_is) first;
-      props_put = subst (λ (x : Option Contents). AreContentsPut n start mid front u.props props x) (sym set_is) second;
-      finished = e ∙ ap (λ (k : ℕ). finish n k text set u) at ∙ ap (λ (x : Option Contents). finish n (start + length front) x set u) (sym text_is) ∙ ap (λ (x : Option Contents). finish n (start + length front) v.text x u) (sym set_is);
-      is = is;
-      short = short;
-      added = added;
-    }
-
-pub value_put : (kind : Kind) (id : NodeId) (old new : List ℕ) → old ≡ kind_word kind → Appends IsId old new (id_value id) → is_revision_id id ≡ true → IsEntryValue new kind id
-value_put kind id old new first second lasting = record {
-  id_text = second.text;
-  id_is = second.text_is;
-  parts = second.parts ∙ ap (λ (x : List ℕ). x ++ second.text) first;
-  lasting = lasting;
-}

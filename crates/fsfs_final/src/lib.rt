@@ -24,8 +24,6 @@ pub use pieces::ending::put_end;
 pub use pieces::laws::{
     draft_texts_stand_before, put_ends_are_read, put_lists_are_framed, put_nodes_are_laid,
 };
-pub use pieces::lists::put_list;
-pub use pieces::naming::{final_entries, name_final};
-pub use pieces::nodes::put_node;
+pub use pieces::naming::name_final;
 pub use write_final::put_all;
 pub use write_final_laws::puts_lay;

@@ -6,7 +6,8 @@ ghost use Rattle.fsfs_final.specs.Pieces.Naming.{ids_of};
 ghost use Rattle.fsfs_final.specs.Order.Orders.{last_first};
 ghost use Rattle.fsfs_final.specs.Putting.{IsFinalList, IsNextPut, ArePut, IsOnePast, no_ids};
 
-use crate::{final_entries, put_node};
+use crate::pieces::naming::final_entries;
+use crate::pieces::nodes::put_node;
 use fsfs_base::{FsPath, Pairs, RevNum};
 use fsfs_dag::entry_pairs;
 use fsfs_draft::KeptNode;

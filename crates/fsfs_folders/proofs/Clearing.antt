@@ -36,27 +36,6 @@ cleared_more names name (Some r) (Some s) (Some t) before sets = λ q.
     (λ o. let same : file_held t q ≡ file_held s q = sets q ∙ ap (λ b. cond b None (file_held s q)) o.1 in
     ⊎_elim (λ none. inl (same ∙ none)) (λ left. inr (has_more names name q left.0 o.1, same ∙ left.1)) (before q)) (text_cases q name)
 
--- where these were all, nothing is left
-pub nothing_left : (names : List (List ℕ)) (old new : Option CallRecord) → IfSome old (λ r. IsListOf (has_file (names_now r)) [] names) → Clears names old new → IfSome new HoldsNothing
-nothing_left names None new list clears = subst (λ o. IfSome o HoldsNothing) (sym clears) tt
-nothing_left names (Some r) None list clears = absurd clears
-nothing_left names (Some r) (Some s) list clears = λ q. ⊎_elim (λ none. none) (λ left. left.1 ∙ was q left.0 (file_held r q) refl) (clears q)
-  where
-    was : (q : List ℕ) → has_path names q ≡ false → (o : Option Contents) → file_held r q ≡ o → file_held r q ≡ None
-    was q lacks None e = e
-    was q lacks (Some file) e =
-        let n = held_number r q file e in
-        let h : true ≡ false = sym (list.all q n.0 (ap is_some n.1.1)) ∙ lacks in cc
-
-pub tells_still : (names : List (List ℕ)) (old new : Option CallRecord) → Clears names old new → is_some new ≡ is_some old
-tells_still names None new clears = ap is_some clears
-tells_still names (Some r) None clears = absurd clears
-tells_still names (Some r) (Some s) clears = refl
-
-pub list_there : {T E : Type 0} (P : CallRecord → T → Type 0) (old : Option CallRecord) (result : Result T E) (x : T) → result ≡ Ok x → IfSome old (λ r. IfOk result (P r)) → IfSome old (λ r. P r x)
-list_there P None result x is h = tt
-list_there P (Some r) result x is h = subst (λ y. IfOk y (P r)) is h
-
 -- a bench with nothing in it tells no files
 pub empty_told : (part old : Option CallRecord) → IfSome part HoldsNothing → is_some part ≡ is_some old → bench_told part ≡ option_map (λ _. empty) (told old)
 empty_told None None none tells = refl

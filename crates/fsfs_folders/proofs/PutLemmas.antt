@@ -59,13 +59,6 @@ made_synced (Ok x) path bytes number a b c d makes is wrote done failed = (b, in
 made_synced (Err e) path bytes number a b c d makes is wrote done failed =
     (b, inr makes, ⊎_elim (λ same. subst (λ o. IsQuiet b o) (sym same) (made_quiet path bytes number a b c makes is wrote)) (λ does. quiet_then b c d (made_quiet path bytes number a b c makes is wrote) (quiet_fail number c d does)) failed)
 
-pub sound_written : (path : List ℕ) (old new : Option CallRecord) (changed : List (List ℕ)) (settled : Bool) → is_apart path ≡ true → has_path changed (folder_of path) ≡ true → MakesQuietly path old new
-    → is_sound old changed settled ≡ true → is_sound new changed settled ≡ true
-sound_written path old new changed settled apart has made e = sound_quiet made.0 new changed settled made.2 (sound_created path old made.0 changed settled apart has made.1 e)
-
-pub told_written : (path : List ℕ) (old new : Option CallRecord) → MakesQuietly path old new → told new ≡ told old
-told_written path old new made = told_quiet made.0 new made.2 ∙ told_created path old made.0 made.1
-
 -- made, written and synced
 pub written_beside : (path bytes : List ℕ) (number : ℕ) (a b c d : Option CallRecord) → Makes (Create path) a b → IfSome a (λ r. number ≡ new_number r)
     → Writes number bytes b c → Does (SyncFile number) c d → IfSome d (λ s. IsWritten s path bytes)
@@ -99,16 +92,6 @@ pub written_bytes : (calls : Option CallRecord) (path bytes : List ℕ) → IfSo
 written_bytes None path bytes w r e = absurd (none-some r e)
 written_bytes (Some s) path bytes w r e = ap (λ o. unwrap_or (option_map (bytes_after s.first s.calls) o) []) w.has ∙ w.whole
 
-pub written_whole : (calls : Option CallRecord) (path bytes : List ℕ) → length bytes ≤ 2 ^ 62 → IfSome calls (λ r. IsWritten r path bytes) → IfSome calls (λ r. IsWholeAt r path)
-written_whole None path bytes short w = tt
-written_whole (Some r) path bytes short w = (
-  w.number,
-  w.has,
-  and_from ((contents_now r w.number).firm == length (contents_now r w.number).bytes) (nat_le (length (contents_now r w.number).bytes) (2 ^ 62))
-      (eq-eqb (contents_now r w.number).firm (length (contents_now r w.number).bytes) w.firm)
-      (le-leb (length (contents_now r w.number).bytes) (2 ^ 62) (omega (arith, short, ap length w.whole))),
-)
-
 -- a path may get a file, where the folders are firm
 pub may_place : (path : List ℕ) (r : CallRecord) (changed : List (List ℕ)) (settled : Bool) → is_apart path ≡ false → settled ≡ true → is_sound (Some r) changed settled ≡ true
     → is_reachable (names_now r).folders path ≡ true → is_place r.first r.calls path ≡ true
@@ -125,32 +108,6 @@ may_give beside path (Some r) changed settled plain is_settled sound whole = λ 
     (may_place path r changed settled plain is_settled sound allows.0)
     (and_from (is_some ((names_now r).files beside)) (not (is_apart beside) || is_whole_file r.first r.calls ((names_now r).files beside)) allows.1
     (or_right (not (is_apart beside)) (is_whole_file r.first r.calls ((names_now r).files beside)) (ap (λ o. is_whole_file r.first r.calls o) whole.1 ∙ whole.2)))
-
--- a file of the repository may get another name
-pub may_rename : (from to : List ℕ) (calls : Option CallRecord) (changed : List (List ℕ)) (settled : Bool) → is_apart from ≡ false → is_apart to ≡ false → settled ≡ true
-    → is_sound calls changed settled ≡ true → IfSome calls (λ r. Allows (names_now r) (system.Rename from to) → is_naming r.first r.calls from to ≡ true)
-may_rename from to None changed settled from_plain to_plain is_settled sound = tt
-may_rename from to (Some r) changed settled from_plain to_plain is_settled sound = λ allows.
-    and_from (is_place r.first r.calls to) (is_some ((names_now r).files from) && (not (is_apart from) || is_whole_file r.first r.calls ((names_now r).files from)))
-    (may_place to r changed settled to_plain is_settled sound allows.0)
-    (and_from (is_some ((names_now r).files from)) (not (is_apart from) || is_whole_file r.first r.calls ((names_now r).files from)) allows.1
-    (ap (λ b. b || is_whole_file r.first r.calls ((names_now r).files from)) (not_from_false (is_apart from) from_plain)))
-
--- what is told then
-pub told_given : (beside path : List ℕ) (old new : Option CallRecord) → is_apart beside ≡ true → Makes (system.Rename beside path) old new → Performs (Put path (bytes_under old beside)) (told old) (told new)
-told_given beside path None new is makes = ap told makes
-told_given beside path (Some r) new is makes = ap told makes.1
-    ∙ ap {B = Option Trace} (λ b. Some (record { first = files_of r.first.files; labels = labels_of r.first.folders; operations = Done (cond b (Put path (bytes_at r.first r.calls beside)) (Rename beside path)) ∷ operations_of r.first r.calls })) is
-
-pub told_renamed : (from to : List ℕ) (old new : Option CallRecord) → is_apart from ≡ false → Makes (system.Rename from to) old new → Performs (Rename from to) (told old) (told new)
-told_renamed from to None new is makes = ap told makes
-told_renamed from to (Some r) new is makes = ap told makes.1
-    ∙ ap {B = Option Trace} (λ b. Some (record { first = files_of r.first.files; labels = labels_of r.first.folders; operations = Done (cond b (Put to (bytes_at r.first r.calls from)) (Rename from to)) ∷ operations_of r.first r.calls })) is
-
-pub told_gone : (path : List ℕ) (old new : Option CallRecord) → is_apart path ≡ false → Makes (system.Remove path) old new → Performs (Remove path) (told old) (told new)
-told_gone path None new is makes = ap told makes
-told_gone path (Some r) new is makes = ap told makes.1
-    ∙ ap {B = Option Trace} (λ b. Some (record { first = files_of r.first.files; labels = labels_of r.first.folders; operations = cond b (operations_of r.first r.calls) (Done (Remove path) ∷ operations_of r.first r.calls) })) is
 
 pub on_ok : {T E : Type 0} {P Q : Type 0} (r : Result T E) → (P → Q) → OnOk r P → OnOk r Q
 on_ok (Ok x) f p = f p
@@ -186,13 +143,6 @@ pub if_given : (P : CallRecord → Type 0) (Q : Type 0) (calls : Option CallReco
 if_given P Q None h q = tt
 if_given P Q (Some r) h q = h q
 
--- where nothing was told meanwhile
-pub performs_later : (change : NameChange) (old mid new : Option Trace) → mid ≡ old → Performs change mid new → Performs change old new
-performs_later change old mid new e p = p ∙ ap (λ t. option_map (add_operation (Done change)) t) e
-
-pub fails_later : (change : NameChange) (old mid new : Option Trace) → mid ≡ old → (new ≡ mid) ⊎ Performs change mid new → (new ≡ old) ⊎ Performs change old new
-fails_later change old mid new e failed = ⊎_elim (λ s. inl (s ∙ e)) (λ p. inr (performs_later change old mid new e p)) failed
-
 pub put_told : (path bytes beside : List ℕ) (old mid new : Option CallRecord) → told mid ≡ told old → IfSome mid (λ r. IsWritten r beside bytes)
     → Performs (Put path (bytes_under mid beside)) (told mid) (told new) → Performs (Put path bytes) (told old) (told new)
 put_told path bytes beside old None new e w p = p ∙ ap (λ t. option_map (add_operation (Done (Put path bytes))) t) e
@@ -204,18 +154,6 @@ pub put_fails : (path bytes beside : List ℕ) (old mid new : Option CallRecord)
     → (told new ≡ told mid) ⊎ Performs (Put path (bytes_under mid beside)) (told mid) (told new) → (told new ≡ told old) ⊎ Performs (Put path bytes) (told old) (told new)
 put_fails path bytes beside old mid new e w failed = ⊎_elim (λ s. inl (s ∙ e)) (λ p. inr (put_told path bytes beside old mid new e w p)) failed
 
--- all names are said to be firm
-pub told_firmed : (old mid new : Option CallRecord) → told mid ≡ told old → Does Firmed mid new → Performs FirmNames (told old) (told new)
-told_firmed old None new e does = ap told does ∙ ap (λ t. option_map (add_operation (Done FirmNames)) t) e
-told_firmed old (Some r) new e does = ap told does ∙ ap (λ t. option_map (add_operation (Done FirmNames)) t) e
-
-pub sound_firmed : (old new : Option CallRecord) (changed : List (List ℕ)) (settled : Bool) → IfSome old (λ r. are_names_firm [] r.calls ≡ true) → Does Firmed old new
-    → is_sound old changed settled ≡ true → is_sound new changed settled ≡ true
-sound_firmed None new changed settled firm does sound = ap (λ n. is_sound n changed settled) does
-sound_firmed (Some r) new changed settled firm does sound =
-    let p : (keeps r.first r.calls ≡ true) × (are_names_firm changed r.calls ≡ true) × (settled ≡ true → are_folders_firm r.calls ≡ true) = sound_parts r changed settled sound in
-    ap (λ n. is_sound n changed settled) does ∙ sound_of (add_call Firmed r) changed settled (and_from (keeps r.first r.calls) (are_names_firm [] r.calls) p.0 firm) p.1 p.2
-
 -- the length of a file
 pub size_told : (path : List ℕ) (calls : Option CallRecord) (changed : List (List ℕ)) (settled : Bool) (number n : ℕ) → is_sound calls changed settled ≡ true → is_apart path ≡ false
     → IfSome calls (λ r. (names_now r).files path ≡ Some number) → IfSome calls (λ r. n ≡ length (contents_now r number).bytes) → IfSome (told calls) (λ t. IsSize (file_at t path) (Some n))
@@ -223,11 +161,3 @@ size_told path None changed settled number n sound plain has is = tt
 size_told path (Some r) changed settled number n sound plain has is =
     ap (λ k. Some k) is
     ∙ sym (ap (λ f. option_map (λ (bytes : List ℕ). length bytes) f) (file_told r changed settled path sound ∙ shown_plain (bytes_after r.first r.calls) (names_now r) path plain ∙ ap (λ o. option_map (bytes_after r.first r.calls) o) has))
-
-pub none_sized : (path : List ℕ) (calls : Option CallRecord) → IfSome (told calls) (λ t. IsThere (file_at t path) false) → IfSome (told calls) (λ t. IsSize (file_at t path) None)
-none_sized path None none = tt
-none_sized path (Some r) none = sized (file_at (trace_of r) path) none
-  where
-    sized : (f : Option (List ℕ)) → IsThere f false → IsSize f None
-    sized None e = refl
-    sized (Some b) e = let h : false ≡ true = e in cc

@@ -87,29 +87,12 @@ sound_made change r changed settled noted folders may e =
 one_noted : (changed : List (List ℕ)) (folder : List ℕ) → has_path changed folder ≡ true → are_synced changed (folder ∷ []) ≡ true
 one_noted changed folder has = and_from (has_path changed folder) true has refl
 
-pub sound_removed : (path : List ℕ) (old new : Option CallRecord) (changed : List (List ℕ)) (settled : Bool) → has_path changed (folder_of path) ≡ true
-    → MayMake (system.Remove path) old new → is_sound old changed settled ≡ true → is_sound new changed settled ≡ true
-sound_removed path None new changed settled has may e = ap (λ n. is_sound n changed settled) (⊎_elim (λ s. s) (λ m. m) may)
-sound_removed path (Some r) new changed settled has may e =
-    ⊎_elim (λ s. ap (λ n. is_sound n changed settled) s ∙ e)
-    (λ m. ap (λ n. is_sound n changed settled) m.1 ∙ sound_made (system.Remove path) r changed settled (one_noted changed (folder_of path) has) (λ f. f) refl e) may
-
 pub sound_created : (path : List ℕ) (old new : Option CallRecord) (changed : List (List ℕ)) (settled : Bool) → is_apart path ≡ true → has_path changed (folder_of path) ≡ true
     → MayMake (Create path) old new → is_sound old changed settled ≡ true → is_sound new changed settled ≡ true
 sound_created path None new changed settled beside has may e = ap (λ n. is_sound n changed settled) (⊎_elim (λ s. s) (λ m. m) may)
 sound_created path (Some r) new changed settled beside has may e =
     ⊎_elim (λ s. ap (λ n. is_sound n changed settled) s ∙ e)
     (λ m. ap (λ n. is_sound n changed settled) m.1 ∙ sound_made (Create path) r changed settled (one_noted changed (folder_of path) has) (λ f. f) beside e) may
-
-pub sound_renamed : (from to : List ℕ) (old new : Option CallRecord) (changed : List (List ℕ)) (settled : Bool)
-    → has_path changed (folder_of from) ≡ true → has_path changed (folder_of to) ≡ true
-    → IfSome old (λ r. Allows (names_now r) (system.Rename from to) → is_naming r.first r.calls from to ≡ true)
-    → MayMake (system.Rename from to) old new → is_sound old changed settled ≡ true → is_sound new changed settled ≡ true
-sound_renamed from to None new changed settled has_from has_to naming may e = ap (λ n. is_sound n changed settled) (⊎_elim (λ s. s) (λ m. m) may)
-sound_renamed from to (Some r) new changed settled has_from has_to naming may e =
-    ⊎_elim (λ s. ap (λ n. is_sound n changed settled) s ∙ e)
-    (λ m. ap (λ n. is_sound n changed settled) m.1 ∙ sound_made (system.Rename from to) r changed settled
-    (and_from (has_path changed (folder_of from)) (are_synced changed (folder_of to ∷ [])) has_from (one_noted changed (folder_of to) has_to)) (λ f. f) (naming m.0) e) may
 
 -- a change of a folder
 pub noted_folder : (b synced : Bool) → synced ≡ true → (not b || synced) ≡ true
@@ -145,13 +128,6 @@ sound_unsettled None changed settled e = refl
 sound_unsettled (Some r) changed settled e =
     let p : (keeps r.first r.calls ≡ true) × (are_names_firm changed r.calls ≡ true) × (settled ≡ true → are_folders_firm r.calls ≡ true) = sound_parts r changed settled e in
     sound_of r changed false p.0 p.1 (λ h. cc)
-
--- what is told of a change at a name beside
-pub told_removed : (path : List ℕ) (old new : Option CallRecord) → is_apart path ≡ true → MayMake (system.Remove path) old new → told new ≡ told old
-told_removed path None new beside may = ap told (⊎_elim (λ s. s) (λ m. m) may)
-told_removed path (Some r) new beside may =
-    ⊎_elim (λ s. ap told s)
-    (λ m. ap told m.1 ∙ ap {B = Option Trace} (λ b. Some (record { first = files_of r.first.files; labels = labels_of r.first.folders; operations = cond b (operations_of r.first r.calls) (Done (Remove path) ∷ operations_of r.first r.calls) })) beside) may
 
 pub told_created : (path : List ℕ) (old new : Option CallRecord) → MayMake (Create path) old new → told new ≡ told old
 told_created path None new may = ap told (⊎_elim (λ s. s) (λ m. m) may)

@@ -51,11 +51,6 @@ wrote_some number a b c text rest k fits is w failed =
       wrote_more number (take k text) any.0 a b c w any.2,
     )) failed
 
--- what was written changes no names
-pub pieces_first : (number : ℕ) (pieces : List (List ℕ)) (r : CallRecord) → (with_pieces number pieces r).first ≡ r.first
-pieces_first number [] r = refl
-pieces_first number (piece ∷ pieces) r = pieces_first number pieces r
-
 pub pieces_names : (number : ℕ) (pieces : List (List ℕ)) (r : CallRecord) → names_now (with_pieces number pieces r) ≡ names_now r
 pieces_names number [] r = refl
 pieces_names number (piece ∷ pieces) r = pieces_names number pieces r

@@ -94,23 +94,6 @@ module _ (look : RevisionBytes) (at : HistoryPoint) where
       → Answers (option_map point_value) (PointAt look from.0 from.1) r → Answers (option_map point_value) (OfSource look (source_by at.root.path at.path (Stands copy.node))) r
   from_some copy source from r is some h = subst (λ (o : Option (ℕ × Path)). Answers (option_map point_value) (OfSource look o) r) is (subst (λ (o : Option (ℕ × Path)). Answers (option_map point_value) (OfSource look o) r) (sym some) h)
 
--- a source is of an earlier revision
-pub source_earlier : (at : RevOffset) (o : Option CopySource) (source : CopySource) → source_before at o ≡ true → o ≡ Some source → source.rev < at.rev
-source_earlier at o source h is = let g : source_before at (Some source) ≡ true = subst (λ (x : Option CopySource). source_before at x ≡ true) is h in grind (arith, nat_tests)
-
-pub ordered_source : (at : RevOffset) (v : NodeRev) → is_ordered at v ≡ true → source_before at v.copy_from ≡ true
-ordered_source at v h =
-    let a = and_parts (_) (root_not_after at v.copy_root) h in
-    (and_parts (_) (source_before at v.copy_from) a.0).1
-
-pub ordered_pred : (at : RevOffset) (v : NodeRev) (id : NodeId) → is_ordered at v ≡ true → v.predecessor ≡ Some id → place_before at id.place ≡ true
-ordered_pred at v id h is =
-    let a = and_parts (_) (root_not_after at v.copy_root) h in
-    let b = and_parts (_) (source_before at v.copy_from) a.0 in
-    let c = and_parts (_) (rep_before at v.props) b.0 in
-    let d = and_parts (pred_before at v.predecessor) (rep_before at v.text) c.0 in
-    subst (λ (o : Option NodeId). pred_before at o ≡ true) is d.0
-
 -- ---- heights
 
 steps_up_by : (a b : ℕ) → (a ≤ b → steps_to a ≤ steps_to b) → (a ≤ b) ⊎ (a ≡ suc b) → steps_to a ≤ steps_to (suc b)

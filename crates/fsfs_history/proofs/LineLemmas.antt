@@ -20,11 +20,6 @@ use Rattle.fsfs_stands.specs.Items.{ItemsOf}
 use Rattle.fsfs_stands.specs.ChangedTexts.{ByText, by_text, in_order, ItemLines, LinesText, OfNone, OfItem, OfWrong, Stops, end_of, ByItems, ChangedText}
 use Rattle.fsfs_history.specs.Views.{EndsText}
 
--- a path's text has its first `/`
-pub text_some : (p : Path) → 1 ≤ length (path_text p)
-text_some [] = omega arith
-text_some (x ∷ p) = omega arith
-
 module _ (look : RevisionBytes) (rev : ℕ) (found : ByText) (wrong : Option Wrong) (R : List ℕ → End → Type 0) (before lines : List ℕ) (old new : Option (List ℕ)) where
   abbrev Left : List ChangeItem → List ℕ → End → Type 0
   Left items = LinesText look rev found (end_of wrong) items

@@ -119,7 +119,3 @@ read_told (answers.Stopped line (Limit why)) none = refl
 -- a request is for no bench
 pub request_is_none : (line : ℕ) (fault : Fault) → (asked : ℕ) × (youngest : ℕ) × (fault ≡ Request (NoRev asked youngest)) → IsNoBench (answers.Stopped line fault)
 request_is_none line fault w = subst (λ (f : Fault). IsNoBench (answers.Stopped line f)) (sym w.2) tt
-
--- an answer that tells of as few
-pub rose_as : (answer : JobAnswer) (n before now : ℕ) → bench_told answer ≤ n → RoseBy n before now → RoseBy (bench_told answer) before now
-rose_as answer n before now few rose = omega (arith, few, rose)

@@ -33,9 +33,6 @@ lines_around xs k d lt =
 
 -- ---- statuses
 
-max_nil : (a : ℕ) → max a 0 ≡ max 0 a
-max_nil a = max_comm a 0
-
 status_append : (xs : List JobAnswer) (x : JobAnswer) → greatest_status (xs ++ x ∷ []) ≡ max (status_after x) (greatest_status xs)
 status_append [] x = refl
 status_append (y ∷ xs) x = ap (λ (n : ℕ). max (status_after y) n) (status_append xs x) ∙ (omega arith)

@@ -29,8 +29,6 @@ pub use serial::laws::{
     edited_trees_are_maps, landed_clashes_are_clashes, listed_were_listed, runs_are_serial,
     runs_go_on, runs_grow,
 };
-pub use serial::output::print_run;
-pub use serial::statuses::greatest_status;
 pub use worker_laws::{
     a_job_alone_is_one_beside_others, lines_of_workers_hold, lines_of_workers_stay, lines_stay,
     work_goes_on,

@@ -11,7 +11,9 @@ ghost use Rattle.fsfs_job_run.specs.Serial.Listed.{LeavesListed};
 ghost use Rattle.fsfs_job_run.specs.Running.{IfAnyFails};
 ghost use Rattle.fsfs_job_run.specs.Runs.{run_scene, PrintsRun, Ran, RunsScript};
 
-use crate::{greatest_status, print_run, run_jobs};
+use crate::run_jobs;
+use crate::serial::output::print_run;
+use crate::serial::statuses::greatest_status;
 use fsfs_base::{Gate, RevNum, Sink, Source};
 use fsfs_cli::{Fault, OutsideFault};
 use fsfs_disk::Disk;

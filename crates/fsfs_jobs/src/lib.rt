@@ -9,6 +9,6 @@ mod output;
 mod properties;
 
 pub use answer::{JobAnswer, TextRead};
-pub use job_edits::edits::{Stopped, do_edit, do_edits};
+pub use job_edits::edits::{Stopped, do_edits};
 pub use output::{print_job_line, print_youngest};
 pub use properties::properties_of;

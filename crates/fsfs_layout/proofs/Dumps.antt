@@ -34,9 +34,3 @@ pairs_same r a b p q = let e = sym p ∙ q in ok_is a b e
 
 pub no_fault : (r : Result (List (List ℕ × List ℕ)) ℕ) (a : List (List ℕ × List ℕ)) (left : ℕ) → r ≡ Ok a → r ≡ Err left → ⊥
 no_fault r a left p q = cc
-
-pub dump_exact : (bytes : List ℕ) (left : ℕ) → dump_at bytes ≡ Err left → (left ≤ length bytes) × IsFaultAt IsDump bytes (length bytes - left)
-dump_exact = all_exact dump_reads
-
-pub too_short : (bytes : List ℕ) → length bytes < suc (length bytes)
-too_short bytes = omega arith

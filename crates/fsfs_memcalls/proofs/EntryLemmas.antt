@@ -81,15 +81,6 @@ pub is_listed : (name : List ℕ) → 0 < length name → length name ≤ 128 �
 is_listed [] some short plain = absurd (omega (arith, some))
 is_listed (c ∷ cs) some short plain = and_from (not (has_slash (c ∷ cs))) (nat_le (length (c ∷ cs)) 128) (ap not plain) (le-leb (length (c ∷ cs)) 128 short)
 
-pub elsewhere_no_entry : (folder path : List ℕ) → IsElsewhere folder path → IsNoEntry folder path
-elsewhere_no_entry folder path elsewhere = λ name is here. elsewhere name (entry_is name is).plain here
-
-pub unlisted_no_entry : (folder path name : List ℕ) → IsPartBelow folder path name → (length name ≡ 0) ⊎ (128 < length name) → IsNoEntry folder path
-unlisted_no_entry folder path name part why = λ other is here.
-    let entry = entry_is other is in
-    let same : length other ≡ length name = ap length (part.only other entry.plain here) in
-    ⊎_elim (λ none. omega (arith, none, same, entry.some)) (λ long. omega (arith, long, same, entry.short)) why
-
 pub entry_at : (folder path name : List ℕ) → IsPartBelow folder path name → 0 < length name → length name ≤ 128 → IsEntryAt folder path name
 entry_at folder path name part some short = record {
   is = is_listed name some short part.plain;

@@ -5,7 +5,7 @@
 //! Bytes as a person writes and reads them in the texts of the example programs: `\n`, `\t`, `\\` and `\xNN` stand for a
 //! byte, and every other character for its own bytes. What these programs write, the words and lines that they read, and the
 //! examples that these make.
-//! Sample revisions for tests, and books of them.
+//! Sample revisions for tests.
 #![tactic(auto)]
 
 mod escapes;
@@ -25,9 +25,7 @@ pub use memdisk::disk::MemDisk;
 pub use memdisk::host::MemHost;
 pub use numbers::{ListError, numbers_of, picks_of};
 pub use putting::{file_of, put_file};
-pub use revisions::{
-    EMPTY_FILE, FIRST_DIRECTORY, MADE_1, MADE_2, MADE_3, REVISION_0, SHORT_TEXT, book_of,
-};
+pub use revisions::{FIRST_DIRECTORY, REVISION_0};
 pub use streams::{FixedClock, FixedDice, MemSink, MemSource, NoGate};
 pub use transcript::Transcript;
 pub use words::{Example, cut, examples_of, lines_of};

@@ -61,10 +61,6 @@ number_same n d false (Some v) (Some x) (Some y) e = record { kind = e.kind; tex
 
 -- ---- what is chosen
 
--- the choice by its tests
-chosen_by : (held some_a some_t : Bool) (s t : Option Node) → Option Node
-chosen_by held some_a some_t s t = if held then s else (if some_a || some_t then t else s)
-
 pick_own : (held some_a some_t : Bool) (s t : Option Node) → held ≡ false → (some_a || some_t) ≡ true → (if held then s else (if some_a || some_t then t else s)) ≡ t
 pick_own held some_a some_t s t e f = (λ i. if e i then s else (if f i then t else s))
 

@@ -76,9 +76,6 @@ by_test true false e = refl
 by_test false true e = refl
 by_test false false e = absurd (false≢true (e.1 refl))
 
-not_true_is : (x : Bool) → (x ≡ true → ⊥) → x ≡ false
-not_true_is = false_from_ne_true
-
 pub props_touched : (marks : List Mark) (p : Path) → (effects marks p).touched ≡ false → (effects marks p).props_changed ≡ false
 props_touched marks p un = false_from_ne_true _ (λ h.
     let f = found (λ m. changes_props m.what m.path p) (outer marks) h in

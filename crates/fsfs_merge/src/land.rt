@@ -11,8 +11,9 @@ ghost use Rattle.fsfs_draft.specs.Causes.{HasDiskCause, HasBenchCause};
 ghost use Rattle.fsfs_tree.specs.Nodes.{TreeFunction};
 ghost use Rattle.fsfs_merge.specs.Landings.{LeavesLanded, TellsMerge};
 
+use crate::Merge;
+use crate::clash::walk::find_merge;
 use crate::relink::{Relink, write};
-use crate::{Merge, find_merge};
 use fsfs_base::{FsPath, RevNum};
 use fsfs_draft::EditError;
 use fsfs_revision::Book;

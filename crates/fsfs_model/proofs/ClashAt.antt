@@ -27,10 +27,6 @@ same_lt b h z le f = grind (arith, nat_tests)
 same_le : (b h z : ℕ) → b ≤ h → (z ≤ h → z ≤ b) → nat_le z b ≡ nat_le z h
 same_le b h z le f = grind (arith, nat_tests)
 
--- what only the clashes at a path where both sides have a node depend on
-tests_of : (touched_h kept_h away props_changed h_dressed : Bool) → Bool
-tests_of touched_h kept_h away props_changed h_dressed = touched_h && (away || not kept_h || props_changed || h_dressed)
-
 -- equal tests, where the second head either touched the directory or left it held and bare
 joined : (t1 t2 d1 d2 g k w : Bool) → t1 ≡ true → d1 ≡ true → d2 ≡ true → g ≡ false → ((t2 ≡ true) ⊎ ((k ≡ true) × (w ≡ false)))
     → (t1 && (not d1 || not (not g && k) || false || w)) ≡ (t2 && (not d2 || not (not g && k) || false || w))

@@ -64,14 +64,6 @@ made_there t p q o new old now h none = elim (cases_Bool (same_path q p)) [
   | inr other ↦ absurd (both_ways _ none (sym (ap (λ b. is_some (cond b o (t q))) other) ∙ h))
 ]
 
--- a path that a copy puts a node at
-pub copied_there : (t : TreeFunction) (r : ℕ) (of : TreeFunction) (from to q : Path) (new : Bool) → (covers to q ≡ true → is_some (of (from ++ rest_after to q)) ≡ true → new ≡ true)
-    → is_some (with_copy t r of from to q) ≡ true → is_some (t q) ≡ false → new ≡ true
-copied_there t r of from to q new adds h none = elim (cases_Bool (covers to q)) [
-  | inl w ↦ adds w (sym (copied_some r _ (of (from ++ rest_after to q))) ∙ sym (ap (λ b. is_some (cond b (copied_node r (from ++ rest_after to q) (of (from ++ rest_after to q))) (t q))) w) ∙ h)
-  | inr w ↦ absurd (both_ways _ none (sym (ap (λ b. is_some (cond b (copied_node r (from ++ rest_after to q) (of (from ++ rest_after to q))) (t q))) w) ∙ h))
-]
-
 -- an edit that puts nothing new anywhere
 pub nothing_new : (edit : Edit) (tree : ℕ → TreeFunction) (t : TreeFunction) (q : Path) → puts edit ≡ false → is_some (applied edit tree t q) ≡ true → is_some (t q) ≡ false → ⊥
 nothing_new (MakeDir path) tree t q n h none = false≢true (sym n)

@@ -217,13 +217,3 @@ fold_other q o m h n = ap (λ b. cond b (joined o m.kind m.what) (forgotten o m.
 
 pub fold_below : (q : Path) (o : Option Folded) (m : Mark) → same_path m.path q ≡ false → covers m.path q ≡ true → m.what ≡ Gone → fold_mark q o m ≡ None
 fold_below q o m h c g = ap (λ b. cond b (joined o m.kind m.what) (forgotten o m.what (covers m.path q))) h ∙ ap (λ k. forgotten o k (covers m.path q)) g ∙ ap (λ b. cond b None o) c
-
-pub fold_nothing : (q : Path) (m : Mark) → same_path m.path q ≡ false → fold_mark q None m ≡ None
-fold_nothing q m h = ap (λ b. cond b (joined None m.kind m.what) (forgotten None m.what (covers m.path q))) h ∙ by m.what (covers m.path q)
-  where
-    by : (k : What) (b : Bool) → forgotten None k b ≡ None
-    by (Make src) b = refl
-    by Text b = refl
-    by Prop b = refl
-    by Gone true = refl
-    by Gone false = refl

@@ -6,8 +6,9 @@ ghost use Rattle.fsfs_base.specs.Paths.{Path, path_cmp};
 ghost use Rattle.fsfs_model.specs.Flat.Marks.{effects_by};
 ghost use Rattle.fsfs_model.specs.Flat.Landing.{goes_on, touched_by_head, props_changed_by_head, clashes_at, reached, NoClash, IsFirstClash};
 
+use crate::flat::mark::{effects_at, outer_marks};
 use crate::land::all_paths;
-use crate::{Effects, Mark, effects_at, outer_marks};
+use crate::{Effects, Mark};
 use fsfs_base::{FsPath, Kind, RevNum};
 use fsfs_tree::{Node, Tree};
 use std::alloc::{AllocError, Global};

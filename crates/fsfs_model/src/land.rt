@@ -6,7 +6,8 @@ ghost use Rattle.std.specs.FinMap as map;
 ghost use Rattle.fsfs_base.specs.Paths.{Path, path_cmp};
 ghost use Rattle.fsfs_model.specs.Flat.Landing.{numbered, landed_at, land};
 
-use crate::{Effects, Mark, effects_at, outer_marks};
+use crate::flat::mark::{effects_at, outer_marks};
+use crate::{Effects, Mark};
 use fsfs_base::{FsPath, RevNum};
 use fsfs_tree::{Node, Tree};
 use std::alloc::{AllocError, Global};

@@ -16,7 +16,7 @@ pub use apply::{flat_apply, flat_mark};
 pub use clash::flat_clash;
 pub use flat::edit::Edit;
 pub use flat::folded::Folded;
-pub use flat::mark::{Effects, Mark, What, effects_at, outer_marks};
+pub use flat::mark::{Effects, Mark, What};
 pub use fold::flat_fold;
 pub use folds_laws::folds_fit_the_tree;
 pub use history::flat_history;

@@ -13,13 +13,3 @@ told_at P a b calls more same named h = subst (λ q. IfSome (told calls) (λ t. 
 pub read_none : (ts : Option Trace) (name : List ℕ) (offset : ℕ) (b : List ℕ) → IfSome ts (λ t. file_at t name ≡ None) → IfSome ts (λ t. IsRead (file_at t name) offset b b None)
 read_none None name offset b e = tt
 read_none (Some t) name offset b e = subst (λ f. IsRead f offset b b None) (sym e) (refl, refl)
-
-pub size_none : (ts : Option Trace) (name : List ℕ) → IfSome ts (λ t. file_at t name ≡ None) → IfSome ts (λ t. IsSize (file_at t name) None)
-size_none None name e = tt
-size_none (Some t) name e = subst (λ f. IsSize f None) (sym e) refl
-
--- a file that is open still has its name
-pub still_open : {A : Type 0} (found : Option A) (opened : A) (name_of : A → List ℕ) (number_of : A → ℕ) (calls more : Option CallRecord) → more ≡ calls → found ≡ Some opened
-    → is_still found name_of number_of calls ≡ true → is_file_of more (name_of opened) (number_of opened) ≡ true
-still_open found opened name_of number_of calls more same is still =
-    ap (λ m. is_file_of m (name_of opened) (number_of opened)) same ∙ sym (ap (λ f. is_still f name_of number_of calls) is) ∙ still

@@ -17,13 +17,6 @@ module _ {A : Type 0} (old new : List ℕ → Option (Option A)) (path : List �
   pub set_elsewhere : (p : List ℕ) → p ≢ path → new p ≡ old p
   set_elsewhere p apart = sets p ∙ ap (λ b. cond b (Some place) (old p)) (false_from_ne_true (bytes_eq path p) (λ e. apart (sym ((bytes_eq-Decides path p).0 e))))
 
--- what a place holds tells what is told of its path
-pub held_tells : {A : Type 0} (record_of : A → Option CallRecord) (place : Option (Option A)) (first : Option CallRecord) (held : A)
-    → Some held ≡ held_in place → told_at record_of place first ≡ told (record_of held)
-held_tells record_of None first held is = let e : Some held ≡ None = is in cc
-held_tells record_of (Some None) first held is = let e : Some held ≡ None = is in cc
-held_tells record_of (Some (Some h)) first held is = ap (λ o. told (record_of o)) (let same : h ≡ held = cc is in same)
-
 module _ {A : Type 0} (record_of : A → Option CallRecord) (old new : List ℕ → Option (Option A)) (first later : List ℕ → Option CallRecord) (path : List ℕ)
     (kept : (p : List ℕ) → later p ≡ first p) where
   -- of the other paths

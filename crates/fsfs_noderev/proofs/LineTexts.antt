@@ -51,8 +51,5 @@ line_lacks pair is = lacks_from 10 pair.0 (58 ∷ 32 ∷ pair.1) is.name (refl, 
 pub line_parts : (pair : List ℕ × List ℕ) (rest : List ℕ) → (pair.0 ++ 58 ∷ 32 ∷ pair.1) ++ 10 ∷ rest ≡ line pair ++ rest
 line_parts pair rest = simp append_assoc
 
-pub line_filled : (pair : List ℕ × List ℕ) → 0 < length (line pair)
-line_filled pair = omega (arith, length-append (pair.0 ++ 58 ∷ 32 ∷ pair.1) (10 ∷ []))
-
 pub line_cut : (pair : List ℕ × List ℕ) (rest : List ℕ) → IsPair pair → cut 10 (line pair ++ rest) ≡ Some (pair.0 ++ 58 ∷ 32 ∷ pair.1, rest)
 line_cut pair rest is = ap (cut 10) (sym (line_parts pair rest)) ∙ cut_again 10 (pair.0 ++ 58 ∷ 32 ∷ pair.1) rest (line_lacks pair is)

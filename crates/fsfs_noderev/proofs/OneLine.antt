@@ -78,6 +78,3 @@ source_line text s w = two_lack 10 32 IsRev IsPathText refl rev_line path_line t
 
 pub root_line : OneLine IsRootText
 root_line text r w = two_lack 10 32 IsRevOrNone IsPathText refl rev_or_none_line path_line text (r.rev, r.path) w
-
-pub yes_line : OneLine IsYes
-yes_line text x w = subst (λ (t : List ℕ). Lacks 10 t) (sym w) (refl, tt)

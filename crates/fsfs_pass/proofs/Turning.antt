@@ -102,10 +102,6 @@ later_by false false last now v u same le none l = record {
 pub tells_later : (last now : ℕ) (v u : SeatView) → is_some v.met ≡ v.told → u.told ≡ v.told → last ≤ now → Later (seat_store v) (seat_store u) → Later (pass_store last v) (pass_store now u)
 tells_later last now v u met same le l = later_by v.told u.told last now v u same le (λ untold. none_of v.met (met ∙ untold)) l
 
--- where the disk tells nothing, no labels are told
-pub keeps_untold : (v u : SeatView) → is_some v.met ≡ v.told → is_some u.met ≡ u.told → u.told ≡ v.told → KeepsLabels v.told (seat_labels v) (seat_labels u)
-keeps_untold v u met now same = λ untold. ap (λ o. option_map labels_now o) (none_of u.met (now ∙ same ∙ untold) ∙ sym (none_of v.met (met ∙ untold)))
-
 -- ---- what a call leaves of a seat
 
 -- whatever the disk tells

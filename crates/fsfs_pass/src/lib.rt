@@ -21,4 +21,4 @@ pub use seats::law::{Board, Law, SharedSeat};
 pub use seats::opening::{close, start};
 pub use seats::seat_view::{Beginning, Hand, Kin, SeatView, Stage, Taken, Told};
 pub use seats::splitting::split;
-pub use seats::table::{give_back, give_lock, look, reveal, stick, take, take_lock};
+pub use seats::table::{give_lock, look, reveal, stick, take, take_lock};

@@ -18,6 +18,4 @@ pub use shared::repo::SharedRepo;
 pub use txns::answers::{CommitAnswer, CommitBar};
 pub use txns::beginning::begin_txn;
 pub use txns::committing::commit_txn;
-pub use txns::listing::list_txns;
 pub use txns::purging::purge_txn;
-pub use txns::standing::note_txn;

@@ -115,11 +115,6 @@ only_later begins c left bytes t e w = by_front w.front w.parts w.root w.changes
       changes = omega (arith, changes);
     }
 
-pub none_ends_nothing : (begins : ℕ) (t : Trailer) → EndsWith begins [] t → ⊥
-none_ends_nothing begins t w =
-    let x = line_of w.text (t.root, t.changes) w.text_is in
-    omega (arith, ap length w.parts, length-append w.front w.text, ap length x.parts)
-
 -- ---- the last bytes are enough
 
 pub from_tail : (begins cut : ℕ) (bytes : List ℕ) (t : Trailer) → cut ≤ length bytes → EndsWith (begins + cut) (drop cut bytes) t → EndsWith begins bytes t

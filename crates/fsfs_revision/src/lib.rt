@@ -52,7 +52,7 @@ pub use mem_book::{MemBook, MemFile, MemRev};
 pub use node::{is_before, is_revision_id, own_rev, read_node_at};
 pub use rep::digester::Digester;
 pub use rep::frame::{ENDREP_LEN, PLAIN_LEN};
-pub use rep::place::{bad_rep, rep_place};
+pub use rep::place::bad_rep;
 pub use rep::rep_reader::RepReader;
 pub use rep::whole::read_rep_bytes;
 pub use rep::windows::window;

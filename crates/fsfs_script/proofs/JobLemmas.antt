@@ -44,10 +44,6 @@ abbrev pub IsFilling : Option Place → Option Place → CommitJob → Stage →
 IsFilling None now from stage job = Unit {0}
 IsFilling (Some p) now from stage job = (q : Place) × (cs : List Command) × (now ≡ Some q) × Takes (drafted from p) cs (record { stage = stage; job = job; place = q })
 
-pub filling_begins : (a : Option Place) (from : CommitJob) (stage : Stage) → stage ≡ (drafted from (record { line = 0; bytes = [] })).stage → IsFilling a a from stage from
-filling_begins None from stage e = tt
-filling_begins (Some p) from stage e = (p, [], refl, λ i. record { stage = e i; job = from; place = p })
-
 module _ (rem : Option (List ℕ)) (a : Place) (from : CommitJob) (stage : Stage) (job : CommitJob) where
   pub filling_more : (start new : Option Place) (c : Command) (line : ℕ) → line ≡ a.line → IsFilling start (place_of rem a) from stage job → Reads (λ (n : Next). n) (next_at stage) (place_of rem a) new (Ok (next.Command c))
       → IsFilling start new from (stage_after c) (with_command line c job)

@@ -63,31 +63,6 @@ passed_is piece from to count line more new order within here lines sum =
 
 -- ---- a piece of the source
 
-pub read_fills : (from to : Option (List ℕ)) (n : ℕ) (buffer : List ℕ) → n ≤ length buffer → length buffer ≡ 65536 → Takes from to n buffer → Fills from to (take n buffer)
-read_fills None to n buffer within full t = tt
-read_fills (Some more) to n buffer within full t = (
-  drop n more,
-  sym (take-append-drop n more) ∙ ap (λ (s : List ℕ). s ++ drop n more) (sym t.0),
-  t.2,
-  λ none. empty none,
-)
-  where
-    empty : take n buffer ≡ [] → more ≡ []
-    empty none = by more refl
-      where
-        by : (m : List ℕ) → more ≡ m → more ≡ []
-        by [] e = e
-        by (x ∷ m) e = absurd (let some = t.3 (omega (arith, full)) (omega (arith, ap length e)) in omega (arith, some, length-take-le n buffer within, ap length none))
-
-pub refilled : (from to : Option (List ℕ)) (a b : Place) → a.bytes ≡ [] → b.line ≡ a.line → Fills from to b.bytes → Keeps (place_of from a) (place_of to b)
-refilled None to a b none line f = tt
-refilled (Some more) to a b none line f =
-    told_again to b (record { line = a.line; bytes = a.bytes ++ more }) f.0 f.2 line (sym f.1 ∙ ap (λ (s : List ℕ). s ++ more) (sym none))
-
-pub refill_ends : (from to : Option (List ℕ)) (a b : Place) → a.bytes ≡ [] → Fills from to b.bytes → b.bytes ≡ [] → IsAtEnd (place_of from a)
-refill_ends None to a b none f end = tt
-refill_ends (Some more) to a b none f end = ap (λ (s : List ℕ). s ++ more) none ∙ f.3 end
-
 pub keeps_same : (a : Option Place) → Keeps a a
 keeps_same None = tt
 keeps_same (Some p) = refl

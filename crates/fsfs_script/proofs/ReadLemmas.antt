@@ -58,11 +58,6 @@ pub judged_stop : {X Y U : Type 0} (view : X → List ℕ) (last : U → Y) (jud
     → Reads view line_at a b (Err stop) → Reads last (judged_at judge) a c (Err stop)
 judged_stop view last judge a b c stop r = reads_stop view last line_at (λ l. judge l.0 >>= λ x. Ok (x, l.1)) a b c stop r
 
--- nothing was read
-pub reads_here : {X : Type 0} (a : Option Place) (x : X) → Reads (λ (y : X). y) (λ p. Ok (x, p)) a a (Ok x)
-reads_here None x = tt
-reads_here (Some p) x = (p, refl, refl)
-
 -- ---- what a result holds
 
 pub pair_is : {A B : Type 0} (a c : A) (b d : B) → (let r : Result (A × B) Refusal = Ok (a, b) in r) ≡ Ok (c, d) → (a ≡ c) × (b ≡ d)

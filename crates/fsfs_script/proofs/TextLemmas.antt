@@ -118,9 +118,6 @@ taking_fails (Some p) now new count text view unit stop w more read = go stop th
 behind_none : (line : ℕ) (bytes : List ℕ) → bytes ≡ [] → behind_newlines line bytes ≡ record { line = line; bytes = bytes }
 behind_none line bytes e = subst (λ (bs : List ℕ). behind_newlines line bs ≡ record { line = line; bytes = bs }) (sym e) refl
 
-behind_ten : (line b : ℕ) (bs bytes : List ℕ) → bytes ≡ b ∷ bs → b ≡ 10 → behind_newlines line bytes ≡ behind_newlines (line + 1) bs
-behind_ten line b bs bytes e is = rw (e, eq-eqb b 10 is) refl
-
 behind_other : (line b : ℕ) (bs bytes : List ℕ) → bytes ≡ b ∷ bs → eqb b 10 ≡ false → behind_newlines line bytes ≡ record { line = line; bytes = bytes }
 behind_other line b bs bytes e other = subst (λ (t : List ℕ). behind_newlines line t ≡ record { line = line; bytes = t }) (sym e) (rw other refl)
 
@@ -129,31 +126,9 @@ abbrev pub Skips : Option Place → Option Place → Type 0
 Skips None now = Unit {0}
 Skips (Some p) now = (q : Place) × (now ≡ Some q) × (behind_empty_lines p ≡ behind_empty_lines q)
 
-pub skips_none : (a : Option Place) → Skips a a
-skips_none None = tt
-skips_none (Some p) = (p, refl, refl)
-
 pub skips_kept : (from now next : Option Place) → Skips from now → Keeps now next → Skips from next
 skips_kept None now next w k = tt
 skips_kept (Some p) now next w k = (w.0, subst (λ (o : Option Place). Keeps o next) w.1 k, w.2)
-
--- one more
-pub skips_more : (rem : Option (List ℕ)) (a : Place) (from : Option Place) (d : ℕ) → Skips from (place_of rem a) → 0 < length a.bytes → get_or a.bytes 0 d ≡ 10 → Skips from (place_of rem (passed 1 a))
-skips_more rem a None d w some is = tt
-skips_more rem a (Some p) d w some is = go a.bytes refl some is
-  where
-    go : (bs : List ℕ) → a.bytes ≡ bs → 0 < length bs → get_or bs 0 d ≡ 10 → (q : Place) × (place_of rem (passed 1 a) ≡ Some q) × (behind_empty_lines p ≡ behind_empty_lines q)
-    go [] e some is = absurd (omega (arith, some))
-    go (b ∷ bs) e some is =
-        let t = told_parts rem a w.0 w.1 in
-        let here : w.0.bytes ≡ b ∷ (bs ++ t.0) = sym t.3 ∙ ap (λ (s : List ℕ). s ++ t.0) e in
-        let line : (passed 1 a).line ≡ w.0.line + 1 = ap (λ (s : List ℕ). a.line + newlines (take 1 s)) e ∙ one b bs is ∙ ap (λ (n : ℕ). n + 1) t.2 in
-        let bytes : (passed 1 a).bytes ++ t.0 ≡ bs ++ t.0 = ap (λ (s : List ℕ). drop 1 s ++ t.0) e in
-        let step : behind_empty_lines w.0 ≡ behind_newlines (w.0.line + 1) (bs ++ t.0) = behind_ten w.0.line b (bs ++ t.0) w.0.bytes here is in
-        (record { line = w.0.line + 1; bytes = bs ++ t.0 }, told_again rem (passed 1 a) (record { line = w.0.line + 1; bytes = bs ++ t.0 }) t.0 t.1 line bytes, w.2 ∙ step)
-      where
-        one : (b : ℕ) (bs : List ℕ) → b ≡ 10 → a.line + newlines (take 1 (b ∷ bs)) ≡ a.line + 1
-        one b bs is = rw (eq-eqb b 10 is) refl
 
 pub skips_end : (from now : Option Place) → Skips from now → IsAtEnd now → Reads (λ (b : Bool). b) skipped_at from now (Ok false)
 unfolding skipped_at

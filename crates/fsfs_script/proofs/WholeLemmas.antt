@@ -50,10 +50,6 @@ abbrev pub IsWhole : Option (List ℕ) → Option Place → ℕ → List Job →
 IsWhole None now room jobs = Unit {0}
 IsWhole (Some text) now room jobs = (p : Place) × (now ≡ Some p) × (room + length jobs ≡ 4096) × TakesJobs 4096 (beginning text) jobs p
 
-pub whole_begins : (rem : Option (List ℕ)) (a : Place) → a ≡ record { line = 1; bytes = [] } → IsWhole rem (place_of rem a) 4096 []
-whole_begins None a e = tt
-whole_begins (Some text) a e = (record { line = a.line; bytes = a.bytes ++ text }, refl, refl, λ i. record { line = (e i).line; bytes = (e i).bytes ++ text })
-
 -- the room that is left is that of the jobs that were read
 room_left : (room count : ℕ) → room + count ≡ 4096 → room ≡ 4096 - count
 room_left room count e = omega (arith, e)

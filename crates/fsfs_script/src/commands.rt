@@ -6,11 +6,9 @@ ghost use Rattle.fsfs_script.specs.Reading.{Reads};
 ghost use Rattle.fsfs_script.specs.Commands.{opening_at, to_at, copy_at, put_at, set_at, log_at, rest_at, next_at};
 
 use crate::ahead::Ahead;
+use crate::job_lines::lines::{command_line, opening_line, to_line};
 use crate::stop::Stop;
-use crate::{
-    Author, CommandLine, CopyFrom, Edit, OpeningLine, PutText, SetProp, Stage, Text, command_line,
-    opening_line, to_line,
-};
+use crate::{Author, CommandLine, CopyFrom, Edit, OpeningLine, PutText, SetProp, Stage, Text};
 use fsfs_base::{FsPath, PropName, Source};
 use std::alloc::Global;
 

@@ -15,7 +15,7 @@ mod whole;
 
 pub use job_lines::edit::{CopyFrom, Edit, PutText, SetProp};
 pub use job_lines::job::{Base, CommitJob, Job, ReadJob, Step, Steps};
-pub use job_lines::lines::{CommandLine, OpeningLine, command_line, opening_line, to_line};
+pub use job_lines::lines::{CommandLine, OpeningLine};
 pub use job_lines::refusal::{LineError, Refusal, Why};
 pub use job_lines::texts::{Author, Text};
 pub use job_lines::verbs::Stage;

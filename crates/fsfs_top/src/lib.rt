@@ -8,5 +8,4 @@ mod top;
 mod txns;
 
 pub use fsfs_cli::{Fault, Tool};
-pub use output::{print_revision, print_uuid};
 pub use top::command;

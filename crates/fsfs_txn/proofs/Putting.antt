@@ -90,16 +90,3 @@ same_put Told t u f h after way from to expect r txn folder meets =
 
 pub neither : (a b : Bool) → a ≡ false → b ≡ false → (a || b) ≡ false
 neither a b no_a no_b = ap (λ (x : Bool). x || b) no_a ∙ no_b
-
--- ---- counts of faults
-
-pub source_put : (put : TextPut) (before now : ℕ) → failing.IfSource (Ok put) (Rose before now) → IfSource (Ok (text_sets.outcome_of put)) (Rose before now)
-source_put puts.Done before now h = tt
-source_put puts.NotFile before now h = tt
-source_put puts.SourceFault before now h = h
-source_put puts.TooLong before now h = tt
-source_put (puts.Checksum kept found) before now h = tt
-
-pub source_barred : (kind : Kind) (before now : ℕ) → IfSource (Ok (text_sets.counted_text kind)) (Rose before now)
-source_barred File before now = tt
-source_barred Dir before now = tt

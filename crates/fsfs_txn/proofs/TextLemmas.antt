@@ -68,18 +68,6 @@ text_refused Told look trees top base txn tree marks p from to expect first fold
 text_refused Told look trees top base txn tree marks p from to expect first folder after before now has same (texts.Checksum kept found) r l = (has, r, longer_on first before now now l.0 same l.1.1 refl)
 text_refused Told look trees top base txn tree marks p from to expect first folder after before now has same texts.BenchFault r l = tt
 
-pub bench_rose : (e : TextError) (before now : ℕ) → proto_causes.IfBench e (Rose before now) → IfErr (refusal_of e) (λ x. IfBench x (Rose before now))
-bench_rose texts.SourceFault before now h = tt
-bench_rose texts.TextTooLong before now h = tt
-bench_rose (texts.Checksum kept found) before now h = tt
-bench_rose texts.BenchFault before now h = h
-
-pub source_rose : (e : TextError) (before now : ℕ) → proto_causes.IfSource e (Rose before now) → IfSource (refusal_of e) (Rose before now)
-source_rose texts.SourceFault before now h = h
-source_rose texts.TextTooLong before now h = tt
-source_rose (texts.Checksum kept found) before now h = tt
-source_rose texts.BenchFault before now h = tt
-
 -- ---- what is done
 
 module _ (Told : Type 0) (look : RevisionBytes) (trees : ℕ → TreeFunction) (top base : ℕ) (shown : ShowTrees look top trees) (le : base ≤ top) (txn : TxnName) (before : Folder) (tree : TreeFunction) (marks : List Mark) (d : IsDraftAfter look trees top base txn before tree marks)

@@ -13,10 +13,11 @@ ghost use Rattle.fsfs_txn.specs.Spending.{IsSpentAfter, StaysSpent, HasDiskCause
 ghost use Rattle.fsfs_txn.specs.Leading.{OpensLeading};
 ghost use Rattle.fsfs_txn.specs.Opening.{OpensPath, MeetsOpening, IfOpenedPath};
 
+use crate::opened::opening::open_at;
 use crate::seeing::{Seen, seen_on};
 use crate::txn::Txn;
 use crate::txn_error::TxnError;
-use crate::{Opening, Way, open_at};
+use crate::{Opening, Way};
 use fsfs_base::{FsPath, Kind};
 use fsfs_draft::{EditError, Own};
 use fsfs_revision::Book;

@@ -38,11 +38,6 @@ left_by (Ok c) (Bench fault) file how Form old new is left = subst (λ (f : Fold
 left_by (Err e) OutOfMemory file how Form old new is left = left
 left_by (Err e) (Bench fault) file how Form old new is left = absurd left
 
-pub left_as : {T E : Type 0} (change : Result FileChange E) (result : Result T WriteError) (file : FolderFile) (how : How) (Form : List ℕ → Type 0) (old new : Option Files) → IfOk change (λ c. IsChange c file how Form)
-    → IfErr result (IsLeftBy change old new) → IfErr result (IsLeft file old new)
-left_as change (Ok x) file how Form old new is left = tt
-left_as change (Err e) file how Form old new is left = left_by change e file how Form old new is left
-
 -- ---- several
 
 pub none_made : (old : Option Files) → old ≡ option_map (changed_all []) old

@@ -25,12 +25,3 @@ front_all (Some r) mid to text piece v w =
 pub read_front : (from to : Option (List ℕ)) (n : ℕ) (buffer : List ℕ) → Takes from to n buffer → GivesFront from to (take n buffer)
 read_front None to n buffer t = tt
 read_front (Some r) to n buffer t = (drop n r, sym (take-append-drop n r) ∙ ap (λ (s : List ℕ). s ++ drop n r) (sym t.0), t.2)
-
--- and where it takes nothing, though there is room
-pub read_end : (from to : Option (List ℕ)) (n : ℕ) (buffer : List ℕ) → 0 < length buffer → n ≡ 0 → Takes from to n buffer → GivesAll from to []
-read_end None to n buffer room none t = tt
-read_end (Some r) to n buffer room none t = by r refl
-  where
-    by : (s : List ℕ) → r ≡ s → (r ≡ []) × (to ≡ Some [])
-    by [] e = (e, t.2 ∙ (λ i. Some (drop (none i) (e i))))
-    by (x ∷ s) e = absurd (let some : 0 < n = t.3 room (omega (arith, ap length e)) in omega (arith, some, none))

@@ -46,12 +46,6 @@ left_more from to taken old new name more TextTooLong h files = (more, files)
 left_more from to taken old new name more (Checksum kept found) h files = absurd h
 left_more from to taken old new name more BenchFault h files = absurd h
 
-pub left_checked : (expect : Option (HexDigest 16)) (found : HexDigest 16) (old new : Option Files) (name more : List ℕ) (e : TextError) → IsChecked expect found (Err e) → new ≡ option_map (appended name more) old → IsLeft old new name e
-left_checked expect found old new name more SourceFault h files = absurd h
-left_checked expect found old new name more TextTooLong h files = absurd h
-left_checked expect found old new name more BenchFault h files = absurd h
-left_checked expect found old new name more (Checksum kept other) h files = (more, files)
-
 -- ---- the source
 
 pub refused_bench : (from to : Option (List ℕ)) (expect : Option (HexDigest 16)) (text : List ℕ) (e : TextError) → e ≡ BenchFault → GivesFront from to text → length text ≤ MAX_TEXT → IsRefusedText from to expect e
@@ -65,42 +59,11 @@ refused_piece from mid to text taken TextTooLong given is short h = (text ++ h.0
 refused_piece from mid to text taken (Checksum kept found) given is short h = absurd h
 refused_piece from mid to text taken BenchFault given is short h = absurd h
 
--- no digest was looked at
-pub refused_before : (from to : Option (List ℕ)) (expect : Option (HexDigest 16)) (e : TextError) → IsRefusedText from to None e → IsRefusedText from to expect e
-refused_before from to expect SourceFault h = h
-refused_before from to expect TextTooLong h = h
-refused_before from to expect BenchFault h = h
-refused_before from to expect (Checksum kept found) h = absurd (let none : None ≡ Some kept = h.expected in cc)
-
-pub refused_checked : (from to : Option (List ℕ)) (expect : Option (HexDigest 16)) (found : HexDigest 16) (text : List ℕ) (e : TextError) → GivesAll from to text → length text ≤ MAX_TEXT → found.bytes ≡ md5 text
-    → IsChecked expect found (Err e) → IsRefusedText from to expect e
-refused_checked from to expect found text SourceFault given short is h = absurd h
-refused_checked from to expect found text TextTooLong given short is h = absurd h
-refused_checked from to expect found text BenchFault given short is h = absurd h
-refused_checked from to expect found text (Checksum kept other) given short is h = record {
-  text = text;
-  given = given;
-  short = short;
-  expected = h.0;
-  found_is = ap (λ (d : HexDigest 16). d.bytes) h.1 ∙ is;
-  other = λ same. h.2 (same ∙ ap (λ (d : HexDigest 16). d.bytes) h.1);
-}
-
-pub front_of_all : (from to : Option (List ℕ)) (text : List ℕ) → GivesAll from to text → GivesFront from to text
-front_of_all None to text h = tt
-front_of_all (Some r) to text h = ([], h.0 ∙ sym (append-nil text), h.1)
-
 pub checked : (expect : Option (HexDigest 16)) (found : HexDigest 16) (text : List ℕ) → IfSome expect (λ kept. kept.bytes ≡ found.bytes) → found.bytes ≡ md5 text → IfSome expect (λ kept. kept.bytes ≡ md5 text)
 checked None found text h is = tt
 checked (Some kept) found text h is = h ∙ is
 
 -- ---- counts
-
-pub source_later : (e : TextError) (before mid now : ℕ) → before ≤ mid → IfSource e (Rose mid now) → IfSource e (Rose before now)
-source_later SourceFault before mid now le rose = omega (arith, le, rose)
-source_later TextTooLong before mid now le rose = tt
-source_later (Checksum kept found) before mid now le rose = tt
-source_later BenchFault before mid now le rose = tt
 
 pub bench_later : (e : TextError) (before mid now : ℕ) → before ≤ mid → IfBench e (Rose mid now) → IfBench e (Rose before now)
 bench_later BenchFault before mid now le rose = omega (arith, le, rose)
@@ -117,9 +80,3 @@ no_bench from to taken BenchFault P h = absurd h
 
 pub no_source : (e : TextError) (P : Type 0) → e ≡ BenchFault → IfSource e P
 no_source e P is = subst (λ (x : TextError). IfSource x P) (sym is) tt
-
-pub only_checked : (expect : Option (HexDigest 16)) (found : HexDigest 16) (e : TextError) (P Q : Type 0) → IsChecked expect found (Err e) → IfSource e P × IfBench e Q
-only_checked expect found SourceFault P Q h = absurd h
-only_checked expect found TextTooLong P Q h = absurd h
-only_checked expect found BenchFault P Q h = absurd h
-only_checked expect found (Checksum kept other) P Q h = (tt, tt)

@@ -15,7 +15,6 @@ mod making;
 mod proto_rev;
 mod spelling;
 mod write_error;
-mod writing;
 
 pub use change::{FileChange, How};
 pub use folder_file::FolderFile;
@@ -25,6 +24,3 @@ pub use proto_rev::appending::append_text;
 pub use proto_rev::laws::{appended_texts_are_read, texts_stay};
 pub use proto_rev::text_error::{MAX_TEXT, TextError};
 pub use write_error::{FileFault, WriteError};
-pub use writing::{
-    add_entry, add_item, take_entry, write_children, write_next_ids, write_node, write_props,
-};

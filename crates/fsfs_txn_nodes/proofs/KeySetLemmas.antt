@@ -30,10 +30,6 @@ keeps_put eq same m n key h q has = set_has eq same n q ∙ h q ∙ by (eq key q
     by true c is = refl
     by false c is = is
 
--- no step
-pub keyed_none : {S : Type 0} (m : HashSet NodeKey S) (ss : List Step) → ss ≡ [] → AreKeyed m ss
-keyed_none m ss none = ap (λ (l : List Step). list_all (λ (s : Step). has_key m s.key) l) none
-
 -- the same steps
 pub keyed_kept : {S : Type 0} (m n : HashSet NodeKey S) → KeepsKeys m n → (ss new : List Step) → new ≡ ss → AreKeyed m ss → AreKeyed n new
 keyed_kept m n keeps ss new same k = ap (λ (l : List Step). list_all (λ (s : Step). has_key n s.key) l) same ∙ by ss k

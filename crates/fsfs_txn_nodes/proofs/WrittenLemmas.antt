@@ -156,10 +156,6 @@ more_ready changes more all ss new base after next items all_is steps_is leads r
     (subst (λ (n : BenchFiles). TellsFolder n (filed after next items)) (sym (ap (λ (l : List FileChange). changed_all l m) all_is ∙ changed-both changes more m))
     (leads (changed_all changes m) (lead m told))))
 
--- the same of another name for what is kept
-pub leads_as : (more : List FileChange) (id : NodeId) (files cur : Files) (x y : Kept) (next : NextIds) (items : List ChangeItem) → x ≡ y → LeadTo more (filed cur next items) (filed (with_kept id x files) next items) → LeadTo more (filed cur next items) (filed (with_kept id y files) next items)
-leads_as more id files cur x y next items same leads = subst (λ (k : Kept). LeadTo more (filed cur next items) (filed (with_kept id k files) next items)) same leads
-
 -- the same steps and changes, of the same files
 pub same_ready : (changes all : List FileChange) (ss new : List Step) (base files : Files) (next : NextIds) (items more : List ChangeItem) → all ≡ changes → new ≡ ss → files ≡ base → more ≡ items
     → ∥ LeadTo changes (filed base next items) (filed (with_steps ss base) next items) ∥₁ → ∥ LeadTo all (filed files next more) (filed (with_steps new files) next more) ∥₁

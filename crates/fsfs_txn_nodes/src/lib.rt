@@ -8,8 +8,5 @@ mod txn_folder;
 pub use memory::files::OwnFiles;
 pub use memory::held_nodes::HeldNodes;
 pub use memory::texts::OwnTexts;
-pub use txn_folder::file_changes::{
-    child_files, merged_files, next_files, property_files, settled_files, taken_files, text_files,
-};
 pub use txn_folder::ids::id_fits;
 pub use txn_folder::laws::changes_tell_the_folder;

@@ -78,23 +78,7 @@ turn_others n (suc w) [] x turn = omega arith
 turn_others n zero (y ∷ xs) x turn = turn_others n (n - 1) xs x turn
 turn_others n (suc w) (y ∷ xs) x turn = turn_others n w xs x turn
 
--- a worker gets no more than there is
-pub few_dealt : {X : Type 0} (n w : ℕ) (xs : List X) → length (dealt n w xs) ≤ length xs
-few_dealt n w [] = omega arith
-few_dealt n zero (x ∷ xs) = let few = few_dealt n (n - 1) xs in omega (arith, few)
-few_dealt n (suc w) (x ∷ xs) = let few = few_dealt n w xs in omega (arith, few)
-
 -- ---- two lists are put in turn, item by item
-
--- one of each
-pub both_put : {X : Type 0} (before xs ys whole : List X) (x y : X) → before ++ in_turn (x ∷ xs) (y ∷ ys) ≡ whole → ((before ++ x ∷ []) ++ y ∷ []) ++ in_turn xs ys ≡ whole
-both_put before xs ys whole x y is =
-    append_assoc (before ++ x ∷ []) (y ∷ []) (in_turn xs ys) ∙ append_assoc before (x ∷ []) (y ∷ in_turn xs ys) ∙ is
-
--- the last of the first, where the second has no more
-pub last_put : {X : Type 0} (before xs whole : List X) (x : X) → length xs ≡ 0 → before ++ in_turn (x ∷ xs) [] ≡ whole → (before ++ x ∷ []) ++ in_turn xs [] ≡ whole
-last_put before [] whole x none is = append-nil (before ++ x ∷ []) ∙ is
-last_put before (y ∷ xs) whole x none is = absurd (omega (arith, none))
 
 -- nothing is left of either
 pub all_put : {X : Type 0} (before ys whole : List X) → AreDealt 0 (length ys) → before ++ in_turn [] ys ≡ whole → before ≡ whole

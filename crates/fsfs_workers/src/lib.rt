@@ -13,7 +13,4 @@ mod two_workers;
 mod worker;
 
 pub use fsfs_job_run::run_script;
-pub use jobs::job::do_job;
-pub use run::run_two;
 pub use running::run_script_by_two;
-pub use two_workers::do_beside;

@@ -9,7 +9,7 @@ ghost use Rattle.fsfs_job_run.specs.Runs.{run_scene, PrintsRun};
 ghost use Rattle.fsfs_workers.specs.ByWorkers.{RunsByWorkers};
 ghost use Rattle.fsfs_workers.specs.Works.{Works};
 
-use crate::run_two;
+use crate::run::run_two;
 use fsfs_base::{Gate, Sink, SmallFault, SmallFile, Source};
 use fsfs_cli::{Fault, RepositoryFault};
 use fsfs_disk::{Disk, QuietDisk};

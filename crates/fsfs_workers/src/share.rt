@@ -6,7 +6,7 @@ ghost use Rattle.fsfs_job_run.specs.Workers.Lines.{dealt, disk_faults_in, RoseBy
 ghost use Rattle.fsfs_job_run.specs.Workers.Passes.{WorkedSo};
 ghost use Rattle.fsfs_job_run.specs.Serial.Jobs.{bench_faults_in};
 
-use crate::do_job;
+use crate::jobs::job::do_job;
 use fsfs_base::{Gate, GatePlace};
 use fsfs_job_run::JobGate;
 use fsfs_jobs::JobAnswer;

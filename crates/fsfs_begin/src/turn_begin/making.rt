@@ -15,8 +15,10 @@ ghost use Rattle.fsfs_begin.specs.TurnBegin.Faults.{Cause, IfBench, IfDisk, IfBe
 ghost use Rattle.fsfs_begin.specs.TurnBegin.Begun.{HoldsRoot, IsMade};
 ghost use Rattle.fsfs_begin.specs.TurnBegin.Labels.{IsUnlisted, ListsNoMore};
 
+use crate::making::fill;
+use crate::root::first_root;
 use crate::turn_begin::begin_fault::BeginFault;
-use crate::{Begun, BenchFault, fill, first_root};
+use crate::{Begun, BenchFault};
 use fsfs_base::{DiskPlace, TxnName};
 use fsfs_disk::Label;
 use fsfs_noderev::{NodeId, NodeRev, write_noderev};

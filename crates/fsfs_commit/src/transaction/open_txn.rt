@@ -13,7 +13,7 @@ ghost use Rattle.fsfs_commit.specs.Transaction.Meaning.{IsTxnOf, Means, IsYounge
 ghost use Rattle.fsfs_commit.specs.Transaction.Findings.{Finds, FindsEnded, SpentByBench, Blames};
 ghost use Rattle.fsfs_commit.specs.Transaction.Refusals.{IsDiskFault, Refuses};
 
-use crate::final_text;
+use crate::final_rev::writing::final_text;
 use crate::transaction::ended_txn::{EndedTxn, end_file};
 use crate::transaction::refusal::{CommitRefusal, not_landed, not_made};
 use fsfs_base::RevNum;

@@ -5,9 +5,10 @@ ghost use Rattle.fsfs_dag.specs.Views.{entry_value, entry_values};
 ghost use Rattle.fsfs_dag.specs.Listing.Hashes.{hash_of};
 ghost use Rattle.fsfs_dag.specs.Listing.Trees.{values, is_sorted, HasEntries, IsChangedTree};
 
+use crate::DirEntry;
+use crate::directory::entry_named;
 use crate::listing::leaf::{below, changed_leaf, copies, from_on, push_copies};
 use crate::listing::target::Target;
-use crate::{DirEntry, entry_named};
 use std::alloc::{AllocError, Global};
 use std::sync::Arc;
 

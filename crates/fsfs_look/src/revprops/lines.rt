@@ -9,7 +9,9 @@ ghost use Rattle.fsfs_look.specs.declared.look_error.LookError.TheVariants.{Writ
 ghost use Rattle.fsfs_look.specs.Written.{HasSinkCause};
 ghost use Rattle.fsfs_look.specs.Revprops.Texts.{value_of, log_lines, DateLine};
 
-use crate::{LookError, put_date, write_piece};
+use crate::LookError;
+use crate::piece::write_piece;
+use crate::revprops::date::put_date;
 use fsfs_base::{Pairs, RevNum, Sink, read_date};
 use fsfs_revision::{DamageKind, ReadError, RevOffset};
 use itoa::Buffer;

@@ -4,8 +4,10 @@ ghost use Rattle.fsfs_look.specs.Written.{Writes, HasDiskCause, HasSinkCause};
 ghost use Rattle.fsfs_look.specs.Revprops.Files.{IsToldProps};
 ghost use Rattle.fsfs_look.specs.Revprops.Texts.{AuthorText, DateText, LogText, InfoText};
 
+use crate::LookError;
+use crate::piece::write_piece;
 use crate::revprops::lines::{date_line, value, write_line, write_log};
-use crate::{LookError, rev_props, write_piece};
+use crate::revprops::reading::rev_props;
 use fsfs_base::{RevNum, Sink};
 use fsfs_revision::Book;
 use std::alloc::Global;

@@ -76,16 +76,6 @@ impl MemDisk {
         }
     }
 
-    /// An empty disk. Of each bench that it makes the calls with these numbers fail; the first call is 1.
-    pub fn with_bench_faults(alloc: Global, failing: Vec<u64>) -> MemDisk
-        ensures trace { trace_of result ≡ empty_trace }
-        ensures faults { result.faults.count ≡ 0 }
-        ensures failing { result.bench_failing ≡ failing }
-        ensures bench_faults { result.bench_faults ≡ 0 }
-    {
-        MemDisk::new(alloc).failing(Vec::new(alloc), failing)
-    }
-
     /// The same disk, of whose calls from now on these fail, and these of each bench that it makes; the first call is 1.
     pub fn failing(mut self, calls: Vec<u64>, bench_calls: Vec<u64>) -> MemDisk
         ensures trace { trace_of result ≡ trace_of self }

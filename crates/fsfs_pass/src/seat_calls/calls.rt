@@ -14,7 +14,8 @@ ghost use Rattle.fsfs_pass.specs.Tells.{TellsIt};
 ghost use Rattle.fsfs_pass.specs.SeatCalls.Tells.{IsBack, Unmade};
 
 use crate::seat_calls::gives::{give_called, give_unmade};
-use crate::{Board, SharedSeat, give_back, take};
+use crate::seats::table::give_back;
+use crate::{Board, SharedSeat, take};
 use fsfs_base::{Failed, Name};
 use fsfs_disk::Disk;
 use std::sync::Wait;

@@ -19,7 +19,8 @@ ghost use Rattle.fsfs_pass.specs.Tells.{TellsIt};
 ghost use Rattle.fsfs_pass.specs.SeatCalls.Tells.{IsBack, MayDrop, counting};
 
 use crate::seat_calls::gives::{give_benched, give_listed, give_purged};
-use crate::{Board, SharedSeat, give_back, take};
+use crate::seats::table::give_back;
+use crate::{Board, SharedSeat, take};
 use fsfs_base::{Failed, Name, Note, Says};
 use fsfs_disk::{Bench, Disk, Label, ListFault};
 use fsfs_layout::OnlyFile;

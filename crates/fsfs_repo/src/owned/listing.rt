@@ -6,8 +6,8 @@ ghost use Rattle.fsfs_turn.specs.Views.{View};
 ghost use Rattle.fsfs_repo.specs.Owned.Crashes.{CrashesLeave};
 ghost use Rattle.fsfs_repo.specs.Txns.Listings.{ListsSo};
 
-use crate::list_txns;
 use crate::owned::repo::Repo;
+use crate::txns::listing::list_txns;
 use fsfs_base::TxnName;
 use fsfs_disk::{Disk, ListFault};
 use fsfs_turn::{Owned, Turns};

@@ -28,7 +28,7 @@ use std::alloc::Global;
 /// up to 2099. It takes up to four turns, each of which lands the transaction on the youngest revision and makes what is written; with the
 /// write lock held it writes that behind the texts, and publishes it by the section. What is left of the transaction is purged then. The
 /// lock is given in the end, but where a fault left it stuck. Where others rest on the turns the note says for which transaction alone it
-/// stands, and else none (`note_txn`).
+/// stands, and else none.
 pub fn commit_txn<R, T: Turns<R>, G: Gate>(
     rt: &R,
     alloc: Global,

@@ -6,4 +6,3 @@ pub(crate) mod committing;
 pub(crate) mod ending;
 pub(crate) mod listing;
 pub(crate) mod purging;
-pub(crate) mod standing;

@@ -8,10 +8,11 @@ ghost use Rattle.fsfs_txn.specs.Leading.{LacksNothing, LeadStill};
 ghost use Rattle.fsfs_txn.specs.Spending.{IsSpentAfter, StaysSpent, HasBenchCause};
 ghost use Rattle.fsfs_txn.specs.Edits.Properties.{is_mergeinfo, outcome_of, MeetsSettingProp, IsStaleProp};
 
+use crate::opened::properties::put_property;
 use crate::opening::Opened;
 use crate::txn::Txn;
 use crate::txn_error::TxnError;
-use crate::{PropertyPut, Way, put_property};
+use crate::{PropertyPut, Way};
 use fsfs_base::PropName;
 use fsfs_draft::{EditError, Own};
 use fsfs_txn_nodes::OwnFiles;

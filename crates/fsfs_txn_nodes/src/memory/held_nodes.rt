@@ -14,7 +14,7 @@ use crate::memory::files::OwnFiles;
 use crate::memory::keys::{NodeKey, key_of};
 use crate::memory::nodes::{Nodes, make_room, node_at, put, settle_steps};
 use crate::memory::writing::{take_files, write_files};
-use crate::{
+use crate::txn_folder::file_changes::{
     child_files, merged_files, next_files, property_files, settled_files, taken_files, text_files,
 };
 use fsfs_base::{B36, Failed, Kind, Name, Pairs, TxnName, next_b36};
