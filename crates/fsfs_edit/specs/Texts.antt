@@ -1,26 +1,18 @@
 -- A text put at a path: what is left.
-use Rattle.std.specs.Prelude.{◌≡◌, ◌≤◌, ℕ, true, false, List, None, Result, Ok, Err, Vec}
+use Rattle.std.specs.Prelude.{◌≡◌, ℕ, true, false, List, None, Ok, Vec}
 use Rattle.std.specs.Global.{Global}
 use Rattle.fsfs_base.specs.Paths.{Path}
-use Rattle.fsfs_base.specs.declared.kind.Kind.TheVariants.{File, Dir}
+use Rattle.fsfs_base.specs.declared.kind.Kind.TheVariants.{File}
 use Rattle.fsfs_tree.specs.Nodes.{TreeFunction}
-use Rattle.fsfs_tree.specs.Trees.{IsTree}
 use Rattle.fsfs_model.specs.declared.flat.edit.Edit.TheVariants.{PutText}
 use Rattle.fsfs_model.specs.declared.flat.mark.Mark.{Mark}
 use Rattle.fsfs_base.specs.declared.fields.txn_name.TxnName.{TxnName}
-use Rattle.fsfs_revision.specs.Told.{Told, RevisionBytes, Knows}
+use Rattle.fsfs_revision.specs.Told.{RevisionBytes}
 use Rattle.fsfs_noderev.specs.declared.rep.Rep.{Rep}
 use Rattle.fsfs_revision.specs.Rep.Frames.{RepIn}
-use Rattle.fsfs_revision.specs.Shows.ByTree.{LacksAt, IsBlockedAt}
-use Rattle.fsfs_draft.specs.Drafts.{Folder, ShowTrees}
-use Rattle.fsfs_draft.specs.Edits.{IsDraftAfter}
-use Rattle.fsfs_draft.specs.Errors.{IfStays}
-use Rattle.fsfs_draft.specs.Walks.{HasKind}
-use Rattle.fsfs_draft.specs.declared.error.EditError.{EditError}
+use Rattle.fsfs_draft.specs.Drafts.{Folder}
 use Rattle.fsfs_edit.specs.Items.{ModifiesItem}
 use Rattle.fsfs_edit.specs.Meeting.{IsDone}
-use Rattle.fsfs_edit.specs.declared.text.TextSet.{TextSet}
-use Rattle.fsfs_edit.specs.declared.text.TextSet.TheVariants as sets
 
 -- the representation is one of the prototype file, of this text
 pub record IsProtoText (proto : List ℕ) (rep : Rep) (text : List ℕ) : Type 0 where
