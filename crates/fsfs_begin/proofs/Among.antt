@@ -30,12 +30,12 @@ use Rattle.fsfs_turn.specs.Views.{View, Begins, Looked, LockTaken, LockGiven, Ma
 use Rattle.fsfs_turn.proofs.Doubts.{same_faults}
 use Rattle.fsfs_turn.proofs.Reading.{begins_on}
 use Rattle.fsfs_turn.proofs.Moments.{begins_itself}
-use Rattle.fsfs_begin.specs.TurnBegin.Steps.{Steps, End, HasName, Moved}
-use Rattle.fsfs_begin.specs.TurnBegin.Drawing.{Draws}
-use Rattle.fsfs_begin.specs.TurnBegin.Faults.{Cause, LacksNumber, NoNumber, named_fault, read_fault}
-use Rattle.fsfs_begin.specs.TurnBegin.Begun.{IsMade, IsMadeAmong, HasBegunAmong}
-use Rattle.fsfs_begin.specs.TurnBegin.Labels.{ListsNoMore}
-use Rattle.fsfs_begin.specs.declared.turn_begin.begin_fault.BeginFault.{BeginFault}
+use Rattle.fsfs_begin.specs.Steps.{Steps, End, HasName, Moved}
+use Rattle.fsfs_begin.specs.Drawing.{Draws}
+use Rattle.fsfs_begin.specs.Faults.{Cause, LacksNumber, NoNumber, named_fault, read_fault}
+use Rattle.fsfs_begin.specs.Begun.{IsMade, IsMadeAmong, HasBegunAmong}
+use Rattle.fsfs_begin.specs.Labels.{ListsNoMore}
+use Rattle.fsfs_begin.specs.declared.begin_fault.BeginFault.{BeginFault}
 use Rattle.fsfs_begin.proofs.Benching.{no_more_on}
 use Rattle.fsfs_begin.proofs.Going.{steps_on, one_turn}
 use Rattle.fsfs_begin.proofs.Moving.{moved_on, by_look, moved_by, may_give, given_over, bytes_stay, longer}

@@ -9,8 +9,8 @@ use Rattle.fsfs_disk.proofs.LabelLemmas.{has-without, has-with, without-with}
 use Rattle.fsfs_noderev.specs.declared.node_id.NodeId.{NodeId}
 use Rattle.fsfs_begin.specs.Benches.{first_files, with_first_files}
 use Rattle.fsfs_turn.specs.Labels.{Relabels, Drops}
-use Rattle.fsfs_begin.specs.TurnBegin.Faults.{IsDropped}
-use Rattle.fsfs_begin.specs.TurnBegin.Labels.{IsUnlisted, ListsNoMore}
+use Rattle.fsfs_begin.specs.Faults.{IsDropped}
+use Rattle.fsfs_begin.specs.Labels.{IsUnlisted, ListsNoMore}
 
 pub kept_now : (l : Label) (old new : Option (List Label)) → new ≡ option_map (with_label l) old → IfSome new (λ ls. has_label l ls ≡ true)
 kept_now l None new is = subst (λ o. IfSome o (λ ls. has_label l ls ≡ true)) (sym is) tt

@@ -21,8 +21,8 @@ use Rattle.fsfs_turn.specs.Learning.{TurnedFrom, CounterRead, drawn_of}
 use Rattle.fsfs_base.specs.declared.fields.txn_name.TxnName.{TxnName}
 use Rattle.fsfs_begin.specs.declared.name_fault.NameFault.TheVariants.{DiskFault, Memory}
 use Rattle.fsfs_turn.proofs.Reading.{begins_on}
-use Rattle.fsfs_begin.specs.TurnBegin.Steps.{Steps, End, More, Reached, Stopped, IsGiven}
-use Rattle.fsfs_begin.specs.TurnBegin.Drawing.{HasRead, Raises, Draws}
+use Rattle.fsfs_begin.specs.Steps.{Steps, End, More, Reached, Stopped, IsGiven}
+use Rattle.fsfs_begin.specs.Drawing.{HasRead, Raises, Draws}
 
 -- ---- courses
 
@@ -99,13 +99,6 @@ module _ (base number : ℕ) (v : View) where
 
 pub section_on : (s : Section) (v m : View) → Reached s v m → m.section ≡ Some s
 section_on s v m r = ap {A = View} (λ z. z.section) r.is
-
-pub reached_on : (s r : Section) (v m u : View) → Reached s v m → Reached r m u → Reached r v u
-reached_on s r v m u a b = record {
-  is = b.is ∙ ap {A = View} (λ z. record z { pass = record z.pass { seen = length u.seen }; seen = u.seen; section = Some r }) a.is;
-  grows = begins_on v.seen m.seen u.seen a.grows b.grows;
-  steps = steps_on v m u a.steps b.steps;
-}
 
 pub stopped_on : (s : Section) (at : BeginPlace) (v m u : View) → Reached s v m → Stopped at m u → Stopped at v u
 stopped_on s at v m u a b = record {

@@ -1,12 +1,7 @@
 pub mod CounterLemmas
 pub mod ReadLemmas
-pub mod CourseLemmas
-pub mod AnswerLemmas
 pub mod MakingLemmas
 pub mod RevisionLemmas
-pub mod LeavingLemmas
-pub mod BeginLemmas
-pub mod OpeningLemmas
 pub mod FirstFiles
 pub mod Going
 pub mod Reading

@@ -18,10 +18,10 @@ use Rattle.fsfs_turn.specs.Bytes.{bytes_beside, bytes_of}
 use Rattle.fsfs_turn.specs.Views.{View, Begins, Looked, LockTaken, FoundStuck, LockGiven, MayGive, outside}
 use Rattle.fsfs_turn.specs.Learning.{BenchMade, SpentPurged, MayMake, drawn_of, with_named, with_spent}
 use Rattle.fsfs_turn.proofs.Doubts.{harmless_more, same_faults}
-use Rattle.fsfs_begin.specs.TurnBegin.Steps.{Steps, End, Stopped, IsGiven, HasName, Moved, HasFault}
-use Rattle.fsfs_begin.specs.TurnBegin.Drawing.{IsUndrawn}
-use Rattle.fsfs_begin.specs.TurnBegin.Faults.{Cause, named_fault}
-use Rattle.fsfs_begin.specs.TurnBegin.Begun.{IsMade}
+use Rattle.fsfs_begin.specs.Steps.{Steps, End, Stopped, IsGiven, HasName, Moved, HasFault}
+use Rattle.fsfs_begin.specs.Drawing.{IsUndrawn}
+use Rattle.fsfs_begin.specs.Faults.{Cause, named_fault}
+use Rattle.fsfs_begin.specs.Begun.{IsMade}
 use Rattle.fsfs_turn.proofs.Reading.{begins_on}
 use Rattle.fsfs_turn.proofs.Moments.{begins_itself}
 use Rattle.fsfs_begin.proofs.Going.{steps_on, one_step, one_turn}

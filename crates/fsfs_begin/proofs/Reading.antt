@@ -21,9 +21,9 @@ use Rattle.fsfs_machine.specs.Machine.{is_fine_in}
 use Rattle.fsfs_turn.specs.Views.{View, Answers}
 use Rattle.fsfs_turn.specs.Learning.{ReadsCounter, CounterRead}
 use Rattle.fsfs_base.specs.declared.places.place.BeginPlace.TheVariants as place
-use Rattle.fsfs_begin.specs.TurnBegin.Steps.{IsPastNumbers, MeetsPastNumbers}
-use Rattle.fsfs_begin.specs.TurnBegin.Drawing.{Counts, HasRead}
-use Rattle.fsfs_begin.specs.TurnBegin.Faults.{NoNumber}
+use Rattle.fsfs_begin.specs.Steps.{IsPastNumbers, MeetsPastNumbers}
+use Rattle.fsfs_begin.specs.Drawing.{Counts, HasRead}
+use Rattle.fsfs_begin.specs.Faults.{NoNumber}
 use Rattle.fsfs_begin.proofs.Going.{count_reached, count_stopped}
 
 few_or_many : (n : ℕ) → (n < 2 ^ 64 - 1) ⊎ (2 ^ 64 - 1 ≤ n)

@@ -1,18 +1,13 @@
--- The bench of a transaction that begins: its first files, and what is left where it could not be made.
-use Rattle.std.specs.Prelude.{◌⊎◌, ℕ, List, [], Option, IfSome, codes}
+-- The bench of a transaction that begins: its first files.
+use Rattle.std.specs.Prelude.{ℕ, List, [], Option, IfSome, codes}
 use Rattle.std.specs.FinMap.{insert, empty}
 use Rattle.fsfs_base.specs.Files.{Files}
-use Rattle.fsfs_disk.specs.Labels.{Label, with_label, without_label}
-use Rattle.fsfs_disk.specs.Trace.{Trace}
-use Rattle.fsfs_disk.specs.Transactions.Removals.{HasLabels}
 use Rattle.fsfs_noderev.specs.declared.node_id.NodeId.{NodeId}
 use Rattle.fsfs_noderev.specs.declared.node_rev.NodeRev.{NodeRev}
 use Rattle.fsfs_txn_files.specs.FileNames.{file_name}
 use Rattle.fsfs_txn_files.specs.declared.folder_file.FolderFile.TheVariants.{Node}
 use Rattle.fsfs_txn_nodes.specs.TxnFolder.Folders.{TellsFolder}
 use Rattle.fsfs_txn_nodes.specs.TxnFolder.Telling.{root_folder}
-use Rattle.fsfs_begin.specs.declared.making.BenchFault.{BenchFault}
-use Rattle.fsfs_begin.specs.declared.making.BenchFault.TheVariants as fault
 
 -- files with those that a transaction begins with: no properties, no numbers drawn, no items, no texts, and its root, of this id, with
 -- this text
@@ -26,10 +21,3 @@ first_files id root = with_first_files id root empty
 -- the files of a bench tell a folder that has this root alone, whatever its prototype file has
 abbrev pub TellsRoot : NodeRev → Option Files → Type 0
 TellsRoot root held = (proto : List ℕ) → IfSome held (λ m. TellsFolder m (root_folder root proto))
-
--- Why there is no bench, and the labels that are left; `disk` and `benches` say that these counts of faults rose.
--- Where the disk failed to make it, the label is as it was, or kept, or gone. Where the bench failed the label is gone,
--- or the disk failed to drop it, and it is kept.
-abbrev pub IsUnmade : Type 0 → Type 0 → Label → Option Trace → Option Trace → BenchFault → Type 0
-IsUnmade disk benches l old new fault.Disk = disk × (HasLabels (λ ls. ls) old new ⊎ (HasLabels (with_label l) old new ⊎ HasLabels (without_label l) old new))
-IsUnmade disk benches l old new fault.Bench = benches × (HasLabels (without_label l) old new ⊎ (disk × HasLabels (with_label l) old new))

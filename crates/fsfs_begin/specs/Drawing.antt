@@ -1,52 +1,19 @@
--- The course of a drawing on a disk: what it has done at each place, and why no name was drawn.
-use Rattle.std.specs.Prelude.{◌≡◌, ◌+◌, ℕ, List, Option, IfSome, option_map}
-use Rattle.fsfs_disk.specs.Trace.{Trace, add_operation, files_now, FailsAt, FailsToPut}
-use Rattle.fsfs_disk.specs.Trace.Operation.{Done}
-use Rattle.fsfs_disk.specs.Trace.NameChange.{Put, Rename, FirmNames}
-use Rattle.fsfs_base.specs.declared.small_fault.SmallFile.TheVariants as file
-use Rattle.fsfs_layout.specs.FileNames.{only_name}
-use Rattle.fsfs_layout.specs.declared.only_file.OnlyFile.TheVariants.{TxnCurrent, TxnCurrentNext}
-use Rattle.fsfs_layout.specs.Opening.{text_at}
-use Rattle.fsfs_layout.specs.Small.{IsBase36Line, IsRefusedFile}
-use Rattle.fsfs_base.specs.declared.places.place.BeginPlace.{BeginPlace}
-use Rattle.fsfs_base.specs.declared.places.place.BeginPlace.TheVariants as place
-use Rattle.fsfs_begin.specs.Counter.{HasNumber}
+-- How the name of a new transaction is drawn, call by call.
+use Rattle.std.specs.Prelude.{◌<◌, ℕ, length, Result, Ok, Err}
+use Rattle.fsfs_base.specs.declared.grammar.base36.B36.{B36}
+use Rattle.fsfs_base.specs.declared.fields.txn_name.TxnName.{TxnName}
 use Rattle.fsfs_begin.specs.declared.name_fault.NameFault.{NameFault}
 use Rattle.fsfs_begin.specs.declared.name_fault.NameFault.TheVariants.{Small, NamesFull, DiskFault, Memory}
-
--- the bytes of `db/txn-current`, as a disk tells; of one that isn't there none
-abbrev pub counter_told : Trace → List ℕ
-counter_told t = text_at (files_now t) (only_name TxnCurrent)
-
--- the next number was put beside
-abbrev pub after_put : List ℕ → Trace → Trace
-after_put text t = add_operation (Done (Put (only_name TxnCurrentNext) text)) t
-
--- and got its name
-abbrev pub after_rename : List ℕ → Trace → Trace
-after_rename text t = add_operation (Done (Rename (only_name TxnCurrentNext) (only_name TxnCurrent))) (after_put text t)
-
--- and that name was made firm
-abbrev pub after_drawing : List ℕ → Trace → Trace
-after_drawing text t = add_operation (Done FirmNames) (after_rename text t)
-
--- where it failed to take the counter's place, and what had been done
-abbrev pub StopsRaising : BeginPlace → List ℕ → Option Trace → Option Trace → Type 0
-StopsRaising place.Read text old new = ⊥
-StopsRaising place.Put text old new = FailsToPut (only_name TxnCurrentNext) text old new
-StopsRaising place.Rename text old new = FailsAt (Rename (only_name TxnCurrentNext) (only_name TxnCurrent)) (option_map (after_put text) old) new
-StopsRaising place.Firm text old new = FailsAt FirmNames (option_map (after_rename text) old) new
-
--- behind the number that stood there the next one was to take its place
-abbrev pub StopsBehind : BeginPlace → Option Trace → Option Trace → Type 0
-StopsBehind call old new = (n : ℕ) × (text : List ℕ) × IfSome old (λ t. HasNumber (files_now t) n) × IsBase36Line text (n + 1) × StopsRaising call text old new
-
--- where a drawing failed: at the reading it did nothing
-abbrev pub IsStopped : BeginPlace → Option Trace → Option Trace → Type 0
-IsStopped place.Read old new = new ≡ old
-IsStopped place.Put old new = StopsBehind place.Put old new
-IsStopped place.Rename old new = StopsBehind place.Rename old new
-IsStopped place.Firm old new = StopsBehind place.Firm old new
+use Rattle.fsfs_base.specs.declared.places.place.BeginPlace.{BeginPlace}
+use Rattle.fsfs_machine.specs.declared.machine.Drawn.{Drawn}
+use Rattle.fsfs_machine.specs.declared.machine.Section.TheVariants.{CountRead}
+use Rattle.fsfs_turn.specs.Learning.{drawn_of}
+use Rattle.fsfs_turn.specs.Views.{View}
+use Rattle.fsfs_begin.specs.Steps.{Reached, Stopped, IsGiven, HasName, Moved}
+use Rattle.fsfs_begin.specs.Faults.{Cause}
+use Rattle.fsfs_begin.specs.declared.begin_fault.BeginFault.{BeginFault}
+use Rattle.fsfs_base.specs.declared.small_fault.SmallFile.TheVariants as file
+use Rattle.fsfs_layout.specs.Small.{IsBase36Line, IsRefusedFile}
 
 -- these bytes are in no form, and nothing else is wrong
 abbrev pub IsSmallIn : List ℕ → NameFault → Type 0
@@ -55,16 +22,34 @@ IsSmallIn text NamesFull = ⊥
 IsSmallIn text (DiskFault call) = ⊥
 IsSmallIn text Memory = ⊥
 
--- why no number was read
-abbrev pub IsUnread : Type 0 → Option Trace → NameFault → Type 0
-IsUnread rose told (Small fault) = IfSome told (λ t. IsRefusedFile file.TxnCurrent IsBase36Line (counter_told t) fault)
-IsUnread rose told NamesFull = ⊥
-IsUnread rose told (DiskFault call) = rose × (call ≡ place.Read)
-IsUnread rose told Memory = ⊥
+-- the number was read, as the section's first call
+pub record HasRead (base number : ℕ) (v u : View) : Type 0 where
+  pub reached : Reached (CountRead (drawn_of base number)) v u
+  pub all : v.pass.least < length u.seen
+  pub small : number < 18446744073709551615
 
--- why no name was drawn, and how far it came; `rose` says that the disk's count of faults rose
-abbrev pub NameFails : Type 0 → Option Trace → Option Trace → NameFault → Type 0
-NameFails rose old new (Small fault) = IfSome old (λ t. IsRefusedFile file.TxnCurrent IsBase36Line (counter_told t) fault) × (new ≡ old)
-NameFails rose old new NamesFull = IfSome old (λ t. HasNumber (files_now t) 170581728179578208255) × (new ≡ old)
-NameFails rose old new (DiskFault call) = rose × IsStopped call old new
-NameFails rose old new Memory = new ≡ old
+-- why no name was drawn, and where the section stands
+abbrev pub IsUndrawn : ℕ → NameFault → View → View → Type 0
+IsUndrawn base (Small fault) v u = ⊥
+IsUndrawn base NamesFull v u = ⊥
+IsUndrawn base (DiskFault place) v u = Stopped place v u
+IsUndrawn base Memory v u = (number : ℕ) × Reached (CountRead (drawn_of base number)) v u
+
+abbrev pub Counts : (View → Type 0) → ℕ → Result B36 NameFault → View → Type 0
+Counts known base (Ok b) v = (u : View) × known u × HasRead base b.number v u
+Counts known base (Err why) v = (u : View) × known u × IsUndrawn base why v u
+
+-- the next number took the place of the one that was read, or a call of that failed
+abbrev pub Raises : (View → Type 0) → Drawn → Result (Unit {0}) BeginPlace → View → Type 0
+Raises known x (Ok done) v = (u : View) × known u × IsGiven x.name v u
+Raises known x (Err place) v = (u : View) × known u × Stopped place v u
+
+-- with the lock held
+abbrev pub Draws : (View → Type 0) → ℕ → Result TxnName NameFault → View → Type 0
+Draws known base (Ok name) v = (u : View) × known u × IsGiven name.number.number v u × (v.pass.least < length u.seen)
+Draws known base (Err why) v = (u : View) × known u × IsUndrawn base why v u
+
+-- by a section of its own
+abbrev pub Drew : (View → Type 0) → ℕ → Result TxnName BeginFault → View → Type 0
+Drew known base (Ok name) v = (u : View) × known u × HasName name.number.number v u
+Drew known base (Err why) v = (u : View) × known u × Moved v u × Cause base why u

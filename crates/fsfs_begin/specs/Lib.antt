@@ -1,8 +1,8 @@
-pub mod Counter
-pub mod Drawing
-pub mod Deciding
 pub mod Benches
 pub mod Beginning
+pub mod Steps
+pub mod Faults
+pub mod Drawing
 pub mod Begun
-pub mod TurnBegin
+pub mod Labels
 pub mod Purged

@@ -9,8 +9,8 @@ use Rattle.fsfs_machine.specs.declared.machine.Went.TheVariants.{Fine}
 use Rattle.fsfs_machine.specs.Machine.{World, is_fine_in}
 use Rattle.fsfs_turn.specs.Views.{View, Begins}
 use Rattle.fsfs_turn.specs.Learning.{TurnedFrom}
-use Rattle.fsfs_begin.specs.declared.turn_purge.purge_fault.PurgeFault.{PurgeFault}
-use Rattle.fsfs_begin.specs.declared.turn_purge.purge_fault.PurgeFault.TheVariants.{DiskFault}
+use Rattle.fsfs_begin.specs.declared.purge_fault.PurgeFault.{PurgeFault}
+use Rattle.fsfs_begin.specs.declared.purge_fault.PurgeFault.TheVariants.{DiskFault}
 
 -- PURGED, by one step of the machine from the store as it is laid out here. The pass saw the history as it is then, and nothing else
 -- is changed for it.

@@ -3,12 +3,15 @@ use fsfs_base::{DiskPlace, RevNum, SmallFault};
 use fsfs_revision::Wrong;
 use thiserror::Error;
 
-/// Why no transaction was begun.
+/// Why no transaction was begun. No failure leaves the lock taken or stuck.
 #[derive(Clone, Copy, Debug, PartialEq, Eq, Error)]
 pub enum BeginFault {
     /// The base is above the youngest revision.
     #[error("there is no revision {asked}; the youngest is {youngest}")]
     NoRev { asked: RevNum, youngest: RevNum },
+    /// The write lock is stuck at this place.
+    #[error("the lock is stuck")]
+    Stuck(DiskPlace),
     /// `db/txn-current` is not in its format.
     #[error("db/txn-current is damaged")]
     Small(SmallFault),

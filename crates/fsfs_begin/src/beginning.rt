@@ -1,58 +1,31 @@
-//! A transaction is begun.
-ghost use Rattle.std.specs.Prelude.{◌≡◌, ◌≤◌, ℕ, Some, Ok, Err, option_map, IfOk, IfErr, IfSome, OnOk, IsTrue};
+//! A transaction is begun by turns.
+ghost use Rattle.std.specs.Prelude.{◌≡◌, ◌⊎◌, ◌≤◌, true, false, None, OnOk, OnErr, IfOk, IfErr, IfSome};
 ghost use Rattle.fsfs_base.specs.Failures.{Rose};
-ghost use Rattle.fsfs_revision.specs.Damage.Causes.{IfDisk};
-ghost use Rattle.fsfs_revision.specs.Damage.Readings.{Answers, IfWrong};
-ghost use Rattle.fsfs_disk.specs.Labels.{with_label};
-ghost use Rattle.fsfs_disk.specs.Trace.{Trace, files_now};
-ghost use Rattle.fsfs_disk.specs.Crash.{AllImages, AreAll, KeepsImages, Leaves, LeavesBoth};
-ghost use Rattle.fsfs_noderev.specs.Writing.{HasText};
-ghost use Rattle.fsfs_noderev.specs.declared.node_rev.NodeRev.{NodeRev};
-ghost use Rattle.fsfs_revision.specs.RevBytes.{rev_bytes, floor_in};
-ghost use Rattle.fsfs_revision.specs.Shows.Reading.{RootOf};
+ghost use Rattle.fsfs_disk.specs.Labels.{has_label, with_label};
 ghost use Rattle.fsfs_disk.specs.Transactions.Txns.{pair_of, txn_label};
-ghost use Rattle.fsfs_disk.specs.Transactions.Removals.{HasLabels, IsImageOf};
-ghost use Rattle.fsfs_disk.specs.Published.{IsOldOrThis};
-ghost use Rattle.fsfs_begin.specs.Beginning.{BeginsOn};
+ghost use Rattle.fsfs_begin.specs.Begun.{IsBegunOn};
 ghost use Rattle.fsfs_begin.specs.Benches.{TellsRoot};
-ghost use Rattle.fsfs_begin.specs.Counter.{IsAtLeast, IsOldOrNext};
-ghost use Rattle.fsfs_begin.specs.Drawing.{counter_told};
-ghost use Rattle.fsfs_begin.specs.Begun.{named_fault, read_fault, made_fault, HoldsRoot, WasDrawn, IsOldOrDrawn, MakeFails, BeginFails, IfWrongBase, IsBegunOn, StandsForBase, BeginIsDecided, IsUpToDate};
+ghost use Rattle.fsfs_turn.specs.Bytes.{bytes_of};
+ghost use Rattle.fsfs_turn.specs.Labels.{Relabels};
+ghost use Rattle.fsfs_turn.specs.Mountings.{RoseBy};
+ghost use Rattle.fsfs_turn.specs.Views.{View};
+ghost use Rattle.fsfs_turn.specs.Learning.{MayMake, drawn_of};
+ghost use Rattle.fsfs_begin.specs.Steps.{MeetsPastNumbers, Moved};
+ghost use Rattle.fsfs_begin.specs.Faults.{Cause, IfBench, IfDisk, IsAbove, IsDropped, LacksNumber, LeavesNone, bench_faults_in, read_fault};
+ghost use Rattle.fsfs_begin.specs.Begun.{HoldsRoot, IsMade, IsMadeAmong, HasBegun, HasBegunAmong};
+ghost use Rattle.fsfs_begin.specs.Labels.{ListsNoMore};
+ghost use Rattle.fsfs_begin.specs.declared.numbers.Numbers.TheVariants.{OfMachine};
 
 use crate::begin_fault::BeginFault;
-use crate::drawing::next_name;
-use crate::making::{BenchFault, begin_bench};
-use crate::name_fault::NameFault;
-use crate::root::first_root;
+use crate::begun::Begun;
+use crate::drawing::draw;
+use crate::making::make;
+use crate::numbers::Numbers;
+use crate::root::base_root;
 use fsfs_base::{DiskPlace, RevNum, TxnName};
-use fsfs_dag::{PlacedNode, root_of};
-use fsfs_disk::{Bench, Disk};
-use fsfs_fetch::{disk_of, over_disk};
-use fsfs_layout::Opened;
-use fsfs_noderev::{NodeRev, write_noderev};
 use fsfs_revision::ReadError;
-use fsfs_txn_nodes::id_fits;
+use fsfs_turn::Turns;
 use std::alloc::Global;
-
-/// A transaction that has just begun, on the revision that its name has. It stands for that revision's tree, and has no marks.
-#[derive(Drop)]
-pub struct Begun<B: Bench> {
-    pub name: TxnName,
-    /// Its root, whose text stands in its bench.
-    pub root: NodeRev,
-    pub bench: B,
-}
-
-fn named_fault(fault: NameFault) -> BeginFault
-    ensures { result ≡ named_fault fault }
-{
-    match fault {
-        NameFault::Small(fault) => BeginFault::Small(fault),
-        NameFault::NamesFull => BeginFault::NamesFull,
-        NameFault::DiskFault(place) => BeginFault::DiskFault(DiskPlace::Begin(place)),
-        NameFault::Memory => BeginFault::Memory,
-    }
-}
 
 fn read_fault(error: ReadError) -> BeginFault
     ensures { result ≡ read_fault error }
@@ -64,176 +37,106 @@ fn read_fault(error: ReadError) -> BeginFault
     }
 }
 
-fn made_fault(fault: BenchFault) -> BeginFault
-    ensures { result ≡ made_fault fault }
-{
-    match fault {
-        BenchFault::Disk => BeginFault::DiskFault(DiskPlace::MakeBench),
-        BenchFault::Bench => BeginFault::BenchFault,
-    }
-}
-
-// The root of a revision of an opened repository, and its disk back.
-fn base_root<D: Disk>(
+// Begins a transaction whose name was drawn, and gives the turns back.
+fn begin_named<R, T: Turns<R>>(
     alloc: Global,
-    disk: D,
-    opened: &Opened,
-    base: RevNum,
-) -> (D, Result<PlacedNode, ReadError>)
-    ensures told { (t : Trace) → D.trace disk ≡ Some t → floor_in opened.now.layout (files_now t) ≡ Ok opened.now.min_unpacked_rev → base ≤ opened.now.youngest
-        → Answers (λ found. found.node) (RootOf (rev_bytes opened.now.layout (files_now t)) base) result.1 }
-    ensures writable { IfOk result.1 (λ found. HasText found.node) }
-    ensures same { D.trace result.0 ≡ D.trace disk }
-    ensures mounted { D.mount_path result.0 ≡ D.mount_path disk }
-    ensures right { D.may_write result.0 ≡ D.may_write disk }
-    ensures benches { D.bench_faults result.0 ≡ D.bench_faults disk }
-    ensures later { D.faults disk ≤ D.faults result.0 }
-    ensures failed { IfErr result.1 (λ e. IfDisk e (Rose (D.faults disk) (D.faults result.0))) }
-{
-    let mut book = over_disk(
-        alloc,
-        disk,
-        opened.youngest,
-        opened.layout,
-        opened.min_unpacked_rev,
-    );
-    let found = root_of(alloc, &mut book, base);
-    let disk = disk_of(book);
-    (disk, found)
-}
-
-// Makes the root over the base's, its text, and then the bench, so that want of memory leaves no label.
-fn make<D: Disk>(
-    alloc: Global,
-    disk: &mut D,
+    rt: &R,
+    turns: T,
     name: TxnName,
-    base: &NodeRev,
-) -> Result<Begun<D::Bench>, BeginFault>
-    requires right { IsTrue (D.may_write disk.old) }
-    requires text { HasText base.now }
-    ensures name { IfOk result (λ begun. begun.name ≡ name) }
-    ensures root { IfOk result (λ begun. BeginsOn name base.now begun.root) }
-    ensures filled { IfOk result (λ begun. HoldsRoot begun.root (D.trace disk.old) (D.Bench.contents begun.bench)) }
-    ensures tells { IfOk result (λ begun. TellsRoot begun.root (D.Bench.contents begun.bench)) }
-    ensures sound { IfOk result (λ begun. D.Bench.faults begun.bench ≡ 0) }
-    ensures kept { OnOk result (HasLabels (with_label (txn_label (pair_of name))) (D.trace disk.old) (D.trace disk.new)) }
-    ensures refused { IfErr result (MakeFails (Rose (D.faults disk.old) (D.faults disk.new)) (Rose (D.bench_faults disk.old) (D.bench_faults disk.new)) (txn_label (pair_of name)) (D.trace disk.old) (D.trace disk.new)) }
-    ensures read { IfErr result (IfWrongBase (λ wrong. ⊥)) }
-    ensures files { option_map files_now (D.trace disk.new) ≡ option_map files_now (D.trace disk.old) }
-    ensures images { AllImages (D.trace disk.new) (IsImageOf (D.trace disk.old)) }
-    ensures any_moment { Leaves (D.trace disk.old) (D.trace disk.new) (IsImageOf (D.trace disk.old)) }
-    ensures labels { LeavesBoth (D.trace disk.old) (D.trace disk.new) (λ m ls. AreAll (IsOldOrThis (txn_label (pair_of name)) (D.trace disk.old)) ls) }
-    ensures mounted { D.mount_path disk.new ≡ D.mount_path disk.old }
-    ensures keeps_right { D.may_write disk.new ≡ D.may_write disk.old }
-    ensures later { D.faults disk.old ≤ D.faults disk.new }
-    ensures benches { OnOk result (D.bench_faults disk.new ≡ D.bench_faults disk.old) }
-{
-    let Ok(root) = first_root(alloc, name, base) else {
-        return Err(BeginFault::Memory);
-    };
-    let Ok(text) = write_noderev(alloc, &root) else {
-        return Err(BeginFault::Memory);
-    };
-    id_fits(&root.id);
-    match begin_bench(disk, &name, &root.id, &text) {
-        Ok(bench) => Ok(Begun { name, root, bench }),
-        Err(fault) => Err(made_fault(fault)),
-    }
-}
-
-// Begins a transaction whose name was drawn, and gives the disk back.
-fn begin_named<D: Disk>(
-    alloc: Global,
-    disk: D,
-    opened: &Opened,
-    name: TxnName,
-) -> (D, Result<Begun<D::Bench>, BeginFault>)
-    requires { IsTrue (D.may_write disk) }
+) -> (T, Result<Begun<T::Bench>, BeginFault>)
+    requires due { T.bound turns ≡ true → (v : View) × T.knows turns v × MayMake v (drawn_of name.base name.number.number) }
     ensures name { IfOk result.1 (λ begun. begun.name ≡ name) }
-    ensures root { (t : Trace) → D.trace disk ≡ Some t → floor_in opened.now.layout (files_now t) ≡ Ok opened.now.min_unpacked_rev → name.base ≤ opened.now.youngest
-        → IfOk result.1 (λ begun. IsBegunOn (rev_bytes opened.now.layout (files_now t)) name begun.root) }
-    ensures filled { IfOk result.1 (λ begun. HoldsRoot begun.root (D.trace disk) (D.Bench.contents begun.bench)) }
-    ensures tells { IfOk result.1 (λ begun. TellsRoot begun.root (D.Bench.contents begun.bench)) }
-    ensures sound { IfOk result.1 (λ begun. D.Bench.faults begun.bench ≡ 0) }
-    ensures kept { OnOk result.1 (HasLabels (with_label (txn_label (pair_of name))) (D.trace disk) (D.trace result.0)) }
-    ensures refused { IfErr result.1 (MakeFails (Rose (D.faults disk) (D.faults result.0)) (Rose (D.bench_faults disk) (D.bench_faults result.0)) (txn_label (pair_of name)) (D.trace disk) (D.trace result.0)) }
-    ensures wrong { (t : Trace) → D.trace disk ≡ Some t → floor_in opened.now.layout (files_now t) ≡ Ok opened.now.min_unpacked_rev → name.base ≤ opened.now.youngest
-        → IfErr result.1 (IfWrongBase (λ wrong. RootOf (rev_bytes opened.now.layout (files_now t)) name.base (Err wrong))) }
-    ensures files { option_map files_now (D.trace result.0) ≡ option_map files_now (D.trace disk) }
-    ensures images { AllImages (D.trace result.0) (IsImageOf (D.trace disk)) }
-    ensures any_moment { Leaves (D.trace disk) (D.trace result.0) (IsImageOf (D.trace disk)) }
-    ensures labels { LeavesBoth (D.trace disk) (D.trace result.0) (λ m ls. AreAll (IsOldOrThis (txn_label (pair_of name)) (D.trace disk)) ls) }
-    ensures mounted { D.mount_path result.0 ≡ D.mount_path disk }
-    ensures right { D.may_write result.0 ≡ D.may_write disk }
-    ensures later { D.faults disk ≤ D.faults result.0 }
-    ensures benches { OnOk result.1 (D.bench_faults result.0 ≡ D.bench_faults disk) }
+    ensures filled { IfOk result.1 (λ begun. HoldsRoot begun.root (T.labels result.0) (T.Bench.contents begun.bench)) }
+    ensures tells { IfOk result.1 (λ begun. TellsRoot begun.root (T.Bench.contents begun.bench)) }
+    ensures sound { IfOk result.1 (λ begun. T.Bench.faults begun.bench ≡ 0) }
+    ensures kept { IfSome (T.labels result.0) (λ ls. OnOk result.1 (has_label (txn_label (pair_of name)) ls ≡ true)) }
+    ensures begun { (v : View) → T.knows turns v → MayMake v (drawn_of name.base name.number.number)
+        → IfOk result.1 (λ begun. (u : View) × T.knows result.0 u × IsMadeAmong v u × IsBegunOn (bytes_of v.seen) name begun.root) }
+    ensures alone { ((old new : T) (v : View) → (T.store new).below ≡ (T.store old).below → T.knows old v → T.knows new v)
+        → (v : View) → T.knows turns v → MayMake v (drawn_of name.base name.number.number)
+        → IfOk result.1 (λ begun. (u : View) × T.knows result.0 u × IsMade v u × IsBegunOn (bytes_of v.seen) name begun.root) }
+    ensures refused { (v : View) → T.knows turns v → MayMake v (drawn_of name.base name.number.number)
+        → IfErr result.1 (λ why. (u : View) × T.knows result.0 u × Moved v u × (u.given ≡ v.given) × Cause name.base why u) }
+    ensures dropped { IfErr result.1 (λ why. IfBench why (IsDropped (txn_label (pair_of name)) (T.labels result.0) (Rose (T.faults turns) (T.faults result.0)))) }
+    ensures listed { OnOk result.1 (Relabels (T.bound turns) (with_label (txn_label (pair_of name))) (T.labels turns) (T.labels result.0)) }
+    ensures unlisted { OnErr result.1 (T.bound turns ≡ false → ListsNoMore name.base (Rose (T.faults turns) (T.faults result.0)) (T.labels turns) (T.labels result.0)) }
+    ensures mounted { (T.mounting result.0).mount ≡ (T.mounting turns).mount }
+    ensures benches { RoseBy (bench_faults_in result.1) (T.mounting turns).bench_faults (T.mounting result.0).bench_faults }
+    ensures duty { T.bound result.0 ≡ T.bound turns }
+    ensures later { T.faults turns ≤ T.faults result.0 }
+    ensures cause { IfErr result.1 (λ why. IfDisk why (Rose (T.faults turns) (T.faults result.0))) }
+    ensures there { IfErr result.1 (IsAbove name.base) }
 {
-    let (back, found) = base_root(alloc, disk, opened, name.base);
-    let mut disk = back;
+    let (back, found) = base_root(alloc, rt, turns, name.base);
+    let mut turns = back;
     match found {
         Ok(base) => {
-            let begun = make(alloc, &mut disk, name, &base.node);
-            (disk, begun)
+            let begun = make(alloc, rt, &mut turns, name, &base.node);
+            (turns, begun)
         }
-        Err(error) => (disk, Err(read_fault(error))),
+        Err(error) => (turns, Err(read_fault(error))),
     }
 }
 
-/// Begins a transaction on a revision of an opened repository, and gives the disk back, whatever is answered. Its name is drawn
-/// first, then the root of the base is read, and last the bench is made and filled. No name is given twice, whatever fails and
-/// whenever the disk stops. Where it fails the bench is dropped again, and its label, as far as the disk lets.
-pub fn begin<D: Disk>(
+/// Begins a transaction on a revision, and gives the turns back, whatever is answered. Its name is drawn first, by a section of its
+/// own; then the root of the base is read, and last the bench is made and filled. No name is given twice, whatever fails and whenever
+/// the disk stops, and whatever fails the lock is given, unless it was found stuck. Where the bench fails it is dropped again, and its
+/// label, as far as the disk lets. Of the numbers that a name may have it draws these; where the next isn't among them, names are full.
+pub fn begin<R, T: Turns<R>>(
     alloc: Global,
-    disk: D,
-    opened: &Opened,
+    rt: &R,
+    turns: T,
     base: RevNum,
-) -> (D, Result<Begun<D::Bench>, BeginFault>)
-    requires right { IsTrue (D.may_write disk) }
-    requires opened { IfSome (D.trace disk) (λ t. IsUpToDate opened.now (files_now t)) }
+    numbers: Numbers,
+) -> (T, Result<Begun<T::Bench>, BeginFault>)
+    requires few { T.bound turns ≡ true → numbers ≡ OfMachine }
+    requires due { T.bound turns ≡ true → (v : View) × T.knows turns v × (v.section ≡ None) }
     ensures base { IfOk result.1 (λ begun. begun.name.base ≡ base) }
-    // Its number is the one that stood in `db/txn-current`; the next one stands there now, and in every image from then on.
-    ensures drawn { IfOk result.1 (λ begun. WasDrawn begun.name.number.number (D.trace disk) (D.trace result.0)) }
-    // Its label is kept now, and all others are as they were.
-    ensures kept { IfOk result.1 (λ begun. HasLabels (with_label (txn_label (pair_of begun.name))) (D.trace disk) (D.trace result.0)) }
-    // Its bench holds the files that a transaction begins with, and no others: among them its root's text.
-    ensures filled { IfOk result.1 (λ begun. HoldsRoot begun.root (D.trace disk) (D.Bench.contents begun.bench)) }
+    // Its bench holds the files that a transaction begins with, and no others: among them its root's text. Its label is kept.
+    ensures filled { IfOk result.1 (λ begun. HoldsRoot begun.root (T.labels result.0) (T.Bench.contents begun.bench)) }
     // So they tell the folder that it begins with.
-    ensures tells { IfOk result.1 (λ begun. TellsRoot begun.root (D.Bench.contents begun.bench)) }
-    ensures sound { IfOk result.1 (λ begun. D.Bench.faults begun.bench ≡ 0) }
-    // Its root goes on from the root of its base.
-    ensures root { IfSome (D.trace disk) (λ t. IfOk result.1 (λ begun. IsBegunOn (rev_bytes opened.now.layout (files_now t)) begun.name begun.root)) }
-    // Where the bytes of the revisions show trees, it is a draft of its base's, without marks.
-    ensures draft { IfSome (D.trace disk) (λ t. IfOk result.1 (λ begun. StandsForBase (rev_bytes opened.now.layout (files_now t)) begun.name begun.root (D.Bench.contents begun.bench))) }
-    ensures refused { IfErr result.1 (BeginFails (Rose (D.faults disk) (D.faults result.0)) (Rose (D.bench_faults disk) (D.bench_faults result.0)) opened.now base (D.trace disk) (D.trace result.0)) }
-    // The base and what stands in `db/txn-current` decide which answer comes.
-    ensures decided { IfSome (D.trace disk) (λ t. BeginIsDecided opened.now.youngest base (counter_told t) result.1) }
-    // Whatever is answered, and at each moment of the call: the number of an image from before, or the next one, and all other files
-    // of that image.
-    ensures images { AllImages (D.trace result.0) (IsOldOrNext (D.trace disk)) }
-    ensures any_moment { Leaves (D.trace disk) (D.trace result.0) (IsOldOrNext (D.trace disk)) }
-    // Numbers never fall, and the one that is given is none that has fallen behind: so each is given once.
-    ensures rising { (low : ℕ) → KeepsImages (D.trace disk) (D.trace result.0) (IsAtLeast low) }
-    ensures new { IfSome (D.trace disk) (λ t. IfOk result.1 (λ begun. (low : ℕ) → AllImages (Some t) (IsAtLeast low) → low ≤ begun.name.number.number)) }
-    // A crash leaves no label that was not kept before but the one of the name that is drawn.
-    ensures labels { LeavesBoth (D.trace disk) (D.trace result.0) (λ m ls. AreAll (IsOldOrDrawn base (D.trace disk)) ls) }
-    ensures mounted { D.mount_path result.0 ≡ D.mount_path disk }
-    ensures keeps_right { D.may_write result.0 ≡ D.may_write disk }
-    ensures later { D.faults disk ≤ D.faults result.0 }
-    ensures benches { OnOk result.1 (D.bench_faults result.0 ≡ D.bench_faults disk) }
+    ensures tells { IfOk result.1 (λ begun. TellsRoot begun.root (T.Bench.contents begun.bench)) }
+    ensures sound { IfOk result.1 (λ begun. T.Bench.faults begun.bench ≡ 0) }
+    ensures kept { IfSome (T.labels result.0) (λ ls. IfOk result.1 (λ begun. has_label (txn_label (pair_of begun.name)) ls ≡ true)) }
+    // What the pass knows then; and why none was begun, where none was. Or a number stood in `db/txn-current`, as a call met it, that the
+    // machine doesn't read: where only those that it reads are drawn, none was begun then, for want of a number or since its read failed, and
+    // the lock was given.
+    ensures begun { (v : View) → T.knows turns v → v.section ≡ None
+        → IfOk result.1 (λ begun. ((u : View) × T.knows result.0 u × HasBegunAmong begun.name begun.root (T.Bench.contents begun.bench) v u)
+        ⊎ (MeetsPastNumbers T.store turns × (numbers ≡ OfMachine → ⊥))) }
+    ensures refused { (v : View) → T.knows turns v → v.section ≡ None
+        → IfErr result.1 (λ why. ((u : View) × T.knows result.0 u × Moved v u × Cause base why u
+        × IfBench why (LeavesNone base (T.labels result.0) (Rose (T.faults turns) (T.faults result.0)) v u))
+        ⊎ (MeetsPastNumbers T.store turns × (numbers ≡ OfMachine → LacksNumber why × ((u : View) × T.knows result.0 u × Moved v u)))) }
+    // Where what is known is of what no reading changes, as it is for a pass that is alone, reading tells it nothing.
+    ensures alone { ((old new : T) (v : View) → (T.store new).below ≡ (T.store old).below → T.knows old v → T.knows new v)
+        → (v : View) → T.knows turns v → v.section ≡ None
+        → IfOk result.1 (λ begun. ((u : View) × T.knows result.0 u × HasBegun begun.name begun.root (T.Bench.contents begun.bench) v u)
+        ⊎ (MeetsPastNumbers T.store turns × (numbers ≡ OfMachine → ⊥))) }
+    // Its label came to those that were kept, and no other came or went. Where none was begun, none came.
+    ensures listed { IfOk result.1 (λ begun. Relabels (T.bound turns) (with_label (txn_label (pair_of begun.name))) (T.labels turns) (T.labels result.0)) }
+    ensures unlisted { OnErr result.1 (T.bound turns ≡ false → ListsNoMore base (Rose (T.faults turns) (T.faults result.0)) (T.labels turns) (T.labels result.0)) }
+    // Whatever the disk tells.
+    ensures above { IfErr result.1 (IsAbove base) }
+    ensures duty { T.bound result.0 ≡ T.bound turns }
+    ensures mounted { (T.mounting result.0).mount ≡ (T.mounting turns).mount }
+    ensures benches { RoseBy (bench_faults_in result.1) (T.mounting turns).bench_faults (T.mounting result.0).bench_faults }
+    ensures later { T.faults turns ≤ T.faults result.0 }
+    ensures cause { IfErr result.1 (λ why. IfDisk why (Rose (T.faults turns) (T.faults result.0))) }
 {
-    if opened.youngest < base {
-        let youngest = opened.youngest;
+    let mut turns = turns;
+    let youngest = turns.look();
+    if youngest < base {
         return (
-            disk,
+            turns,
             Err(BeginFault::NoRev {
                 asked: base,
                 youngest,
             }),
         );
     }
-    let mut disk = disk;
-    match next_name(alloc, &mut disk, base) {
-        Ok(name) => begin_named(alloc, disk, opened, name),
-        Err(fault) => (disk, Err(named_fault(fault))),
+    match draw(alloc, rt, &mut turns, base, numbers) {
+        Ok(name) => begin_named(alloc, rt, turns, name),
+        Err(fault) => (turns, Err(fault)),
     }
 }

@@ -1,25 +1,29 @@
-// Drawing the name of a new transaction.
-ghost use Rattle.std.specs.Prelude.{◌≡◌, ◌≤◌, ◌+◌, ℕ, Some, option_map, IfOk, IfErr, IfSome, OnOk, OnErr, IsTrue};
-ghost use Rattle.fsfs_base.specs.Failures.{Rose};
-ghost use Rattle.fsfs_disk.specs.Trace.{files_now, labels_now};
-ghost use Rattle.fsfs_disk.specs.Crash.{AllImages, AreAll, IsFirm, KeepsImages, Leaves, LeavesBoth};
+// The name of a new transaction is drawn, by a section of its own.
+ghost use Rattle.std.specs.Prelude.{◌≡◌, ◌⊎◌, ◌≤◌, ◌-◌, ◌^◌, true, Some, None, OnOk, IfOk, IfErr};
+ghost use Rattle.fsfs_base.specs.Failures.{HasCause, Rose};
 ghost use Rattle.fsfs_layout.specs.Small.{IsBase36Line};
-ghost use Rattle.fsfs_disk.specs.Transactions.Removals.{WasKept};
-ghost use Rattle.fsfs_begin.specs.Counter.{HasNumber, IsAtLeast, IsOldOrNext, IsRaised};
-ghost use Rattle.fsfs_begin.specs.Drawing.{after_drawing, counter_told, IsSmallIn, IsUnread, StopsRaising, NameFails};
-ghost use Rattle.fsfs_begin.specs.Deciding.{Decides};
+ghost use Rattle.fsfs_machine.specs.declared.machine.Drawn.{Drawn};
+ghost use Rattle.fsfs_machine.specs.declared.machine.Section.TheVariants.{Begun, CountRead};
+ghost use Rattle.fsfs_turn.specs.Labels.{KeepsLabels};
+ghost use Rattle.fsfs_turn.specs.Views.{View};
+ghost use Rattle.fsfs_begin.specs.Steps.{MeetsPastNumbers, Moved};
+ghost use Rattle.fsfs_begin.specs.declared.numbers.Numbers.TheVariants.{OfMachine};
+ghost use Rattle.fsfs_begin.specs.Faults.{IfDisk, IfNameDisk, IsNoBase, IsNoBench, LacksNumber, NoNumber, named_fault};
+ghost use Rattle.fsfs_begin.specs.Drawing.{Counts, IsSmallIn, Raises, Draws, Drew};
 
+use crate::begin_fault::BeginFault;
 use crate::name_fault::NameFault;
-use fsfs_base::{B36, BeginPlace, RevNum, TxnName, next_b36};
-use fsfs_disk::Disk;
+use crate::numbers::{Numbers, may_draw};
+use fsfs_base::{B36, BeginPlace, DiskPlace, RevNum, TxnName, next_b36};
 use fsfs_layout::{OnlyFile, read_txn_current, write_txn_current};
+use fsfs_turn::Turns;
 use std::alloc::Global;
 
 // No text of `db/txn-current` has so many bytes, so these first ones tell what all of it would.
 const MOST: usize = 64;
 
 // The number that these bytes of `db/txn-current` say.
-pub(crate) fn number_in(bytes: &[u8]) -> Result<B36, NameFault>
+fn number_in(bytes: &[u8]) -> Result<B36, NameFault>
     ensures found { IfOk result (λ b. IsBase36Line bytes.now b.number) }
     ensures refused { IfErr result (IsSmallIn bytes.now) }
 {
@@ -29,20 +33,21 @@ pub(crate) fn number_in(bytes: &[u8]) -> Result<B36, NameFault>
     }
 }
 
-// The number that stands in `db/txn-current`. A file that isn't there counts as empty.
-fn read_number<D: Disk>(disk: &mut D) -> Result<B36, NameFault>
-    ensures number { IfSome (D.trace disk.old) (λ t. IfOk result (λ b. HasNumber (files_now t) b.number)) }
-    ensures refused { IfErr result (IsUnread (Rose (D.faults disk.old) (D.faults disk.new)) (D.trace disk.old)) }
-    ensures same { D.trace disk.new ≡ D.trace disk.old }
-    ensures mounted { D.mount_path disk.new ≡ D.mount_path disk.old }
-    ensures right { D.may_write disk.new ≡ D.may_write disk.old }
-    ensures benches { D.bench_faults disk.new ≡ D.bench_faults disk.old }
-    ensures later { D.faults disk.old ≤ D.faults disk.new }
-    ensures kept { OnOk result (D.faults disk.new ≡ D.faults disk.old) }
+// The number that stands in `db/txn-current`, by the section's first call. A file that isn't there counts as empty. Where the machine has no
+// reading of it the pass knows what it knew.
+fn read_number<R, T: Turns<R>>(rt: &R, turns: &mut T, base: RevNum) -> Result<B36, NameFault>
+    requires due { T.bound turns.old ≡ true → (v : View) × T.knows turns.old v × (v.section ≡ Some Begun) × (base ≤ v.pass.least) }
+    ensures counted { (v : View) → T.knows turns.old v → v.section ≡ Some Begun → base ≤ v.pass.least
+        → Counts (T.knows turns.new) base result v ⊎ (T.knows turns.new v × IfOk result (λ b. 2 ^ 64 - 1 ≤ b.number) × IfErr result NoNumber × MeetsPastNumbers T.store turns.old) }
+    ensures mounted { T.mounting turns.new ≡ T.mounting turns.old }
+    ensures duty { T.bound turns.new ≡ T.bound turns.old }
+    ensures listed { KeepsLabels (T.bound turns.old) (T.labels turns.old) (T.labels turns.new) }
+    ensures later { T.faults turns.old ≤ T.faults turns.new }
+    ensures cause { IfErr result (λ why. IfNameDisk why (Rose (T.faults turns.old) (T.faults turns.new))) }
 {
     let mut buffer = [0; MOST];
     let piece = &mut buffer[..];
-    match disk.read(&OnlyFile::TxnCurrent.name(), 0, piece) {
+    match turns.draw(rt, base, piece) {
         Ok(Some(count)) => number_in(&piece[..count]),
         Ok(None) => number_in(b""),
         Err(_) => Err(NameFault::DiskFault(BeginPlace::Read)),
@@ -50,58 +55,57 @@ fn read_number<D: Disk>(disk: &mut D) -> Result<B36, NameFault>
 }
 
 // Lets these bytes be `db/txn-current`, by one change of names, which is made firm.
-fn raise<D: Disk>(disk: &mut D, text: &[u8]) -> Result<(), BeginPlace>
-    requires { IsTrue (D.may_write disk.old) }
-    ensures done { OnOk result (D.trace disk.new ≡ option_map (after_drawing text.now) (D.trace disk.old)) }
-    ensures stopped { IfErr result (λ place. StopsRaising place text.now (D.trace disk.old) (D.trace disk.new)) }
-    ensures mounted { D.mount_path disk.new ≡ D.mount_path disk.old }
-    ensures right { D.may_write disk.new ≡ D.may_write disk.old }
-    ensures benches { D.bench_faults disk.new ≡ D.bench_faults disk.old }
-    ensures later { D.faults disk.old ≤ D.faults disk.new }
-    ensures kept { OnOk result (D.faults disk.new ≡ D.faults disk.old) }
-    ensures failed { OnErr result (Rose (D.faults disk.old) (D.faults disk.new)) }
+fn raise<R, T: Turns<R>>(rt: &R, turns: &mut T, text: &[u8]) -> Result<(), BeginPlace>
+    requires due { T.bound turns.old ≡ true → (v : View) × (x : Drawn) × T.knows turns.old v × (v.section ≡ Some (CountRead x)) × IsBase36Line text.now x.next }
+    ensures raised { (v : View) (x : Drawn) → T.knows turns.old v → v.section ≡ Some (CountRead x) → IsBase36Line text.now x.next → Raises (T.knows turns.new) x result v }
+    ensures mounted { T.mounting turns.new ≡ T.mounting turns.old }
+    ensures duty { T.bound turns.new ≡ T.bound turns.old }
+    ensures listed { KeepsLabels (T.bound turns.old) (T.labels turns.old) (T.labels turns.new) }
+    ensures cause { HasCause (T.faults turns.old) (T.faults turns.new) result }
 {
     let next = OnlyFile::TxnCurrentNext.name();
-    disk.put(&next, text).map_err(|_| BeginPlace::Put)?;
-    disk.rename(&next, &OnlyFile::TxnCurrent.name())
-        .map_err(|_| BeginPlace::Rename)?;
-    disk.firm_names().map_err(|_| BeginPlace::Firm)
+    let current = OnlyFile::TxnCurrent.name();
+    match turns.put(rt, &next, text) {
+        Ok(()) => {}
+        Err(_) => return Err(BeginPlace::Put),
+    }
+    match turns.rename(rt, &next, &current) {
+        Ok(()) => {}
+        Err(_) => return Err(BeginPlace::Rename),
+    }
+    match turns.firm_names(rt) {
+        Ok(()) => Ok(()),
+        Err(_) => Err(BeginPlace::Firm),
+    }
 }
 
-/// Draws the name of a new transaction on a revision: the number that stands in `db/txn-current`, where the next one takes its
-/// place. No number is given twice, whatever fails and whenever the disk stops.
-pub fn next_name<D: Disk>(alloc: Global, disk: &mut D, base: RevNum) -> Result<TxnName, NameFault>
-    requires { IsTrue (D.may_write disk.old) }
+// Draws a name with the lock held: the number that stands in `db/txn-current`, where the next one takes its place. One that the machine
+// doesn't read is drawn where any may be; else nothing is done, and the pass knows what it knew.
+fn next_name<R, T: Turns<R>>(
+    alloc: Global,
+    rt: &R,
+    turns: &mut T,
+    base: RevNum,
+    numbers: Numbers,
+) -> Result<TxnName, NameFault>
+    requires few { T.bound turns.old ≡ true → numbers ≡ OfMachine }
+    requires due { T.bound turns.old ≡ true → (v : View) × T.knows turns.old v × (v.section ≡ Some Begun) × (base ≤ v.pass.least) }
     ensures base { IfOk result (λ name. name.base ≡ base) }
-    ensures number { IfSome (D.trace disk.old) (λ t. IfOk result (λ name. HasNumber (files_now t) name.number.number)) }
-    // The next number stands there now, and nothing else has changed but the file that it came from, which is gone.
-    ensures raised { IfOk result (λ name. IsRaised name.number.number (D.trace disk.old) (D.trace disk.new)) }
-    // So it does in every image from then on: a crash leaves just these files.
-    ensures firm { IfOk result (λ name. AllImages (D.trace disk.new) (λ m. HasNumber m (name.number.number + 1))) }
-    ensures all_firm { OnOk result (IsFirm (D.trace disk.new)) }
-    ensures refused { IfErr result (NameFails (Rose (D.faults disk.old) (D.faults disk.new)) (D.trace disk.old) (D.trace disk.new)) }
-    // What stands in `db/txn-current` decides which answer comes.
-    ensures decided { IfSome (D.trace disk.old) (λ t. Decides (counter_told t) result) }
-    // Whatever is answered, and in the middle of each call: the number of an image from before, or the next one, and all other files
-    // of that image.
-    ensures images { AllImages (D.trace disk.new) (IsOldOrNext (D.trace disk.old)) }
-    ensures any_moment { Leaves (D.trace disk.old) (D.trace disk.new) (IsOldOrNext (D.trace disk.old)) }
-    // Numbers never fall, and the one that is given is none that has fallen behind: so each is given once.
-    ensures rising { (low : ℕ) → KeepsImages (D.trace disk.old) (D.trace disk.new) (IsAtLeast low) }
-    ensures new { IfSome (D.trace disk.old) (λ t. IfOk result (λ name. (low : ℕ) → AllImages (Some t) (IsAtLeast low) → low ≤ name.number.number)) }
-    ensures labels { option_map labels_now (D.trace disk.new) ≡ option_map labels_now (D.trace disk.old) }
-    // Nor does a crash leave a label that was not kept before.
-    ensures left { LeavesBoth (D.trace disk.old) (D.trace disk.new) (λ m ls. AreAll (WasKept (D.trace disk.old)) ls) }
-    ensures mounted { D.mount_path disk.new ≡ D.mount_path disk.old }
-    ensures right { D.may_write disk.new ≡ D.may_write disk.old }
-    ensures benches { D.bench_faults disk.new ≡ D.bench_faults disk.old }
-    ensures later { D.faults disk.old ≤ D.faults disk.new }
-    ensures kept { OnOk result (D.faults disk.new ≡ D.faults disk.old) }
+    ensures drawn { (v : View) → T.knows turns.old v → v.section ≡ Some Begun → base ≤ v.pass.least
+        → Draws (T.knows turns.new) base result v ⊎ (MeetsPastNumbers T.store turns.old × (numbers ≡ OfMachine → OnOk result ⊥ × IfErr result NoNumber × T.knows turns.new v)) }
+    ensures mounted { T.mounting turns.new ≡ T.mounting turns.old }
+    ensures duty { T.bound turns.new ≡ T.bound turns.old }
+    ensures listed { KeepsLabels (T.bound turns.old) (T.labels turns.old) (T.labels turns.new) }
+    ensures later { T.faults turns.old ≤ T.faults turns.new }
+    ensures cause { IfErr result (λ why. IfNameDisk why (Rose (T.faults turns.old) (T.faults turns.new))) }
 {
-    let number = match read_number(disk) {
+    let number = match read_number(rt, turns, base) {
         Ok(number) => number,
         Err(fault) => return Err(fault),
     };
+    if !may_draw(numbers, &number) {
+        return Err(NameFault::NamesFull);
+    }
     let Some(next) = next_b36(&number) else {
         return Err(NameFault::NamesFull);
     };
@@ -109,8 +113,53 @@ pub fn next_name<D: Disk>(alloc: Global, disk: &mut D, base: RevNum) -> Result<T
         Ok(text) => text,
         Err(_) => return Err(NameFault::Memory),
     };
-    match raise(disk, &text) {
+    match raise(rt, turns, &text) {
         Ok(()) => Ok(TxnName { base, number }),
         Err(place) => Err(NameFault::DiskFault(place)),
+    }
+}
+
+fn named_fault(fault: NameFault) -> BeginFault
+    ensures { result ≡ named_fault fault }
+{
+    match fault {
+        NameFault::Small(fault) => BeginFault::Small(fault),
+        NameFault::NamesFull => BeginFault::NamesFull,
+        NameFault::DiskFault(place) => BeginFault::DiskFault(DiskPlace::Begin(place)),
+        NameFault::Memory => BeginFault::Memory,
+    }
+}
+
+/// Draws the name of a new transaction on a revision: takes the lock, lets the next number take the place of the one that stands in
+/// `db/txn-current`, and gives the lock, whatever fails.
+pub(crate) fn draw<R, T: Turns<R>>(
+    alloc: Global,
+    rt: &R,
+    turns: &mut T,
+    base: RevNum,
+    numbers: Numbers,
+) -> Result<TxnName, BeginFault>
+    requires few { T.bound turns.old ≡ true → numbers ≡ OfMachine }
+    requires due { T.bound turns.old ≡ true → (v : View) × T.knows turns.old v × (v.section ≡ None) × (base ≤ v.pass.least) }
+    ensures base { IfOk result (λ name. name.base ≡ base) }
+    ensures drew { (v : View) → T.knows turns.old v → v.section ≡ None → base ≤ v.pass.least
+        → Drew (T.knows turns.new) base result v ⊎ (MeetsPastNumbers T.store turns.old × (numbers ≡ OfMachine → OnOk result ⊥ × IfErr result LacksNumber × ((u : View) × T.knows turns.new u × Moved v u))) }
+    ensures mounted { T.mounting turns.new ≡ T.mounting turns.old }
+    ensures duty { T.bound turns.new ≡ T.bound turns.old }
+    ensures listed { KeepsLabels (T.bound turns.old) (T.labels turns.old) (T.labels turns.new) }
+    ensures later { T.faults turns.old ≤ T.faults turns.new }
+    ensures cause { IfErr result (λ why. IfDisk why (Rose (T.faults turns.old) (T.faults turns.new))) }
+    ensures named { IfErr result IsNoBase }
+    ensures there { IfErr result IsNoBench }
+{
+    match turns.take_lock(rt) {
+        Ok(()) => {}
+        Err(place) => return Err(BeginFault::Stuck(place)),
+    }
+    let drawn = next_name(alloc, rt, turns, base, numbers);
+    turns.give_lock();
+    match drawn {
+        Ok(name) => Ok(name),
+        Err(fault) => Err(named_fault(fault)),
     }
 }

@@ -6,17 +6,18 @@
 
 mod begin_fault;
 mod beginning;
+mod begun;
 mod drawing;
-mod holding;
 mod making;
 mod name_fault;
+mod numbers;
+mod purge_fault;
 mod purging;
 mod root;
-pub mod turn_begin;
-pub mod turn_purge;
 
 pub use begin_fault::BeginFault;
-pub use beginning::{Begun, begin};
-pub use making::{BenchFault, begin_bench};
-pub use name_fault::NameFault;
+pub use beginning::begin;
+pub use begun::Begun;
+pub use numbers::Numbers;
+pub use purge_fault::PurgeFault;
 pub use purging::purge;

@@ -1,35 +1,52 @@
-// A transaction that was begun is dropped again.
-ghost use Rattle.std.specs.Prelude.{◌≡◌, ◌⊎◌, option_map, IfOk, IfSome, OnOk, OnErr, IsTrue};
-ghost use Rattle.fsfs_base.specs.Failures.{HasCause, added_count};
+//! A transaction is purged by turns.
+ghost use Rattle.std.specs.Prelude.{◌≡◌, ◌<◌, ◌∷◌, [], None, true, false, length, IfSome, OnOk, OnErr};
+ghost use Rattle.fsfs_base.specs.Failures.{HasCause};
 ghost use Rattle.fsfs_disk.specs.Labels.{has_label, without_label};
-ghost use Rattle.fsfs_disk.specs.Trace.{DropLabel, FailsAt, files_now, labels_now};
-ghost use Rattle.fsfs_disk.specs.Crash.{AllImages, AreAll, Leaves, LeavesBoth};
+ghost use Rattle.fsfs_machine.specs.declared.machine.Txn.{Txn};
+ghost use Rattle.fsfs_machine.specs.declared.machine.Step.TheVariants.{Purge, PurgeSpent};
+ghost use Rattle.fsfs_machine.specs.Kept.{IsIn};
 ghost use Rattle.fsfs_disk.specs.Transactions.Txns.{pair_of, txn_label};
-ghost use Rattle.fsfs_disk.specs.Transactions.Removals.{HasLabels, IsImageOf, WasKept};
+ghost use Rattle.fsfs_turn.specs.Views.{View, with_txns};
+ghost use Rattle.fsfs_turn.specs.Labels.{Relabels, MayRelabel};
+ghost use Rattle.fsfs_turn.specs.Mountings.{RoseBy};
+ghost use Rattle.fsfs_turn.specs.Learning.{MayPurge, with_spent};
+ghost use Rattle.fsfs_begin.specs.Purged.{Purges};
 
-use fsfs_base::{Failed, TxnName};
-use fsfs_disk::{Disk, Label};
+use crate::purge_fault::PurgeFault;
+use fsfs_base::{DiskPlace, TxnName};
+use fsfs_disk::Label;
+use fsfs_turn::Turns;
 
-/// Drops a transaction: what its bench holds, the bench, and its label. `false`: the label was not kept any more.
-pub fn purge<D: Disk>(disk: &mut D, name: &TxnName, bench: D::Bench) -> Result<bool, Failed>
-    requires { IsTrue (D.may_write disk.old) }
-    ensures there { IfSome (D.trace disk.old) (λ t. IfOk result (λ there. there ≡ has_label (txn_label (pair_of name.now)) (labels_now t))) }
-    // Its label goes, and no other.
-    ensures done { OnOk result (HasLabels (without_label (txn_label (pair_of name.now))) (D.trace disk.old) (D.trace disk.new)) }
+/// Purges a transaction: what its bench holds goes, then the bench, and last its label, all by one turn. It may be one whose bench
+/// has failed, or one that a commit used up. A failure may leave its name listed; no revision is touched, and reads go on.
+pub fn purge<R, T: Turns<R>>(
+    rt: &R,
+    turns: &mut T,
+    name: &TxnName,
+    bench: T::Bench,
+) -> Result<(), PurgeFault>
+    requires due { T.bound turns.old ≡ true → (v : View) × T.knows turns.old v × (v.section ≡ None) × IsIn name.now.number.number v.given }
+    // Its label isn't kept any more, and all others are as the call met them.
+    ensures unlisted { IfSome (T.labels turns.new) (λ ls. OnOk result (has_label (txn_label (pair_of name.now)) ls ≡ false)) }
+    ensures others { OnOk result (Relabels (T.bound turns.old) (without_label (txn_label (pair_of name.now))) (T.labels turns.old) (T.labels turns.new)) }
     // A failure leaves all labels, or all but this one.
-    ensures failed { OnErr result (HasLabels (λ labels. labels) (D.trace disk.old) (D.trace disk.new) ⊎ HasLabels (without_label (txn_label (pair_of name.now))) (D.trace disk.old) (D.trace disk.new)) }
-    // It is one operation of the disk.
-    ensures ended { FailsAt (DropLabel (txn_label (pair_of name.now))) (D.trace disk.old) (D.trace disk.new) }
-    ensures files { option_map files_now (D.trace disk.new) ≡ option_map files_now (D.trace disk.old) }
-    // A crash now, or at any moment of it, leaves files that one before it could have left, and no label that wasn't kept then.
-    ensures images { AllImages (D.trace disk.new) (IsImageOf (D.trace disk.old)) }
-    ensures any_moment { Leaves (D.trace disk.old) (D.trace disk.new) (IsImageOf (D.trace disk.old)) }
-    ensures labels { LeavesBoth (D.trace disk.old) (D.trace disk.new) (λ m ls. AreAll (WasKept (D.trace disk.old)) ls) }
-    ensures mounted { D.mount_path disk.new ≡ D.mount_path disk.old }
-    ensures right { D.may_write disk.new ≡ D.may_write disk.old }
-    // Each failure that the bench had comes to the disk's count of them.
-    ensures benches { D.bench_faults disk.new ≡ added_count (D.bench_faults disk.old) (D.Bench.faults bench) }
-    ensures cause { HasCause (D.faults disk.old) (D.faults disk.new) result }
+    ensures left { OnErr result (MayRelabel (T.bound turns.old) (without_label (txn_label (pair_of name.now))) (T.labels turns.old) (T.labels turns.new)) }
+    // It is one step of the machine, however it went: of a transaction under way, or of one that is no more.
+    ensures purged { (v : View) (txn : Txn) → T.knows turns.old v → MayPurge v txn → txn.name ≡ name.now.number.number
+        → Purges (T.knows turns.new) (with_txns (txn ∷ [])) (λ went. Purge v.number 0 went) result v }
+    // There is one of each name that was given, whatever its edits were.
+    ensures any { (v : View) → T.knows turns.old v → v.section ≡ None → IsIn name.now.number.number v.given → name.now.base < length v.seen
+        → (txn : Txn) × (txn.name ≡ name.now.number.number) × MayPurge v txn × Purges (T.knows turns.new) (with_txns (txn ∷ [])) (λ went. Purge v.number 0 went) result v }
+    ensures spent { (v : View) → T.knows turns.old v → v.section ≡ None → IsIn name.now.number.number v.given
+        → Purges (T.knows turns.new) (with_spent name.now.number.number) (λ went. PurgeSpent v.number 0 went) result v }
+    ensures mounted { (T.mounting turns.new).mount ≡ (T.mounting turns.old).mount }
+    // The bench's faults are counted, however it went.
+    ensures benches { RoseBy (T.Bench.faults bench) (T.mounting turns.old).bench_faults (T.mounting turns.new).bench_faults }
+    ensures duty { T.bound turns.new ≡ T.bound turns.old }
+    ensures cause { HasCause (T.faults turns.old) (T.faults turns.new) result }
 {
-    disk.drop_bench(&Label::Txn(*name), Some(bench))
+    match turns.drop_bench(rt, &Label::Txn(*name), Some(bench)) {
+        Ok(_) => Ok(()),
+        Err(_) => Err(PurgeFault::DiskFault(DiskPlace::Remove)),
+    }
 }

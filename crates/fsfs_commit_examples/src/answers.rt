@@ -1,9 +1,9 @@
 // What is answered.
-use fsfs_base::{CreateFault, DiskPlace, TxnName};
+use fsfs_base::{CreateFault, TxnName};
 use fsfs_draft::EditError;
-use fsfs_example_calls::{say_disk_fault, say_no_rev, say_txn};
+use fsfs_example_calls::{say_disk_fault, say_stuck, say_txn};
 use fsfs_memory::Transcript;
-use fsfs_repo::{BeginFault, CommitBar, TxnError};
+use fsfs_repo::{CommitBar, TxnError};
 use fsfs_revision::Wrong;
 use std::alloc::Global;
 
@@ -15,29 +15,11 @@ pub fn say_txns(alloc: Global, names: &[TxnName], out: &mut Transcript) {
     }
 }
 
-fn say_stuck(place: DiskPlace, out: &mut Transcript) {
-    out.say("Stuck ");
-    out.say(place.word());
-}
-
 pub fn say_create_fault(fault: &CreateFault, out: &mut Transcript) {
     match fault {
         CreateFault::AlreadyRepo => out.say("AlreadyRepo"),
         CreateFault::DiskFault(place) => say_disk_fault(*place, out),
         CreateFault::Memory => out.lose(),
-    }
-}
-
-pub fn say_begin_fault(fault: &BeginFault, out: &mut Transcript) {
-    match fault {
-        BeginFault::NoRev { asked, youngest } => say_no_rev(*asked, *youngest, out),
-        BeginFault::Stuck(place) => say_stuck(*place, out),
-        BeginFault::Small(fault) => out.tell("Small TxnCurrent ", &fault.at),
-        BeginFault::NamesFull => out.say("NamesFull"),
-        BeginFault::Wrong(_) => out.say("Corrupt"),
-        BeginFault::DiskFault(place) => say_disk_fault(*place, out),
-        BeginFault::BenchFault => out.say("BenchFault"),
-        BeginFault::Memory => out.lose(),
     }
 }
 

@@ -1,9 +1,9 @@
 // Transactions that are begun, edited and committed, in a repository that is open.
-use crate::answers::{say_bar, say_begin_fault, say_edit_error};
+use crate::answers::{say_bar, say_edit_error};
 use crate::calls::MOMENT;
 use fsfs_base::{FsPath, Pairs, RevNum};
 use fsfs_disk::Bench;
-use fsfs_example_calls::{HeldTxn, say_disk_fault};
+use fsfs_example_calls::{HeldTxn, say_begin_fault, say_disk_fault};
 use fsfs_memory::{MemBench, MemDisk, MemSource, NoGate, Transcript, bytes_of, cut};
 use fsfs_repo::{CommitAnswer, Deleted, Made, PathOpened, Repo, TextSet, TxnError};
 use fsfs_revision::Book;

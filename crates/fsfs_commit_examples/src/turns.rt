@@ -1,11 +1,8 @@
 // A transaction that is begun and purged by turns.
-use crate::answers::say_begin_fault;
 use fsfs_base::RevNum;
-use fsfs_begin::Begun;
-use fsfs_begin::turn_begin::{Numbers, begin};
-use fsfs_begin::turn_purge::{PurgeFault, purge};
+use fsfs_begin::{Begun, Numbers, PurgeFault, begin, purge};
 use fsfs_create::{OpenedStore, Unopened, open_store};
-use fsfs_example_calls::{say_disk_fault, say_open_fault, say_txn};
+use fsfs_example_calls::{say_begin_fault, say_disk_fault, say_open_fault, say_txn};
 use fsfs_memory::{MemBench, MemDisk, Transcript};
 use fsfs_turn::Owned;
 use std::alloc::Global;

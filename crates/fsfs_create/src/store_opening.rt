@@ -44,6 +44,7 @@ pub fn open_store<D: Disk>(alloc: Global, mut disk: D) -> Result<OpenedStore<D>,
     ensures decided { IfSome (D.trace disk) (λ t. DecidesSo (small_texts (files_now t)) result (λ o. o.said) (λ e. e.why)) }
     ensures firm { IfOk result (λ o. Performs FirmNames (D.trace disk) (D.trace o.store.disk)) }
     ensures left { IfErr result (λ e. FailsAt FirmNames (D.trace disk) (D.trace e.disk)) }
+    ensures right { IfErr result (λ e. D.may_write e.disk ≡ D.may_write disk) }
     ensures later { MatchResult result (λ o. D.faults disk ≤ ⟦<Owned<D> as Turns<()>>⟧.faults o.store) (λ e. D.faults disk ≤ D.faults e.disk) }
     ensures mounted { MatchResult result (λ o. D.mount_path o.store.disk ≡ D.mount_path disk) (λ e. D.mount_path e.disk ≡ D.mount_path disk) }
 {

@@ -1,6 +1,7 @@
 // How the programs of examples tell what is answered.
-use fsfs_base::{DiskPlace, OpenFault, RevNum, TxnName, put_txn_name};
+use fsfs_base::{DiskPlace, OpenFault, TxnName, put_txn_name};
 use fsfs_memory::Transcript;
+use fsfs_repo::BeginFault;
 use std::alloc::Global;
 
 /// The name of a transaction.
@@ -18,10 +19,27 @@ pub fn say_disk_fault(place: DiskPlace, out: &mut Transcript) {
     out.say(place.word());
 }
 
-/// There is no such revision.
-pub fn say_no_rev(asked: RevNum, youngest: RevNum, out: &mut Transcript) {
-    out.tell("NoRev ", &asked);
-    out.tell(" ", &youngest);
+/// The write lock is stuck.
+pub fn say_stuck(place: DiskPlace, out: &mut Transcript) {
+    out.say("Stuck ");
+    out.say(place.word());
+}
+
+/// Why no transaction was begun.
+pub fn say_begin_fault(fault: &BeginFault, out: &mut Transcript) {
+    match fault {
+        BeginFault::NoRev { asked, youngest } => {
+            out.tell("NoRev ", asked);
+            out.tell(" ", youngest);
+        }
+        BeginFault::Stuck(place) => say_stuck(*place, out),
+        BeginFault::Small(fault) => out.tell("Small TxnCurrent ", &fault.at),
+        BeginFault::NamesFull => out.say("NamesFull"),
+        BeginFault::Wrong(_) => out.say("Corrupt"),
+        BeginFault::DiskFault(place) => say_disk_fault(*place, out),
+        BeginFault::BenchFault => out.say("BenchFault"),
+        BeginFault::Memory => out.lose(),
+    }
 }
 
 /// Why a repository was not opened.

@@ -6,7 +6,7 @@ mod answers;
 mod beginning;
 mod runs;
 
-pub use answers::{say_disk_fault, say_no_rev, say_open_fault, say_txn};
+pub use answers::{say_begin_fault, say_disk_fault, say_open_fault, say_stuck, say_txn};
 pub use beginning::{HeldTxn, begin_on};
 pub use fsfs_top::{Tool, command};
 pub use runs::{Ran, look, run};

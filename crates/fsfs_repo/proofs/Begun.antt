@@ -30,8 +30,8 @@ use Rattle.fsfs_machine.specs.Machine.{is_fine_in}
 use Rattle.fsfs_turn.specs.Bytes.{bytes_of, AllShow, BytesShow}
 use Rattle.fsfs_turn.specs.Views.{View, Begins}
 use Rattle.fsfs_turn.specs.Learning.{SpentPurged}
-use Rattle.fsfs_begin.specs.TurnBegin.Begun.{HasBegun, HasBegunAmong}
-use Rattle.fsfs_begin.specs.TurnBegin.Steps.{Moved}
+use Rattle.fsfs_begin.specs.Begun.{HasBegun, HasBegunAmong}
+use Rattle.fsfs_begin.specs.Steps.{Moved}
 use Rattle.fsfs_begin.proofs.Moving.{told_moved, spent_steps}
 use Rattle.fsfs_txn.specs.Standing.{Stands}
 use Rattle.fsfs_repo.specs.Txns.Begun.{BeginsTxn, BeginsTxnAmong}

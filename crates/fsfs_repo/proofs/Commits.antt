@@ -20,8 +20,8 @@ use Rattle.fsfs_turn.specs.Learning.{with_spent}
 use Rattle.fsfs_turn.specs.Views.{View}
 use Rattle.fsfs_turn.specs.Courses.{End}
 use Rattle.fsfs_begin.specs.Purged.{Purges, HasNotPurged}
-use Rattle.fsfs_begin.specs.declared.turn_purge.purge_fault.PurgeFault.{PurgeFault}
-use Rattle.fsfs_begin.specs.declared.turn_purge.purge_fault.PurgeFault.TheVariants as purges
+use Rattle.fsfs_begin.specs.declared.purge_fault.PurgeFault.{PurgeFault}
+use Rattle.fsfs_begin.specs.declared.purge_fault.PurgeFault.TheVariants as purges
 use Rattle.fsfs_commit.specs.Works.{CanCommit}
 use Rattle.fsfs_commit.specs.Replies.{Cause, Committed, Moved, Refused, RoseIfDisk, UnlessDoubt}
 use Rattle.fsfs_commit.specs.declared.committing.CommitFault.{CommitFault}

@@ -4,7 +4,7 @@ use Rattle.std.specs.Prelude.{Result}
 use Rattle.fsfs_base.specs.declared.fields.txn_name.TxnName.{TxnName}
 use Rattle.fsfs_machine.specs.Kept.{IsIn}
 use Rattle.fsfs_turn.specs.Views.{View}
-use Rattle.fsfs_begin.specs.declared.turn_purge.purge_fault.PurgeFault.{PurgeFault}
+use Rattle.fsfs_begin.specs.declared.purge_fault.PurgeFault.{PurgeFault}
 use Rattle.fsfs_repo.specs.Txns.Purged.{PurgesAny}
 
 pub purges_so : (knows : View → Type 0) (name other : TxnName) (result : Result (Unit {0}) PurgeFault) (v : View) → other ≡ name

@@ -5,7 +5,7 @@ use Rattle.fsfs_disk.specs.Labels.{Label, Txn, with_label, without_label}
 use Rattle.fsfs_base.specs.declared.fields.txn_name.TxnName.{TxnName}
 use Rattle.fsfs_disk.specs.Transactions.Txns.{pair_of, txn_label}
 use Rattle.fsfs_turn.specs.Labels.{KeepsLabels, Relabels, Drops}
-use Rattle.fsfs_begin.specs.TurnBegin.Labels.{IsUnlisted, ListsNoMore}
+use Rattle.fsfs_begin.specs.Labels.{IsUnlisted, ListsNoMore}
 use Rattle.fsfs_begin.proofs.Benching.{came_and_went}
 use Rattle.fsfs_repo.specs.Txns.Labels.{LeavesLabels, Unlists}
 use Rattle.fsfs_repo.specs.declared.txns.answers.CommitAnswer.{CommitAnswer}

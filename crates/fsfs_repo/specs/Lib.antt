@@ -1,12 +1,12 @@
 pub mod Txns
 pub mod Owned
 pub mod Shared
-pub use Rattle.fsfs_begin.specs.TurnBegin.Faults as BeginFaults
-pub use Rattle.fsfs_begin.specs.TurnBegin.Labels as BeginLabels
+pub use Rattle.fsfs_begin.specs.Faults as BeginFaults
+pub use Rattle.fsfs_begin.specs.Labels as BeginLabels
 pub use Rattle.fsfs_begin.specs.Purged as BeginPurged
-pub use Rattle.fsfs_begin.specs.TurnBegin.Steps as BeginSteps
-pub use Rattle.fsfs_begin.specs.declared.turn_purge.purge_fault.PurgeFault
-pub use Rattle.fsfs_begin.specs.declared.turn_begin.begin_fault.BeginFault
+pub use Rattle.fsfs_begin.specs.Steps as BeginSteps
+pub use Rattle.fsfs_begin.specs.declared.purge_fault.PurgeFault
+pub use Rattle.fsfs_begin.specs.declared.begin_fault.BeginFault
 pub use Rattle.fsfs_commit.specs.Transaction.Dating
 pub use Rattle.fsfs_commit.specs.Transaction.Meaning
 pub use Rattle.fsfs_commit.specs.Transaction.Pinned

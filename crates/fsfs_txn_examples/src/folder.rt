@@ -25,7 +25,7 @@ fn begin_all<D: Disk>(
 where
     D::Bench: Drop,
     requires { IsTrue (D.may_write disk) }
-    ensures right { D.may_write result ≡ D.may_write disk }
+    ensures right { IsTrue (D.may_write result) }
     ensures mounted { D.mount_path result ≡ D.mount_path disk }
 {
     let mut left = disk;

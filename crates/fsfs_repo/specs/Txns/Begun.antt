@@ -9,7 +9,7 @@ use Rattle.fsfs_machine.specs.Machine.{revisions}
 use Rattle.fsfs_turn.specs.Alone.{BringsNoDoubt}
 use Rattle.fsfs_turn.specs.Bytes.{bytes_of}
 use Rattle.fsfs_turn.specs.Views.{View, Begins}
-use Rattle.fsfs_begin.specs.TurnBegin.Steps.{Steps}
+use Rattle.fsfs_begin.specs.Steps.{Steps}
 use Rattle.fsfs_txn.specs.Standing.{Stands}
 
 -- BEGUN: the name is known to be given. The transaction stands for the tree of its base, a revision that the pass has seen, without marks;

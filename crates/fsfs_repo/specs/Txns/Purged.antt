@@ -5,7 +5,7 @@ use Rattle.fsfs_machine.specs.declared.machine.Step.TheVariants.{Purge}
 use Rattle.fsfs_turn.specs.Learning.{MayPurge}
 use Rattle.fsfs_turn.specs.Views.{View, with_txns}
 use Rattle.fsfs_begin.specs.Purged.{Purges}
-use Rattle.fsfs_begin.specs.declared.turn_purge.purge_fault.PurgeFault.{PurgeFault}
+use Rattle.fsfs_begin.specs.declared.purge_fault.PurgeFault.{PurgeFault}
 
 -- the machine's purge of a transaction under way of this name, however it went
 abbrev pub PurgesAny : (View → Type 0) → ℕ → Result (Unit {0}) PurgeFault → View → Type 0

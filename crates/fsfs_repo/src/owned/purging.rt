@@ -11,7 +11,7 @@ ghost use Rattle.fsfs_repo.specs.Owned.Crashes.{CrashesLeave};
 
 use crate::owned::repo::Repo;
 use crate::purge_txn;
-use fsfs_begin::turn_purge::PurgeFault;
+use fsfs_begin::PurgeFault;
 use fsfs_disk::Disk;
 use fsfs_draft::Own;
 use fsfs_turn::{Owned, Turns};

@@ -47,6 +47,7 @@ impl<D: Disk> Repo<D> {
         ensures listed { IfOk result (λ o. ⟦<Owned<D> as Turns<()>>⟧.labels o.repo.turns ≡ option_map labels_now (D.trace disk)) }
         ensures firm { IfOk result (λ o. Performs FirmNames (D.trace disk) (D.trace o.repo.turns.disk)) }
         ensures left { IfErr result (λ e. FailsAt FirmNames (D.trace disk) (D.trace e.disk)) }
+        ensures right { IfErr result (λ e. D.may_write e.disk ≡ D.may_write disk) }
         ensures later { MatchResult result (λ o. D.faults disk ≤ ⟦<Owned<D> as Turns<()>>⟧.faults o.repo.turns) (λ e. D.faults disk ≤ D.faults e.disk) }
         ensures mounted { MatchResult result (λ o. D.mount_path o.repo.turns.disk ≡ D.mount_path disk) (λ e. D.mount_path e.disk ≡ D.mount_path disk) }
     {

@@ -22,7 +22,7 @@ ghost use Rattle.fsfs_repo.specs.Txns.Limits.{IfBarLimit, IfFateLimit, IfPastLim
 
 use crate::txns::answers::{CommitAnswer, CommitBar, Fate, fate_of};
 use fsfs_base::{RevNum, TxnName};
-use fsfs_begin::turn_purge::purge;
+use fsfs_begin::purge;
 use fsfs_commit::{CommitFault, CommitRefusal, Left};
 use fsfs_draft::Own;
 use fsfs_turn::Turns;

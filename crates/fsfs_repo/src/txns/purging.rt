@@ -10,7 +10,7 @@ ghost use Rattle.fsfs_turn.specs.Views.{View};
 ghost use Rattle.fsfs_repo.specs.Txns.Purged.{PurgesAny};
 
 use fsfs_base::TxnName;
-use fsfs_begin::turn_purge::{PurgeFault, purge};
+use fsfs_begin::{PurgeFault, purge};
 use fsfs_disk::Bench;
 use fsfs_draft::Own;
 use fsfs_turn::Turns;

@@ -1,124 +1,103 @@
-use Rattle.std.proofs.Common.{◌≡◌, ◌≤◌, ℕ, sym, ap, subst, arith}
-use Rattle.std.specs.Prelude.{IfErr, IfSome, Err}
-use Rattle.std.proofs.lemmas.Result.{IfOk-weaker}
+use Rattle.std.proofs.Common.{◌≤◌, inl, refl, ⊎_elim, sym, ap, ◌∙◌, arith}
 use Rattle.std.proofs.lemmas.Bool.Decides.{nat_tests}
 use Rattle.fsfs_base.specs.Failures.{Rose}
-use Rattle.fsfs_base.specs.declared.fields.txn_name.TxnName.{TxnName}
-use Rattle.fsfs_disk.specs.Crash.{AreAll, LeavesBoth}
-use Rattle.fsfs_disk.specs.Transactions.Txns.{pair_of, txn_label}
-use Rattle.fsfs_begin.specs.Begun.{BeginFails, BeginIsDecided, HoldsRoot, IsOldOrDrawn}
-use Rattle.fsfs_begin.specs.Drawing.{counter_told}
-use Rattle.fsfs_begin.specs.declared.begin_fault.BeginFault.{BeginFault}
-use Rattle.fsfs_begin.proofs.BeginLemmas.{all_fail, decided_named, decided_unnamed, holds_on, new_told}
-use Rattle.fsfs_begin.proofs.CounterLemmas.{own_old}
-use Rattle.fsfs_begin.proofs.LeavingLemmas.{draws_name, draws_on, drawn_on}
-use Rattle.fsfs_begin.proofs.RevisionLemmas.{drafts_told, roots_told, wrongs_told}
+use Rattle.fsfs_turn.specs.Views.{View}
+use Rattle.fsfs_begin.proofs.Among.{all_among, relabels_begun, unlisted_among}
+use Rattle.fsfs_begin.proofs.Reading.{met_before, either_way, ok_either, err_either}
+use Rattle.fsfs_begin.proofs.Moving.{by_look, moved_on}
+use Rattle.fsfs_begin.proofs.Parts.{least_at_look, may_make, begun_all, refused_all, no_bench}
 use Rattle.fsfs_begin.proofs.beginning.begin.Goals as goal
 
-pub returns-then-lt-clause-images : goal.returns-then-lt-clause-images
-returns-then-lt-clause-images g c = own_old (g.D.Disk.trace c.args.disk)
+-- ---- the calls are due
 
--- ---- no name was drawn
+pub draw-requires : goal.draw-requires
+draw-requires g c = record {
+  few = λ bound. c.requires.few (sym c.look-youngest.ensures.duty ∙ bound);
+  due = λ bound.
+      let w = c.requires.due (sym c.look-youngest.ensures.duty ∙ bound) in
+      let a = c.look-youngest.ensures.turned w.0 w.1 in
+      let le : c.args.base ≤ c.look-youngest.result = grind (arith, nat_tests, c.lt.ensures, c.if-lt.false) in
+      (a.0, a.1, ap {A = View} (λ z. z.section) a.2.is ∙ w.2, least_at_look c.args.base c.look-youngest.result w.0 a.0 a.2 le);
+}
 
-pub returns-in-Err-clause-decided : goal.returns-in-Err-clause-decided
-returns-in-Err-clause-decided g c =
-    let le : c.args.base ≤ c.args.opened.now.youngest = grind (arith, nat_tests, c.lt.ensures, c.if-lt.false) in
-    subst (λ (why : BeginFault). IfSome (g.D.Disk.trace c.args.disk) (λ t. BeginIsDecided c.args.opened.now.youngest c.args.base (counter_told t) (Err why))) (sym c.named_fault.ensures)
-    (decided_unnamed _ (g.D.Disk.trace c.args.disk) c.args.opened.now.youngest c.args.base counter_told c.in-Err.fault le c.in-Err.ensures.decided)
+pub begin_named-requires : goal.begin_named-requires
+begin_named-requires g c = record {
+  due = λ bound.
+      let was = sym c.look-youngest.ensures.duty ∙ sym c.draw.ensures.duty ∙ bound in
+      let w = c.requires.due was in
+      let a = c.look-youngest.ensures.turned w.0 w.1 in
+      let le : c.args.base ≤ c.look-youngest.result = grind (arith, nat_tests, c.lt.ensures, c.if-lt.false) in
+      let name = c.in-Ok.name in
+      let below : name.base ≤ c.look-youngest.result = omega (arith, le, c.in-Ok.ensures.base) in
+      ⊎_elim (λ d. (d.0, d.1, may_make c.look-youngest.result w.0 a.0 d.0 name.number.number a.2 d.2 name.base below)) (λ past. absurd (past.1 (c.requires.few was)).0)
+      (c.in-Ok.ensures.drew a.0 a.1 (ap {A = View} (λ z. z.section) a.2.is ∙ w.2) (least_at_look c.args.base c.look-youngest.result w.0 a.0 a.2 le));
+}
 
-pub returns-in-Err-clause-labels : goal.returns-in-Err-clause-labels
-returns-in-Err-clause-labels g c =
-    (draws_name c.args.base (g.D.Disk.trace c.args.disk) (g.D.Disk.trace c.next_name.new.disk) c.next_name.ensures.images c.next_name.ensures.any_moment c.next_name.ensures.rising c.next_name.ensures.left).labels
+-- ---- what they come to
 
--- ---- a name was drawn
+pub returns-then-lt-clause-refused : goal.returns-then-lt-clause-refused
+returns-then-lt-clause-refused g c = λ v known none.
+    let a = c.look-youngest.ensures.turned v known in
+    inl (a.0, a.1, by_look c.look-youngest.result v a.0 none a.2, (refl, grind (arith, nat_tests, c.lt.ensures, c.if-lt.true), ap {A = View} (λ z. z.pass.least) a.2.is), tt)
 
-pub returns-in-Ok-clause-filled : goal.returns-in-Ok-clause-filled
-returns-in-Ok-clause-filled g c =
-    let old = g.D.Disk.trace c.args.disk in
-    let mid = g.D.Disk.trace c.next_name.new.disk in
-    let new = g.D.Disk.trace c.begin_named.result.0 in
+pub returns-in-Err-clause-refused : goal.returns-in-Err-clause-refused
+returns-in-Err-clause-refused g c = λ v known none.
+    let a = c.look-youngest.ensures.turned v known in
+    let le : c.args.base ≤ c.look-youngest.result = grind (arith, nat_tests, c.lt.ensures, c.if-lt.false) in
+    either_way (λ d. (d.0, d.1, moved_on v a.0 d.0 (by_look c.look-youngest.result v a.0 none a.2) d.2, d.3, no_bench _ c.in-Err.fault c.in-Err.ensures.there))
+    (λ past. (met_before g.T.Turns.store c.args.turns c.look-youngest.new.self c.look-youngest.ensures.later.below past.0, λ few. let p = past.1 few in let q = p.2 in (p.1, (q.0, q.1, moved_on v a.0 q.0 (by_look c.look-youngest.result v a.0 none a.2) q.2))))
+    (c.in-Err.ensures.drew a.0 a.1 (ap {A = View} (λ z. z.section) a.2.is ∙ none) (least_at_look c.args.base c.look-youngest.result v a.0 a.2 le))
+
+pub returns-in-Ok-clause-begun : goal.returns-in-Ok-clause-begun
+returns-in-Ok-clause-begun g c = λ v known none.
+    let a = c.look-youngest.ensures.turned v known in
+    let le : c.args.base ≤ c.look-youngest.result = grind (arith, nat_tests, c.lt.ensures, c.if-lt.false) in
     let name = c.in-Ok.name in
-    IfOk-weaker c.begin_named.result.1 (λ begun. HoldsRoot begun.root mid (g.D.Bench.Bench.contents begun.bench)) (λ begun. HoldsRoot begun.root old (g.D.Bench.Bench.contents begun.bench))
-    (λ begun. holds_on begun.root old mid (g.D.Bench.Bench.contents begun.bench) c.in-Ok.ensures.labels) c.begin_named.ensures.filled
+    let below : name.base ≤ c.look-youngest.result = omega (arith, le, c.in-Ok.ensures.base) in
+    ok_either c.begin_named.result.1 _ (λ d. all_among (λ begun. begun.name) (λ begun. begun.root) (λ begun. g.T.Bench.Bench.contents begun.bench) (g.T.Turns.knows c.begin_named.result.0) c.look-youngest.result v a.0 d.0 name a.2 d.2 below c.begin_named.result.1
+    c.begin_named.ensures.name (c.begin_named.ensures.begun d.0 d.1 (may_make c.look-youngest.result v a.0 d.0 name.number.number a.2 d.2 name.base below)))
+    (λ past. (met_before g.T.Turns.store c.args.turns c.look-youngest.new.self c.look-youngest.ensures.later.below past.0, λ few. (past.1 few).0))
+    (c.in-Ok.ensures.drew a.0 a.1 (ap {A = View} (λ z. z.section) a.2.is ∙ none) (least_at_look c.args.base c.look-youngest.result v a.0 a.2 le))
 
-pub returns-in-Ok-clause-root : goal.returns-in-Ok-clause-root
-returns-in-Ok-clause-root g c =
-    let old = g.D.Disk.trace c.args.disk in
-    let mid = g.D.Disk.trace c.next_name.new.disk in
-    let new = g.D.Disk.trace c.begin_named.result.0 in
+pub returns-in-Ok-clause-alone : goal.returns-in-Ok-clause-alone
+returns-in-Ok-clause-alone g c = λ still v known none.
+    let a = c.look-youngest.ensures.turned v known in
+    let le : c.args.base ≤ c.look-youngest.result = grind (arith, nat_tests, c.lt.ensures, c.if-lt.false) in
     let name = c.in-Ok.name in
-    let le : name.base ≤ c.args.opened.now.youngest = grind (arith, nat_tests, c.in-Ok.ensures.base, c.lt.ensures, c.if-lt.false) in
-    roots_told (λ begun. begun.name) (λ begun. begun.root) c.args.opened.now old mid name.number.number name c.begin_named.result.1 c.requires.opened c.in-Ok.ensures.raised le c.begin_named.ensures.name c.begin_named.ensures.root
-
-pub returns-in-Ok-clause-draft : goal.returns-in-Ok-clause-draft
-returns-in-Ok-clause-draft g c =
-    let old = g.D.Disk.trace c.args.disk in
-    let mid = g.D.Disk.trace c.next_name.new.disk in
-    let new = g.D.Disk.trace c.begin_named.result.0 in
-    let name = c.in-Ok.name in
-    let le : name.base ≤ c.args.opened.now.youngest = grind (arith, nat_tests, c.in-Ok.ensures.base, c.lt.ensures, c.if-lt.false) in
-    drafts_told (λ begun. begun.name) (λ begun. begun.root) c.args.opened.now old mid name.number.number name c.begin_named.result.1 c.requires.opened c.in-Ok.ensures.raised le c.begin_named.ensures.name (λ begun. g.D.Bench.Bench.contents begun.bench) c.begin_named.ensures.root
+    let below : name.base ≤ c.look-youngest.result = omega (arith, le, c.in-Ok.ensures.base) in
+    ok_either c.begin_named.result.1 _ (λ d. begun_all (λ begun. begun.name) (λ begun. begun.root) (λ begun. g.T.Bench.Bench.contents begun.bench) (g.T.Turns.knows c.begin_named.result.0) c.look-youngest.result v a.0 d.0 name a.2 d.2 below c.begin_named.result.1
+    c.begin_named.ensures.name (c.begin_named.ensures.alone still d.0 d.1 (may_make c.look-youngest.result v a.0 d.0 name.number.number a.2 d.2 name.base below)))
+    (λ past. (met_before g.T.Turns.store c.args.turns c.look-youngest.new.self c.look-youngest.ensures.later.below past.0, λ few. (past.1 few).0))
+    (c.in-Ok.ensures.drew a.0 a.1 (ap {A = View} (λ z. z.section) a.2.is ∙ none) (least_at_look c.args.base c.look-youngest.result v a.0 a.2 le))
 
 pub returns-in-Ok-clause-refused : goal.returns-in-Ok-clause-refused
-returns-in-Ok-clause-refused g c =
-    let old = g.D.Disk.trace c.args.disk in
-    let mid = g.D.Disk.trace c.next_name.new.disk in
-    let new = g.D.Disk.trace c.begin_named.result.0 in
+returns-in-Ok-clause-refused g c = λ v known none.
+    let a = c.look-youngest.ensures.turned v known in
+    let le : c.args.base ≤ c.look-youngest.result = grind (arith, nat_tests, c.lt.ensures, c.if-lt.false) in
     let name = c.in-Ok.name in
-    let le : name.base ≤ c.args.opened.now.youngest = grind (arith, nat_tests, c.in-Ok.ensures.base, c.lt.ensures, c.if-lt.false) in
-    let o = c.args.opened.now in
-    let r = c.begin_named.result.1 in
-    let disk = Rose (g.D.Disk.faults c.args.disk) (g.D.Disk.faults c.begin_named.result.0) in
-    let was_disk = Rose (g.D.Disk.faults c.next_name.new.disk) (g.D.Disk.faults c.begin_named.result.0) in
-    let benches = Rose (g.D.Disk.bench_faults c.args.disk) (g.D.Disk.bench_faults c.begin_named.result.0) in
-    let was_benches = Rose (g.D.Disk.bench_faults c.next_name.new.disk) (g.D.Disk.bench_faults c.begin_named.result.0) in
-    let drawn = drawn_on name.base name.number.number old mid new c.begin_named.ensures.files c.begin_named.ensures.images (record { number = c.in-Ok.ensures.number; raised = c.in-Ok.ensures.raised; firm = c.in-Ok.ensures.firm }) in
-    subst (λ (base : ℕ). IfErr r (BeginFails disk benches o base old new)) c.in-Ok.ensures.base
-    (all_fail was_disk disk was_benches benches (λ rose. omega (arith, rose, c.next_name.ensures.later)) (λ rose. omega (arith, rose, c.next_name.ensures.benches)) old mid new c.in-Ok.ensures.labels o name.base name.number.number drawn r
-    c.begin_named.ensures.refused (wrongs_told o name.base old mid name.number.number r c.requires.opened c.in-Ok.ensures.raised le c.begin_named.ensures.wrong))
+    let below : name.base ≤ c.look-youngest.result = omega (arith, le, c.in-Ok.ensures.base) in
+    err_either c.begin_named.result.1 _ _ (λ d. refused_all (g.T.Turns.knows c.begin_named.result.0) c.look-youngest.result v a.0 d.0 name c.args.base a.2 d.2 none c.in-Ok.ensures.base (g.T.Turns.labels c.begin_named.result.0)
+    (Rose (g.T.Turns.faults c.draw.new.turns) (g.T.Turns.faults c.begin_named.result.0)) (Rose (g.T.Turns.faults c.args.turns) (g.T.Turns.faults c.begin_named.result.0))
+    (λ rose. omega (arith, rose, c.draw.ensures.later, c.look-youngest.ensures.faults)) c.begin_named.result.1
+    (c.begin_named.ensures.refused d.0 d.1 (may_make c.look-youngest.result v a.0 d.0 name.number.number a.2 d.2 name.base below)) c.begin_named.ensures.dropped)
+    (λ why past. (met_before g.T.Turns.store c.args.turns c.look-youngest.new.self c.look-youngest.ensures.later.below past.0, λ few. absurd (past.1 few).0))
+    (c.in-Ok.ensures.drew a.0 a.1 (ap {A = View} (λ z. z.section) a.2.is ∙ none) (least_at_look c.args.base c.look-youngest.result v a.0 a.2 le))
 
-pub returns-in-Ok-clause-decided : goal.returns-in-Ok-clause-decided
-returns-in-Ok-clause-decided g c =
-    let old = g.D.Disk.trace c.args.disk in
-    let mid = g.D.Disk.trace c.next_name.new.disk in
-    let new = g.D.Disk.trace c.begin_named.result.0 in
-    let name = c.in-Ok.name in
-    let le : c.args.base ≤ c.args.opened.now.youngest = grind (arith, nat_tests, c.lt.ensures, c.if-lt.false) in
-    decided_named (Rose (g.D.Disk.faults c.next_name.new.disk) (g.D.Disk.faults c.begin_named.result.0)) (Rose (g.D.Disk.bench_faults c.next_name.new.disk) (g.D.Disk.bench_faults c.begin_named.result.0)) (txn_label (pair_of name)) old mid new
-    c.args.opened.now.youngest c.args.base counter_told name c.begin_named.result.1 le c.in-Ok.ensures.decided c.begin_named.ensures.refused
+-- ---- the labels
 
-pub returns-in-Ok-clause-any_moment : goal.returns-in-Ok-clause-any_moment
-returns-in-Ok-clause-any_moment g c =
-    let old = g.D.Disk.trace c.args.disk in
-    let mid = g.D.Disk.trace c.next_name.new.disk in
-    let new = g.D.Disk.trace c.begin_named.result.0 in
-    let name = c.in-Ok.name in
-    let first = draws_name name.base old mid c.in-Ok.ensures.images c.in-Ok.ensures.any_moment c.in-Ok.ensures.rising c.in-Ok.ensures.left in
-    let all = draws_on name.base name.number.number old mid new c.begin_named.ensures.files c.begin_named.ensures.images first c.in-Ok.ensures.number c.in-Ok.ensures.labels c.begin_named.ensures.any_moment c.begin_named.ensures.labels in
-    all.moments
+pub returns-then-lt-clause-unlisted : goal.returns-then-lt-clause-unlisted
+returns-then-lt-clause-unlisted g c = λ free. inl (c.look-youngest.ensures.listed free)
 
-pub returns-in-Ok-clause-rising : goal.returns-in-Ok-clause-rising
-returns-in-Ok-clause-rising g c =
-    let old = g.D.Disk.trace c.args.disk in
-    let mid = g.D.Disk.trace c.next_name.new.disk in
-    let new = g.D.Disk.trace c.begin_named.result.0 in
-    let name = c.in-Ok.name in
-    let first = draws_name name.base old mid c.in-Ok.ensures.images c.in-Ok.ensures.any_moment c.in-Ok.ensures.rising c.in-Ok.ensures.left in
-    let all = draws_on name.base name.number.number old mid new c.begin_named.ensures.files c.begin_named.ensures.images first c.in-Ok.ensures.number c.in-Ok.ensures.labels c.begin_named.ensures.any_moment c.begin_named.ensures.labels in
-    all.rising
+pub returns-in-Err-clause-unlisted : goal.returns-in-Err-clause-unlisted
+returns-in-Err-clause-unlisted g c = λ free. inl (c.draw.ensures.listed (c.look-youngest.ensures.duty ∙ free) ∙ c.look-youngest.ensures.listed free)
 
-pub returns-in-Ok-clause-labels : goal.returns-in-Ok-clause-labels
-returns-in-Ok-clause-labels g c =
-    let old = g.D.Disk.trace c.args.disk in
-    let mid = g.D.Disk.trace c.next_name.new.disk in
-    let new = g.D.Disk.trace c.begin_named.result.0 in
-    let name = c.in-Ok.name in
-    let first = draws_name name.base old mid c.in-Ok.ensures.images c.in-Ok.ensures.any_moment c.in-Ok.ensures.rising c.in-Ok.ensures.left in
-    let all = draws_on name.base name.number.number old mid new c.begin_named.ensures.files c.begin_named.ensures.images first c.in-Ok.ensures.number c.in-Ok.ensures.labels c.begin_named.ensures.any_moment c.begin_named.ensures.labels in
-    subst (λ (base : ℕ). LeavesBoth old new (λ m ls. AreAll (IsOldOrDrawn base old) ls)) c.in-Ok.ensures.base all.labels
+pub returns-in-Ok-clause-listed : goal.returns-in-Ok-clause-listed
+returns-in-Ok-clause-listed g c =
+    relabels_begun (λ begun. begun.name) c.in-Ok.name c.begin_named.result.1 (g.T.Turns.bound c.args.turns) (g.T.Turns.bound c.draw.new.turns) (g.T.Turns.labels c.args.turns) (g.T.Turns.labels c.draw.new.turns) (g.T.Turns.labels c.begin_named.result.0)
+    (c.draw.ensures.duty ∙ c.look-youngest.ensures.duty) (λ free. c.draw.ensures.listed (c.look-youngest.ensures.duty ∙ free) ∙ c.look-youngest.ensures.listed free) c.begin_named.ensures.name c.begin_named.ensures.listed
 
-pub returns-in-Ok-clause-new : goal.returns-in-Ok-clause-new
-returns-in-Ok-clause-new g c =
-    let n = c.in-Ok.name.number.number in
-    new_told (λ begun. begun.name.number.number) n (g.D.Disk.trace c.args.disk) c.begin_named.result.1
-    (IfOk-weaker c.begin_named.result.1 (λ begun. begun.name ≡ c.in-Ok.name) (λ begun. begun.name.number.number ≡ n) (λ begun is. ap (λ (z : TxnName). z.number.number) is) c.begin_named.ensures.name) c.in-Ok.ensures.new
+pub returns-in-Ok-clause-unlisted : goal.returns-in-Ok-clause-unlisted
+returns-in-Ok-clause-unlisted g c =
+    unlisted_among c.begin_named.result.1 (g.T.Turns.bound c.args.turns) (g.T.Turns.bound c.draw.new.turns) c.args.base c.in-Ok.name.base (Rose (g.T.Turns.faults c.draw.new.turns) (g.T.Turns.faults c.begin_named.result.0)) (Rose (g.T.Turns.faults c.args.turns) (g.T.Turns.faults c.begin_named.result.0))
+    (g.T.Turns.labels c.args.turns) (g.T.Turns.labels c.draw.new.turns) (g.T.Turns.labels c.begin_named.result.0) c.in-Ok.ensures.base (c.draw.ensures.duty ∙ c.look-youngest.ensures.duty)
+    (λ free. c.draw.ensures.listed (c.look-youngest.ensures.duty ∙ free) ∙ c.look-youngest.ensures.listed free) (λ rose. omega (arith, rose, c.draw.ensures.later, c.look-youngest.ensures.faults)) c.begin_named.ensures.unlisted

@@ -1,48 +1,56 @@
-use Rattle.fsfs_disk.specs.Trace.{DropLabel}
-use Rattle.fsfs_disk.proofs.TraceLemmas.{ended_if_there}
+use Rattle.std.proofs.Common.{◌∷◌, [], refl, sym, ap}
+use Rattle.fsfs_disk.specs.Labels.{Txn}
+use Rattle.fsfs_machine.specs.declared.machine.Step.TheVariants.{Purge, PurgeSpent}
 use Rattle.fsfs_disk.specs.Transactions.Txns.{pair_of, txn_label}
-use Rattle.fsfs_disk.proofs.InTurn.{dropped, files_ended, labels_ended, on_err, stays_itself, stays_more}
+use Rattle.fsfs_turn.specs.Views.{with_txns}
+use Rattle.fsfs_machine.specs.Machine.{begun_txn}
+use Rattle.fsfs_turn.specs.Learning.{with_spent, drawn_of}
+use Rattle.fsfs_begin.proofs.Dropping.{gone_now, relabels, begun_may, purged, not_purged}
 use Rattle.fsfs_begin.proofs.purging.purge.Goals as goal
 
-pub returns-clause-done : goal.returns-clause-done
-returns-clause-done g c =
-    dropped (txn_label (pair_of c.args.name.now)) (g.D.Disk.trace c.args.disk.now) (g.D.Disk.trace c.drop_bench.new.self) c.drop_bench.result c.drop_bench.ensures.there c.drop_bench.ensures.ok
+pub drop_bench-requires : goal.drop_bench-requires
+drop_bench-requires g c = record { due = λ bound. let w = c.requires.due bound in (w.0, c.args.name.now.number.number, c.args.name.now.base, w.1, w.2, w.3, refl) }
 
-pub returns-clause-failed : goal.returns-clause-failed
-returns-clause-failed g c =
-    let l = txn_label (pair_of c.args.name.now) in
-    let old = g.D.Disk.trace c.args.disk.now in
-    let new = g.D.Disk.trace c.drop_bench.new.self in
-    on_err c.drop_bench.result (labels_ended l old new (ended_if_there (DropLabel l) old new c.drop_bench.result c.drop_bench.ensures.ok c.drop_bench.ensures.err))
+pub returns-in-Ok-clause-unlisted : goal.returns-in-Ok-clause-unlisted
+returns-in-Ok-clause-unlisted g c = let d = c.in-Ok.ensures.dropped in gone_now (txn_label (pair_of c.args.name.now)) d.met (g.T.Turns.labels c.drop_bench.new.self) d.made
 
-pub returns-clause-ended : goal.returns-clause-ended
-returns-clause-ended g c =
-    ended_if_there (DropLabel (txn_label (pair_of c.args.name.now))) (g.D.Disk.trace c.args.disk.now) (g.D.Disk.trace c.drop_bench.new.self) c.drop_bench.result c.drop_bench.ensures.ok c.drop_bench.ensures.err
+pub returns-in-Ok-clause-others : goal.returns-in-Ok-clause-others
+returns-in-Ok-clause-others g c = relabels (g.T.Turns.bound c.args.turns.now) (txn_label (pair_of c.args.name.now)) _ (g.T.Turns.labels c.args.turns.now) (g.T.Turns.labels c.drop_bench.new.self) c.in-Ok.ensures.dropped
 
-pub returns-clause-files : goal.returns-clause-files
-returns-clause-files g c =
-    let l = txn_label (pair_of c.args.name.now) in
-    let old = g.D.Disk.trace c.args.disk.now in
-    let new = g.D.Disk.trace c.drop_bench.new.self in
-    files_ended l old new (ended_if_there (DropLabel l) old new c.drop_bench.result c.drop_bench.ensures.ok c.drop_bench.ensures.err)
+pub returns-in-Ok-clause-purged : goal.returns-in-Ok-clause-purged
+returns-in-Ok-clause-purged g c = λ v txn known may named.
+    let base = c.args.name.now.base in
+    let d = c.in-Ok.ensures.purged v txn base known may (ap (Txn base) (sym named)) in
+    (d.0, d.2, purged (with_txns (txn ∷ [])) (λ went. Purge v.number 0 went) v d.1 d.0 d.3 d.4)
 
-pub returns-clause-images : goal.returns-clause-images
-returns-clause-images g c =
-    let l = txn_label (pair_of c.args.name.now) in
-    let old = g.D.Disk.trace c.args.disk.now in
-    let new = g.D.Disk.trace c.drop_bench.new.self in
-    (stays_more l old old new (stays_itself old) (ended_if_there (DropLabel l) old new c.drop_bench.result c.drop_bench.ensures.ok c.drop_bench.ensures.err)).images
+pub returns-in-Ok-clause-spent : goal.returns-in-Ok-clause-spent
+returns-in-Ok-clause-spent g c = λ v known outside given.
+    let number = c.args.name.now.number.number in
+    let d = c.in-Ok.ensures.spent v number c.args.name.now.base known outside given refl in
+    (d.0, d.2, purged (with_spent number) (λ went. PurgeSpent v.number 0 went) v d.1 d.0 d.3 d.4)
 
-pub returns-clause-any_moment : goal.returns-clause-any_moment
-returns-clause-any_moment g c =
-    let l = txn_label (pair_of c.args.name.now) in
-    let old = g.D.Disk.trace c.args.disk.now in
-    let new = g.D.Disk.trace c.drop_bench.new.self in
-    (stays_more l old old new (stays_itself old) (ended_if_there (DropLabel l) old new c.drop_bench.result c.drop_bench.ensures.ok c.drop_bench.ensures.err)).moments
+pub returns-in-Err-clause-purged : goal.returns-in-Err-clause-purged
+returns-in-Err-clause-purged g c = λ v txn known may named.
+    let base = c.args.name.now.base in
+    let d = c.in-Err.ensures.purged v txn base known may (ap (Txn base) (sym named)) in
+    (refl, d.0, d.1, d.2, d.3, not_purged (with_txns (txn ∷ [])) (λ went. Purge v.number 0 went) v d.1 d.0 d.3 d.4)
 
-pub returns-clause-labels : goal.returns-clause-labels
-returns-clause-labels g c =
-    let l = txn_label (pair_of c.args.name.now) in
-    let old = g.D.Disk.trace c.args.disk.now in
-    let new = g.D.Disk.trace c.drop_bench.new.self in
-    (stays_more l old old new (stays_itself old) (ended_if_there (DropLabel l) old new c.drop_bench.result c.drop_bench.ensures.ok c.drop_bench.ensures.err)).left
+pub returns-in-Err-clause-spent : goal.returns-in-Err-clause-spent
+returns-in-Err-clause-spent g c = λ v known outside given.
+    let number = c.args.name.now.number.number in
+    let d = c.in-Err.ensures.spent v number c.args.name.now.base known outside given refl in
+    (refl, d.0, d.1, d.2, d.3, not_purged (with_spent number) (λ went. PurgeSpent v.number 0 went) v d.1 d.0 d.3 d.4)
+
+pub returns-in-Ok-clause-any : goal.returns-in-Ok-clause-any
+returns-in-Ok-clause-any g c = λ v known outside given less.
+    let base = c.args.name.now.base in
+    let txn = begun_txn v.seen (drawn_of base c.args.name.now.number.number) in
+    let may = begun_may v base c.args.name.now.number.number outside given less in
+    (txn, refl, may, returns-in-Ok-clause-purged g c v txn known may refl)
+
+pub returns-in-Err-clause-any : goal.returns-in-Err-clause-any
+returns-in-Err-clause-any g c = λ v known outside given less.
+    let base = c.args.name.now.base in
+    let txn = begun_txn v.seen (drawn_of base c.args.name.now.number.number) in
+    let may = begun_may v base c.args.name.now.number.number outside given less in
+    (txn, refl, may, returns-in-Err-clause-purged g c v txn known may refl)

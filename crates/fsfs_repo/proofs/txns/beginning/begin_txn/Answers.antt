@@ -7,7 +7,7 @@ use Rattle.fsfs_disk.specs.Transactions.Txns.{pair_of, txn_label}
 use Rattle.fsfs_begin.specs.Benches.{TellsRoot}
 use Rattle.fsfs_turn.specs.Labels.{Relabels}
 use Rattle.fsfs_turn.specs.Mountings.{RoseBy}
-use Rattle.fsfs_begin.specs.TurnBegin.Faults.{bench_faults_in}
+use Rattle.fsfs_begin.specs.Faults.{bench_faults_in}
 use Rattle.fsfs_begin.proofs.Moving.{moved_on}
 use Rattle.fsfs_begin.proofs.Reading.{either_way}
 use Rattle.fsfs_repo.proofs.Begun.{begins_as, among_as, begun_moved, begun_given}
