@@ -1,5 +1,5 @@
 -- What a creation did, as the top call tells it.
-use Rattle.std.proofs.Common.{◌≡◌, ◌⊎◌, ℕ, List, inl, inr, ⊎_elim, refl, sym, ap, subst, ◌∙◌}
+use Rattle.std.proofs.Common.{◌≡◌, ◌⊎◌, ℕ, List, [], inl, inr, ⊎_elim, refl, sym, ap, subst, ◌∙◌}
 use Rattle.std.specs.Prelude.{Option, Some, None, IfSome, option_map}
 use Rattle.std.specs.declared.cmp.Ordering.{Ordering}
 use Rattle.std.specs.declared.cmp.Ordering.TheVariants.{Less, Equal, Greater}
@@ -10,14 +10,13 @@ use Rattle.fsfs_base.specs.Failures.{Rose}
 use Rattle.fsfs_base.proofs.FileLemmas.{apart_by}
 use Rattle.fsfs_disk.specs.Trace.{Trace, files_now}
 use Rattle.fsfs_disk.specs.Crash.{AllImages, Leaves}
-use Rattle.fsfs_disk.proofs.CrashLemmas.{leaves_with}
 use Rattle.fsfs_layout.specs.CreatedFiles.{identifier_text, random_identifier}
 use Rattle.fsfs_create.specs.Creation.{IsCreated, IsNoneOrWhole, IsUnpublished, IsNoRepository, CreateFails}
 use Rattle.fsfs_base.specs.declared.places.create_fault.CreateFault.{CreateFault}
 use Rattle.fsfs_base.specs.declared.places.create_fault.CreateFault.TheVariants as create
 use Rattle.fsfs_cli.specs.CommandFaults.{fault_from_create}
 use Rattle.fsfs_cli.specs.declared.faults.fault.Fault.{Fault}
-use Rattle.fsfs_top.specs.Command.{Drawn, Created, IsNoneOrCreated, identifier_of}
+use Rattle.fsfs_top.specs.Command.{Drawn, Created, LeavesNoneOrCreated, identifier_of}
 use Rattle.fsfs_top.specs.Scenes.{HostScene}
 
 given : {X : Type 0} (told : Option X) (x y : X) → x ≡ y → IfSome told (λ t. y ≡ t) → IfSome told (λ t. x ≡ t)
@@ -68,12 +67,18 @@ created_failed repos a b rose shard clock dice d id old new why fault from named
 
 -- what a crash leaves, on the disk that the host had
 pub leaves_created : (shard : ℕ) (clock : Option ℕ) (dice : Option (List ℕ)) (d : Drawn clock dice) (id : List ℕ) (old new at_old at_new : Option Trace) → id ≡ random_identifier d.bits → old ≡ at_old → at_new ≡ new
-    → (AllImages old IsUnpublished → Leaves old new (IsNoneOrWhole shard (identifier_text id) d.moment old)) → AllImages at_old IsUnpublished → Leaves at_old at_new (IsNoneOrCreated shard clock dice at_old)
+    → (AllImages old IsUnpublished → Leaves old new (IsNoneOrWhole shard (identifier_text id) d.moment old)) → AllImages at_old IsUnpublished → LeavesNoneOrCreated shard clock dice at_old at_new
 leaves_created shard clock dice d id old new at_old at_new named was is leaves =
-    subst (λ o. AllImages o IsUnpublished → Leaves o at_new (IsNoneOrCreated shard clock dice o)) was
-    (subst (λ o. AllImages old IsUnpublished → Leaves old o (IsNoneOrCreated shard clock dice old)) (sym is)
-    (λ all. leaves_with old new (IsNoneOrWhole shard (identifier_text id) d.moment old) (IsNoneOrCreated shard clock dice old)
-    (λ m h. (d, subst (λ i. IsNoneOrWhole shard (identifier_text i) d.moment old m) named h)) (leaves all)))
+    subst (λ o. AllImages o IsUnpublished → LeavesNoneOrCreated shard clock dice o at_new) was
+    (subst (λ o. AllImages old IsUnpublished → LeavesNoneOrCreated shard clock dice old o) (sym is)
+    (λ all. (d, subst (λ i. Leaves old new (IsNoneOrWhole shard (identifier_text i) d.moment old)) named (leaves all))))
+
+-- where nothing was drawn, what would have been
+pub some_drawn : (clock : Option ℕ) (dice : Option (List ℕ)) → Drawn clock dice
+some_drawn None None = record { moment = 0; bits = []; moment_is = tt; bits_are = tt }
+some_drawn None (Some b) = record { moment = 0; bits = b; moment_is = tt; bits_are = refl }
+some_drawn (Some t) None = record { moment = t; bits = []; moment_is = refl; bits_are = tt }
+some_drawn (Some t) (Some b) = record { moment = t; bits = b; moment_is = refl; bits_are = refl }
 
 -- two paths are one or not
 pub path_cases : (p q : List ℕ) → (p ≡ q) ⊎ (p ≡ q → ⊥)

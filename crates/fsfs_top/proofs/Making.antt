@@ -10,7 +10,7 @@ use Rattle.fsfs_cli.specs.Lines.{status_of}
 use Rattle.fsfs_cli.specs.declared.faults.fault.Fault.{Fault}
 use Rattle.fsfs_cli.specs.declared.faults.fault.Fault.TheVariants.{Words, Request, Repository, Outside, Memory, Limit}
 use Rattle.fsfs_tree.specs.Answers.{new_history}
-use Rattle.fsfs_create.specs.Creation.{IsUnpublished}
+use Rattle.fsfs_create.specs.Creation.{IsNoneOrWhole, IsUnpublished}
 use Rattle.fsfs_create.specs.NewStore.{IsNewStore}
 use Rattle.fsfs_create.proofs.NewStoreLemmas.{created_is_new}
 use Rattle.fsfs_layout.specs.CreatedFiles.{created_over, random_identifier}
@@ -18,7 +18,7 @@ use Rattle.fsfs_stands.specs.Files.{StandsFor}
 use Rattle.fsfs_stands.specs.NewRepository.{HoldsNew}
 use Rattle.fsfs_stands.proofs.Creations.{creations_hold_new}
 use Rattle.fsfs_stands.proofs.NewRepository.{new_repositories_stand}
-use Rattle.fsfs_top.specs.Command.{Created, Did, IsNoneOrCreated, IsNoneOrStore, identifier_of}
+use Rattle.fsfs_top.specs.Command.{Created, Did, Drawn, IsNoneOrStore, LeavesNoneOrCreated, identifier_of}
 use Rattle.fsfs_top.specs.Replies.{MadeStands}
 use Rattle.fsfs_top.specs.Scenes.{Scene}
 use Rattle.fsfs_top.proofs.TaskDone.{task_done}
@@ -60,17 +60,17 @@ module _ (tool : Tool) (ws : List (List ℕ)) (clock : Option ℕ) (dice : Optio
 
 -- ---- what a crash leaves
 
-store_left : (shard : ℕ) (clock : Option ℕ) (dice : Option (List ℕ)) (t : Trace) (m : Files) → (1 ≤ shard) × (shard ≤ 100_000) → IsNoneOrCreated shard clock dice (Some t) m → IsNoneOrStore clock m
-store_left shard clock dice t m size (d, left) = ⊎_elim (λ none. inl none) (λ whole. inr (
+store_left : (shard : ℕ) (clock : Option ℕ) (dice : Option (List ℕ)) (d : Drawn clock dice) (t : Trace) (m : Files) → (1 ≤ shard) × (shard ≤ 100_000) → IsNoneOrWhole shard (identifier_of clock dice d) d.moment (Some t) m → IsNoneOrStore clock m
+store_left shard clock dice d t m size left = ⊎_elim (λ none. inl none) (λ whole. inr (
   d.moment,
   d.moment_is,
   subst (IsNewStore d.moment) (sym whole.2) (created_is_new (record { shard_size = shard; some = omega (arith, size.0); most = omega (arith, size.1) }) d.moment (random_identifier d.bits) whole.0 (files_now t) whole.1),
 )) left
 
-stores_left : (shard : ℕ) (clock : Option ℕ) (dice : Option (List ℕ)) (old new : Option Trace) → (1 ≤ shard) × (shard ≤ 100_000) → Leaves old new (IsNoneOrCreated shard clock dice old) → Leaves old new (IsNoneOrStore clock)
+stores_left : (shard : ℕ) (clock : Option ℕ) (dice : Option (List ℕ)) (old new : Option Trace) → (1 ≤ shard) × (shard ≤ 100_000) → LeavesNoneOrCreated shard clock dice old new → Leaves old new (IsNoneOrStore clock)
 stores_left shard clock dice None new size leaves = tt
-stores_left shard clock dice (Some t) new size leaves = leaves_with (Some t) new (IsNoneOrCreated shard clock dice (Some t)) (IsNoneOrStore clock) (λ m left. store_left shard clock dice t m size left) leaves
+stores_left shard clock dice (Some t) new size (d, leaves) = leaves_with (Some t) new (IsNoneOrWhole shard (identifier_of clock dice d) d.moment (Some t)) (IsNoneOrStore clock) (λ m left. store_left shard clock dice d t m size left) leaves
 
 pub stands_or_none : (tool : Tool) (ws : List (List ℕ)) (repos : List ℕ) (shard : ℕ) (clock : Option ℕ) (dice : Option (List ℕ)) (old new : Option Trace) → Asks tool ws repos (Create shard)
-    → (AllImages old IsUnpublished → Leaves old new (IsNoneOrCreated shard clock dice old)) → AllImages old IsUnpublished → Leaves old new (IsNoneOrStore clock)
+    → (AllImages old IsUnpublished → LeavesNoneOrCreated shard clock dice old new) → AllImages old IsUnpublished → Leaves old new (IsNoneOrStore clock)
 stands_or_none tool ws repos shard clock dice old new asks leaves all = stores_left shard clock dice old new (asks_task tool ws repos (Create shard) asks).1 (leaves all)

@@ -44,9 +44,9 @@ Created repos shard clock dice a b fault =
     ⊎ (((why : CreateFault) × (fault ≡ Some (fault_from_create why)) × ((d : Drawn clock dice) × CreateFails (Rose a.disk_faults b.disk_faults) shard (identifier_of clock dice d) d.moment (a.disk_at repos) (b.disk_at repos) why))
     ⊎ ((fault ≡ None) × IsNoRepository (a.disk_at repos) × ((d : Drawn clock dice) × IsCreated shard (identifier_of clock dice d) d.moment (a.disk_at repos) (b.disk_at repos))))
 
--- a crash at some moment of a creation leaves no repository, or the whole of the one that it makes
-abbrev pub IsNoneOrCreated : ℕ → Option ℕ → Option (List ℕ) → Option Trace → Files → Type 0
-IsNoneOrCreated shard clock dice old m = (d : Drawn clock dice) × IsNoneOrWhole shard (identifier_of clock dice d) d.moment old m
+-- A crash at any moment of a creation leaves no repository, or the whole of the one that it makes: the same one at each moment.
+abbrev pub LeavesNoneOrCreated : ℕ → Option ℕ → Option (List ℕ) → Option Trace → Option Trace → Type 0
+LeavesNoneOrCreated shard clock dice old new = (d : Drawn clock dice) × Leaves old new (IsNoneOrWhole shard (identifier_of clock dice d) d.moment old)
 
 -- by what it stands for: no repository, or the new store, whose history is revision 0 alone with the date of the moment that the clock
 -- gave, where it tells

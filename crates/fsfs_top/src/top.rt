@@ -10,7 +10,7 @@ ghost use Rattle.fsfs_cli.specs.declared.request.Task.TheVariants.{Create, Remov
 ghost use Rattle.fsfs_cli.specs.declared.tool.Tool.TheVariants.{Jobs};
 ghost use Rattle.fsfs_cli.specs.Lines.{status_of};
 ghost use Rattle.fsfs_top.specs.Scripts.{DidJobs, HasHistory, ListsNoOther, ended_fault, ended_status};
-ghost use Rattle.fsfs_top.specs.Command.{Created, Did, IsNoneOrCreated, IsNoneOrStore, Tells, answer_of, fault_of};
+ghost use Rattle.fsfs_top.specs.Command.{Created, Did, IsNoneOrStore, LeavesNoneOrCreated, Tells, answer_of, fault_of};
 ghost use Rattle.fsfs_top.specs.Replies.{Replies, Gives, MadeStands};
 ghost use Rattle.fsfs_top.specs.Scenes.{host_scene, sink_scene, source_scene, scene};
 ghost use Rattle.fsfs_top.specs.Transactions.{LeavesRemoval};
@@ -42,7 +42,7 @@ fn create_at<H: Host, C: Clock, R: Dice>(
     ensures created { Created repos.now shard (C.next clock.old) (R.next dice.old) (host_scene H.Host host.old) (host_scene H.Host host.new) (fault_of result) }
     ensures there_same { (t : Trace) → H.disk_at host.old repos.now ≡ Some t → HasRepository t → H.disk_at host.new repos.now ≡ H.disk_at host.old repos.now }
     ensures any_moment { AllImages (H.disk_at host.old repos.now) IsUnpublished
-        → Leaves (H.disk_at host.old repos.now) (H.disk_at host.new repos.now) (IsNoneOrCreated shard (C.next clock.old) (R.next dice.old) (H.disk_at host.old repos.now)) }
+        → LeavesNoneOrCreated shard (C.next clock.old) (R.next dice.old) (H.disk_at host.old repos.now) (H.disk_at host.new repos.now) }
     ensures firm { OnOk result (IsFirm (H.disk_at host.new repos.now)) }
     ensures others { (path : List ℕ) → path ≢ repos.now → H.disk_at host.new path ≡ H.disk_at host.old path }
 {
@@ -76,7 +76,7 @@ fn run<H: Host, O: Sink, C: Clock, R: Dice>(
     ensures there_same { (repos : List ℕ) (shard : ℕ) (t : Trace) → Asks tool (map string_bytes words.now) repos (Create shard)
         → H.disk_at host.old repos ≡ Some t → HasRepository t → H.disk_at host.new repos ≡ H.disk_at host.old repos }
     ensures any_moment { (repos : List ℕ) (shard : ℕ) → Asks tool (map string_bytes words.now) repos (Create shard) → AllImages (H.disk_at host.old repos) IsUnpublished
-        → Leaves (H.disk_at host.old repos) (H.disk_at host.new repos) (IsNoneOrCreated shard (C.next clock.old) (R.next dice.old) (H.disk_at host.old repos)) }
+        → LeavesNoneOrCreated shard (C.next clock.old) (R.next dice.old) (H.disk_at host.old repos) (H.disk_at host.new repos) }
     ensures others { (path : List ℕ) → ((shard : ℕ) → Asks tool (map string_bytes words.now) path (Create shard) → ⊥)
         → option_map files_now (H.disk_at host.new path) ≡ option_map files_now (H.disk_at host.old path) }
     ensures firm { (repos : List ℕ) (shard : ℕ) → Asks tool (map string_bytes words.now) repos (Create shard) → OnOk result (IsFirm (H.disk_at host.new repos)) }
@@ -130,7 +130,7 @@ fn do_command<H: Host, O: Sink, E: Sink, C: Clock, R: Dice>(
 
     // A crash at any moment of a creation leaves no repository at the path, or the whole new one.
     ensures any_moment { (repos : List ℕ) (shard : ℕ) → Asks tool (map string_bytes words.now) repos (Create shard) → AllImages (H.disk_at host.old repos) IsUnpublished
-        → Leaves (H.disk_at host.old repos) (H.disk_at host.new repos) (IsNoneOrCreated shard (C.next clock.old) (R.next dice.old) (H.disk_at host.old repos)) }
+        → LeavesNoneOrCreated shard (C.next clock.old) (R.next dice.old) (H.disk_at host.old repos) (H.disk_at host.new repos) }
 
     // So what it leaves stands for the history of revision 0, or an opening refuses it as no repository.
     ensures stands_or_none { (repos : List ℕ) (shard : ℕ) → Asks tool (map string_bytes words.now) repos (Create shard) → AllImages (H.disk_at host.old repos) IsUnpublished
@@ -204,7 +204,7 @@ where
 
     // A crash at any moment of a creation leaves no repository at the path, or the whole new one.
     ensures any_moment { (repos : List ℕ) (shard : ℕ) → Asks tool (map string_bytes words.now) repos (Create shard) → AllImages (H.disk_at host.old repos) IsUnpublished
-        → Leaves (H.disk_at host.old repos) (H.disk_at host.new repos) (IsNoneOrCreated shard (C.next clock.old) (R.next dice.old) (H.disk_at host.old repos)) }
+        → LeavesNoneOrCreated shard (C.next clock.old) (R.next dice.old) (H.disk_at host.old repos) (H.disk_at host.new repos) }
 
     // So what it leaves stands for the history of revision 0, or an opening refuses it as no repository.
     ensures stands_or_none { (repos : List ℕ) (shard : ℕ) → Asks tool (map string_bytes words.now) repos (Create shard) → AllImages (H.disk_at host.old repos) IsUnpublished

@@ -1,9 +1,10 @@
 use Rattle.std.proofs.Common.{◌≡◌, ◌∙◌, ap, sym, subst, refl, arith}
 use Rattle.fsfs_disk.specs.Crash.{IsFirm}
+use Rattle.fsfs_disk.proofs.CrashLemmas.{same_leaves}
 use Rattle.fsfs_base.specs.Failures.{Rose}
 use Rattle.fsfs_layout.specs.CreatedFiles.{random_identifier}
 use Rattle.fsfs_top.specs.Scenes.{host_scene}
-use Rattle.fsfs_top.proofs.CreationTold.{drawn, created_done, created_failed, leaves_created}
+use Rattle.fsfs_top.proofs.CreationTold.{drawn, created_done, created_failed, leaves_created, some_drawn}
 use Rattle.fsfs_top.proofs.top.create_at.Goals as goal
 
 pub returns-in-Ok-made-clause-created : goal.returns-in-Ok-made-clause-created
@@ -65,3 +66,7 @@ sharded-layout-requires-clause-most g c = omega (arith, c.requires.1)
 
 pub create-made-requires-clause-right : goal.create-made-requires-clause-right
 create-made-requires-clause-right g c = c.in-Ok.ensures.right tt
+
+pub returns-in-Err-clause-any_moment : goal.returns-in-Err-clause-any_moment
+returns-in-Err-clause-any_moment g c = λ all.
+    (some_drawn (g.C.Clock.next c.args.clock.now) (g.R.Dice.next c.args.dice.now), same_leaves (g.H.Host.disk_at c.args.host.now c.args.repos.now) (g.H.Host.disk_at c.mount.new.self c.args.repos.now) _ c.in-Err.ensures.err)

@@ -6,7 +6,7 @@ use Rattle.fsfs_disk.specs.Trace.{Trace, files_now, labels_now}
 use Rattle.fsfs_cli.specs.declared.request.Task.TheVariants.{Create, ListTxns, RemoveTxns, Look}
 use Rattle.fsfs_cli.specs.Readings.{Asks}
 use Rattle.fsfs_cli.proofs.TaskLemmas.{asks_task}
-use Rattle.fsfs_top.specs.Command.{IsNoneOrCreated}
+use Rattle.fsfs_top.specs.Command.{LeavesNoneOrCreated}
 use Rattle.fsfs_top.proofs.CreationTold.{same_files}
 use Rattle.fsfs_create.proofs.OpeningLemmas.{firm_same}
 use Rattle.fsfs_top.specs.Transactions.{LeavesRemoval}
@@ -37,7 +37,7 @@ returns-in-Create-clause-any_moment g c = λ r n also.
     let asks = subst (Asks c.args.tool words repos) c.in-Create.is c.in_ok-request.ensures in
     let old = g.H.Host.disk_at c.args.host.now in
     let new = g.H.Host.disk_at c.create_at.new.host in
-    at_creation (λ p k. AllImages (old p) IsUnpublished → Leaves (old p) (new p) (IsNoneOrCreated k (g.C.Clock.next c.args.clock.now) (g.R.Dice.next c.args.dice.now) (old p)))
+    at_creation (λ p k. AllImages (old p) IsUnpublished → LeavesNoneOrCreated k (g.C.Clock.next c.args.clock.now) (g.R.Dice.next c.args.dice.now) (old p) (new p))
     c.args.tool words repos c.in-Create.shard asks c.create_at.ensures.any_moment r n also
 
 pub returns-in-Create-clause-firm : goal.returns-in-Create-clause-firm
