@@ -1,5 +1,5 @@
 -- How the name of a new transaction is drawn, call by call.
-use Rattle.std.specs.Prelude.{◌<◌, ℕ, length, Result, Ok, Err}
+use Rattle.std.specs.Prelude.{◌<◌, ℕ, List, length, Result, Ok, Err}
 use Rattle.fsfs_base.specs.declared.grammar.base36.B36.{B36}
 use Rattle.fsfs_base.specs.declared.fields.txn_name.TxnName.{TxnName}
 use Rattle.fsfs_begin.specs.declared.name_fault.NameFault.{NameFault}

@@ -4,7 +4,7 @@ use fsfs_revision::Wrong;
 use thiserror::Error;
 
 /// Why no transaction was begun. No failure leaves the lock taken or stuck.
-#[derive(Clone, Copy, Debug, PartialEq, Eq, Error)]
+#[derive(Clone, Copy, Debug, Error)]
 pub enum BeginFault {
     /// The base is above the youngest revision.
     #[error("there is no revision {asked}; the youngest is {youngest}")]

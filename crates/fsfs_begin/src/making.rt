@@ -25,16 +25,13 @@ use fsfs_turn::Turns;
 use fsfs_txn_files::FolderFile;
 use fsfs_txn_nodes::id_fits;
 use std::alloc::Global;
-use thiserror::Error;
 
 /// Why there is no bench for a transaction.
-#[derive(Clone, Copy, Debug, PartialEq, Eq, Error)]
+#[derive(Clone, Copy)]
 pub enum BenchFault {
     /// The disk made none, and its count of faults rose.
-    #[error("the disk failed")]
     Disk,
     /// The bench that it made failed, and the disk's count of benches' faults rose.
-    #[error("the bench failed")]
     Bench,
 }
 
