@@ -1,13 +1,14 @@
 use Rattle.std.proofs.Common.{◌≡◌, ℕ, List, map, sym, ap, subst, inl, refl}
 use Rattle.std.specs.Prelude.{string_bytes, option_map, Some, OnOk}
 use Rattle.fsfs_create.specs.Creation.{IsUnpublished, HasRepository}
-use Rattle.fsfs_disk.specs.Crash.{AllImages, IsFirm, Leaves}
+use Rattle.fsfs_disk.specs.Crash.{AllImages, IsFirm}
 use Rattle.fsfs_disk.specs.Trace.{Trace, files_now, labels_now}
 use Rattle.fsfs_cli.specs.declared.request.Task.TheVariants.{Create, ListTxns, RemoveTxns, Look}
 use Rattle.fsfs_cli.specs.Readings.{Asks}
 use Rattle.fsfs_cli.proofs.TaskLemmas.{asks_task}
+use Rattle.fsfs_disk.proofs.CrashLemmas.{same_leaves}
 use Rattle.fsfs_top.specs.Command.{LeavesNoneOrCreated}
-use Rattle.fsfs_top.proofs.CreationTold.{same_files}
+use Rattle.fsfs_top.proofs.CreationTold.{same_files, some_drawn}
 use Rattle.fsfs_create.proofs.OpeningLemmas.{firm_same}
 use Rattle.fsfs_top.specs.Transactions.{LeavesRemoval}
 use Rattle.fsfs_top.proofs.TaskDone.{at_creation, at_removal, looks_alone, others_alone}
@@ -214,3 +215,8 @@ unreachable-requires g c =
     let words = map string_bytes c.args.words.now in
     let repos = c.in_ok-request.request.repos.now in
     c.requires (asks_task c.args.tool words repos _ (subst (Asks c.args.tool words repos) c.in-RunJobs.is c.in_ok-request.ensures)).0
+
+pub returns-in_err-request-clause-any_moment : goal.returns-in_err-request-clause-any_moment
+returns-in_err-request-clause-any_moment g c = λ repos shard asks all.
+    let disk = g.H.Host.disk_at c.args.host.now repos in
+    (some_drawn (g.C.Clock.next c.args.clock.now) (g.R.Dice.next c.args.dice.now), same_leaves disk disk _ refl)
