@@ -1,5 +1,5 @@
 -- Answers that tell of a failed call of the disk, and why.
-use Rattle.std.proofs.Common.{◌≡◌, ◌<◌, ℕ, List, [], ◌∷◌, ◌++◌, false, refl, sym, subst}
+use Rattle.std.proofs.Common.{◌≡◌, ◌<◌, ℕ, sym, subst}
 use Rattle.std.specs.Prelude.{Result, Ok, Err, IfErr}
 use Rattle.fsfs_revision.specs.declared.wrong.Wrong.{Wrong}
 use Rattle.fsfs_revision.specs.declared.wrong.Wrong.TheVariants as wrongs
@@ -18,9 +18,7 @@ use Rattle.fsfs_jobs.specs.declared.answer.JobAnswer.{JobAnswer}
 use Rattle.fsfs_jobs.specs.declared.answer.JobAnswer.TheVariants as answers
 use Rattle.fsfs_jobs.specs.JobEdits.Editing.{IfDisk as IfEditFails}
 use Rattle.fsfs_job_run.specs.TextReads.{IfAnswerFails, IfDiskFails}
-use Rattle.fsfs_job_run.specs.Serial.Jobs.{tells_doubt, TellNoDoubt}
 use Rattle.fsfs_job_run.specs.Faults.{fault_of_begin, fault_of_merge, answer_of_bar}
-use Rattle.fsfs_job_run.specs.Running.{IfAnyFails}
 
 -- ---- over more calls
 
@@ -42,22 +40,6 @@ fails_on P Q (answers.Committed rev) more failed = tt
 fails_on P Q (answers.Read text) more failed = tt
 fails_on P Q (answers.Conflict head path) more failed = tt
 fails_on P Q (answers.Stopped line fault) more failed = fault_on P Q fault more failed
-
-pub any_on : (P Q : Type 0) (told : List JobAnswer) → (P → Q) → IfAnyFails told P → IfAnyFails told Q
-any_on P Q [] more failed = tt
-any_on P Q (answer ∷ told) more failed = (fails_on P Q answer more failed.0, any_on P Q told more failed.1)
-
--- one answer more
-any_append : (P : Type 0) (told : List JobAnswer) (answer : JobAnswer) → IfAnyFails told P → IfAnswerFails answer P → IfAnyFails (told ++ answer ∷ []) P
-any_append P [] answer failed last = (last, tt)
-any_append P (first ∷ told) answer failed last = (failed.0, any_append P told answer failed.1 last)
-
-pub any_more : (P Q R : Type 0) (told more : List JobAnswer) (answer : JobAnswer) → more ≡ told ++ answer ∷ [] → (P → R) → (Q → R) → IfAnyFails told P → IfAnswerFails answer Q → IfAnyFails more R
-any_more P Q R told more answer are first then failed last = subst (λ (l : List JobAnswer). IfAnyFails l R) (sym are) (any_append R told answer (any_on P R told first failed) (fails_on Q R answer then last))
-
--- none yet
-pub any_none : (P : Type 0) (told : List JobAnswer) → told ≡ [] → IfAnyFails told P
-any_none P told none = subst (λ (l : List JobAnswer). IfAnyFails l P) (sym none) tt
 
 -- ---- of each kind
 
@@ -113,28 +95,3 @@ bar_fails P line (bars.Wrong wrong) = merge_fails P wrong
 bar_fails P line (bars.PastLimit limit) = tt
 bar_fails P line bars.Lacking = tt
 bar_fails P line bars.Memory = tt
-
--- ---- nothing is in doubt where no call failed
-
-calm_fault : (P : Type 0) (line : ℕ) (fault : Fault) → (P → ⊥) → IfDiskFails fault P → tells_doubt (answers.Stopped line fault) ≡ false
-calm_fault P line (Words why) none failed = refl
-calm_fault P line (Request why) none failed = refl
-calm_fault P line (Repository why) none failed = refl
-calm_fault P line (Outside outside.Mount) none failed = refl
-calm_fault P line (Outside (outside.Disk at)) none failed = absurd (none failed)
-calm_fault P line (Outside outside.Read) none failed = refl
-calm_fault P line (Outside outside.Write) none failed = refl
-calm_fault P line (Outside outside.Bench) none failed = refl
-calm_fault P line (Outside (outside.Stuck at)) none failed = refl
-calm_fault P line Memory none failed = refl
-calm_fault P line (Limit why) none failed = refl
-
-calm : (P : Type 0) (answer : JobAnswer) → (P → ⊥) → IfAnswerFails answer P → tells_doubt answer ≡ false
-calm P (answers.Committed rev) none failed = refl
-calm P (answers.Read text) none failed = refl
-calm P (answers.Conflict head path) none failed = refl
-calm P (answers.Stopped line fault) none failed = calm_fault P line fault none failed
-
-pub calm_all : (P : Type 0) (told : List JobAnswer) → IfAnyFails told P → (P → ⊥) → TellNoDoubt told
-calm_all P [] failed none = tt
-calm_all P (answer ∷ told) failed none = (calm P answer none failed.0, calm_all P told failed.1 none)

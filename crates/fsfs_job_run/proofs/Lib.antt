@@ -6,6 +6,7 @@ pub mod Finite
 pub mod Clashing
 pub mod ListedLemmas
 pub mod BenchCounts
+pub mod DiskCounts
 pub mod BesideLemmas
 pub mod Staying
 pub mod Ended
@@ -28,4 +29,5 @@ pub mod Answered
 pub mod Seen
 pub mod Listing
 pub mod BenchCauses
+pub mod Unopened
 pub mod RunLemmas

@@ -4,6 +4,7 @@ use Rattle.std.proofs.lemmas.List.{map-append, length-map}
 use Rattle.std.specs.Prelude.{Option, Some, None, IfSome, Result, Err}
 use Rattle.fsfs_base.specs.Failures.{Rose}
 use Rattle.fsfs_layout.specs.declared.layout.Layout.{Layout}
+use Rattle.fsfs_layout.specs.declared.opened.Opened.{Opened}
 use Rattle.fsfs_base.specs.declared.places.place.DiskPlace.{DiskPlace}
 use Rattle.fsfs_base.specs.declared.places.open_fault.OpenFault.{OpenFault}
 use Rattle.fsfs_base.specs.declared.places.open_fault.OpenFault.TheVariants.{NotRepo, OtherFormat, Linear, Small, DiskFault, Memory}
@@ -33,7 +34,9 @@ use Rattle.fsfs_job_run.specs.Serial.Jobs.{DoesJob, Fails, ByDisk, ByBench, BySt
 use Rattle.fsfs_job_run.proofs.SerialJobLemmas.{runs_serial, grow}
 use Rattle.fsfs_job_run.proofs.ListedLemmas.{failed_on}
 use Rattle.fsfs_job_run.specs.Running.{DoAll}
-use Rattle.fsfs_job_run.proofs.Causes.{any_on}
+use Rattle.fsfs_job_run.proofs.Unopened.{does_not_open}
+use Rattle.fsfs_job_run.specs.Openings.{OpensAs}
+use Rattle.fsfs_job_run.specs.Workers.Lines.{disk_faults_in, RoseBy}
 use Rattle.fsfs_job_run.specs.Histories.{EndsJob, EndJobs, DidScript}
 use Rattle.fsfs_job_run.specs.Runs.{AllStandFor, HoldsAll, IsPartOf, Ran, RanOver, RunScene, RunsScript, NotOpened, NotRead, NoRoom, Done}
 
@@ -134,24 +137,26 @@ opens_weaker told (Small fault) f because = because
 opens_weaker told (DiskFault at) f because = (f because.0, because.1)
 opens_weaker told Memory f because = tt
 
-pub runs_weaker : {D E : Type 0} (B C : ℕ → Type 0) (moment : ℕ) (a b : RunScene) (r : Result ℕ Fault) → (D → E) → ((n : ℕ) → B n → C n) → RunsScript moment D B a b r → RunsScript moment E C a b r
-runs_weaker B C moment a b _ f g (NotOpened why because untouched unread) = NotOpened why (opens_weaker a.trace why f because) untouched unread
-runs_weaker B C moment a b _ f g (NotRead error read rose untouched) = NotRead error read rose untouched
-runs_weaker B C moment a b _ f g (NoRoom js read untouched) = NoRoom js read untouched
-runs_weaker {D} {E} B C moment a b _ f g (Done js answers youngest result read ends each failed quiet benches listed ran printed) =
-    Done js answers youngest result read ends each (any_on D E answers f failed) (λ none. quiet (λ d. none (f d))) (g (bench_faults_in answers) benches) (failed_on f listed) ran printed
+pub runs_weaker : (B C : ℕ → Type 0) (moment before after old new : ℕ) (a b : RunScene) (r : Result ℕ Fault) → ((n : ℕ) → RoseBy n before after → RoseBy n old new) → ((n : ℕ) → B n → C n)
+    → RunsScript moment before after B a b r → RunsScript moment old new C a b r
+runs_weaker B C moment before after old new a b _ f g (NotOpened why because unopened untouched unread) = NotOpened why (opens_weaker a.trace why (f 1) because) unopened untouched unread
+runs_weaker B C moment before after old new a b _ f g (NotRead o error opens read rose untouched) = NotRead o error opens read rose untouched
+runs_weaker B C moment before after old new a b _ f g (NoRoom o js opens read untouched) = NoRoom o js opens read untouched
+runs_weaker B C moment before after old new a b _ f g (Done o js answers youngest result opens read ends each failed quiet benches listed ran printed) =
+    Done o js answers youngest result opens read ends each (f (disk_faults_in answers) failed) (λ none. quiet (λ rose. none (f 1 rose))) (g (bench_faults_in answers) benches) (failed_on (f 1) listed) ran printed
 
 -- ---- the ends of a run
 
-pub not_opened : {D : Type 0} {B : ℕ → Type 0} (moment : ℕ) (a b : RunScene) (why : OpenFault) (fault : Fault) → fault ≡ fault_from_open why → OpensBecause D a.trace why → FailsAt FirmNames a.trace b.trace → b.written ≡ a.written → b.write_faults ≡ a.write_faults
-    → b.remaining ≡ a.remaining → RunsScript moment D B a b (Err fault)
-not_opened {D} {B} moment a b why fault is because firm written faults unread =
-    subst (λ (f : Fault). RunsScript moment D B a b (Err f)) (sym is) (NotOpened why because (record { disk = firm; output = written; output_faults = faults }) unread)
+pub not_opened : {B : ℕ → Type 0} (moment before after : ℕ) (a b : RunScene) (why : OpenFault) (fault : Fault) → fault ≡ fault_from_open why → OpensBecause (Rose before after) a.trace why → FailsAt FirmNames a.trace b.trace → b.written ≡ a.written → b.write_faults ≡ a.write_faults
+    → b.remaining ≡ a.remaining → RunsScript moment before after B a b (Err fault)
+not_opened {B} moment before after a b why fault is because firm written faults unread =
+    subst (λ (f : Fault). RunsScript moment before after B a b (Err f)) (sym is)
+    (NotOpened why because (does_not_open (Rose before after) a.trace why because) (record { disk = firm; output = written; output_faults = faults }) unread)
 
-pub not_read : {D : Type 0} {B : ℕ → Type 0} (moment : ℕ) (a b : RunScene) (error : ScriptError) (fault : Fault) → fault ≡ fault_from_script error → ReadsScript a.remaining (Err error) → IfReadFault error (Rose a.read_faults b.read_faults)
-    → FailsAt FirmNames a.trace b.trace → b.written ≡ a.written → b.write_faults ≡ a.write_faults → RunsScript moment D B a b (Err fault)
-not_read {D} {B} moment a b error fault is read rose firm written faults =
-    subst (λ (f : Fault). RunsScript moment D B a b (Err f)) (sym is) (NotRead error read rose (record { disk = firm; output = written; output_faults = faults }))
+pub not_read : {B : ℕ → Type 0} (moment before after : ℕ) (a b : RunScene) (o : Opened) (error : ScriptError) (fault : Fault) → fault ≡ fault_from_script error → OpensAs a.trace o → ReadsScript a.remaining (Err error) → IfReadFault error (Rose a.read_faults b.read_faults)
+    → FailsAt FirmNames a.trace b.trace → b.written ≡ a.written → b.write_faults ≡ a.write_faults → RunsScript moment before after B a b (Err fault)
+not_read {B} moment before after a b o error fault is opens read rose firm written faults =
+    subst (λ (f : Fault). RunsScript moment before after B a b (Err f)) (sym is) (NotRead o error opens read rose (record { disk = firm; output = written; output_faults = faults }))
 
 -- over what the opening told
 pub ran_over : (knows : View → Type 0) (moment : ℕ) (js : List Job) (answers : List JobAnswer) (youngest : ℕ) (old new : Option Trace) → IfSome old (λ t. (h : List Revision) (stands : StandsFor (files_now t) h) → LeftoversAgree stands → HasSeenAll knows t stands.opened.min_unpacked_rev h)

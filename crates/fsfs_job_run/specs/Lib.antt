@@ -1,4 +1,5 @@
 pub mod TextReads
+pub mod Openings
 pub mod Serial
 pub mod Workers
 pub mod Faults

@@ -1,5 +1,5 @@
 -- What a job does over a repository that runs.
-use Rattle.std.specs.Prelude.{◌≡◌, ◌<◌, ◌++◌, ◌∷◌, ℕ, List, [], true, None, Some}
+use Rattle.std.specs.Prelude.{◌≡◌, ◌<◌, ◌++◌, ℕ, List, [], true, None, Some}
 use Rattle.fsfs_base.specs.declared.fields.txn_name.TxnName.{TxnName}
 use Rattle.fsfs_tree.specs.Revisions.{tree_of}
 use Rattle.fsfs_tree.specs.Dated.{last_of}
@@ -22,7 +22,6 @@ use Rattle.fsfs_jobs.specs.Serial.{base_of}
 use Rattle.fsfs_jobs.specs.declared.answer.JobAnswer.{JobAnswer}
 use Rattle.fsfs_jobs.specs.declared.answer.JobAnswer.TheVariants.{Stopped}
 use Rattle.fsfs_jobs.specs.JobEdits.Editing.{Bars}
-use Rattle.fsfs_job_run.specs.TextReads.{IfAnswerFails}
 use Rattle.fsfs_job_run.specs.Serial.Jobs.{RunsJob, RunJobs, StuckBehindDoubt}
 
 -- Why the outside is told to have failed: the count rose, or the lock is stuck there. The failures of benches are counted apart.
@@ -34,11 +33,6 @@ HasOutsideCause rose u (Stopped line (Outside outside.Write)) = ⊥
 HasOutsideCause rose u (Stopped line (Outside outside.Bench)) = Unit {0}
 HasOutsideCause rose u (Stopped line (Outside (outside.Stuck at))) = u.pass.stuck ≡ Some at
 HasOutsideCause rose u answer = Unit {0}
-
--- a fact, where one of the answers tells that the disk failed
-abbrev pub IfAnyFails : List JobAnswer → Type 0 → Type 0
-IfAnyFails [] P = Unit {0}
-IfAnyFails (answer ∷ answers) P = IfAnswerFails answer P × IfAnyFails answers P
 
 -- DOES: behind the job the pass knows what the job did
 abbrev pub DoesSo : (View → Type 0) → Type 0 → ℕ → Job → JobAnswer → View → Type 0

@@ -3,6 +3,7 @@ use Rattle.std.specs.Prelude.{◌≡◌, ◌⊎◌, ◌≤◌, ◌+◌, ◌++◌
 use Rattle.fsfs_base.specs.Failures.{Rose}
 use Rattle.fsfs_base.specs.Files.{Files}
 use Rattle.fsfs_layout.specs.declared.layout.Layout.{Layout}
+use Rattle.fsfs_layout.specs.declared.opened.Opened.{Opened}
 use Rattle.fsfs_tree.specs.Revisions.{Revision}
 use Rattle.fsfs_disk.specs.Labels.{Label}
 use Rattle.fsfs_disk.specs.Trace.{Trace, FirmNames, FailsAt, ImageSince, IsImage, files_now, labels_now}
@@ -27,7 +28,8 @@ use Rattle.fsfs_jobs.specs.Lines.{greatest_status, run_text}
 use Rattle.fsfs_jobs.specs.declared.answer.JobAnswer.{JobAnswer}
 use Rattle.fsfs_job_run.specs.Serial.Jobs.{StuckBehindDoubt, TellNoDoubt, bench_faults_in}
 use Rattle.fsfs_job_run.specs.Serial.Listed.{LeavesListed}
-use Rattle.fsfs_job_run.specs.Running.{IfAnyFails}
+use Rattle.fsfs_job_run.specs.Workers.Lines.{disk_faults_in, RoseBy}
+use Rattle.fsfs_job_run.specs.Openings.{OpensAs, DoesNotOpen}
 use Rattle.fsfs_job_run.specs.Histories.{DidScript}
 
 -- what a disk, the input and the output tell at one moment: the trace; what remains to be read; what was written; and how often the streams failed
@@ -95,17 +97,18 @@ abbrev pub PrintsRun : List JobAnswer → ℕ → Option (List ℕ) → Option (
 PrintsRun answers youngest old new before now (Ok status) = (status ≡ greatest_status answers) × Adds old new (run_text answers youngest)
 PrintsRun answers youngest old new before now (Err fault) = (fault ≡ Outside Write) × Rose before now × AddsFront old new (run_text answers youngest)
 
--- A RUN OF A SCRIPT, by its status or its fault. `disk` says that the count of the disk's faults rose, and `benches` that so many calls of benches
--- failed at least.
-pub data RunsScript (moment : ℕ) (disk : Type 0) (benches : ℕ → Type 0) (a b : RunScene) : Result ℕ Fault → Type 0 where
+-- A RUN OF A SCRIPT, by its status or its fault. The disk's count of faults went from `before` to `after`, and `benches` says that so many calls of
+-- benches failed at least. The repository is opened first; so what was read, and what was done, is told only where the small files open.
+pub data RunsScript (moment before after : ℕ) (benches : ℕ → Type 0) (a b : RunScene) : Result ℕ Fault → Type 0 where
   -- the repository is not opened, and nothing is read
-  NotOpened : (why : OpenFault) → OpensBecause disk a.trace why → IsUntouched a b → b.remaining ≡ a.remaining → RunsScript moment disk benches a b (Err (fault_from_open why))
-  -- what was read is no script
-  NotRead : (error : ScriptError) → ReadsScript a.remaining (Err error) → IfReadFault error (Rose a.read_faults b.read_faults) → IsUntouched a b → RunsScript moment disk benches a b (Err (fault_from_script error))
-  -- there is no memory for the answers
-  NoRoom : (js : List Job) → ReadsScript a.remaining (Ok js) → IsUntouched a b → RunsScript moment disk benches a b (Err Memory)
-  -- The input was read to its end, and its jobs were done. A line tells that the disk failed only where a call of it did; so where none did,
-  -- no line tells of a fault that leaves a revision in doubt. Nor does a job leave its transaction listed then, whatever its line tells. As many
-  -- calls of benches failed as lines tell of.
-  Done : (js : List Job) (answers : List JobAnswer) (youngest : ℕ) (result : Result ℕ Fault) → ReadsScript a.remaining (Ok js) → EndsSource a.remaining b.remaining → length answers ≡ length js → IfAnyFails answers disk → ((disk → ⊥) → TellNoDoubt answers) → benches (bench_faults_in answers)
-      → LeavesListed (length js) (labels_in a) (labels_in b) ⊎ disk → RanOver moment js answers youngest a.trace b.trace → PrintsRun answers youngest a.written b.written a.write_faults b.write_faults result → RunsScript moment disk benches a b result
+  NotOpened : (why : OpenFault) → OpensBecause (Rose before after) a.trace why → DoesNotOpen a.trace why → IsUntouched a b → b.remaining ≡ a.remaining → RunsScript moment before after benches a b (Err (fault_from_open why))
+  -- it was opened, and what was read is no script
+  NotRead : (o : Opened) (error : ScriptError) → OpensAs a.trace o → ReadsScript a.remaining (Err error) → IfReadFault error (Rose a.read_faults b.read_faults) → IsUntouched a b → RunsScript moment before after benches a b (Err (fault_from_script error))
+  -- it was opened, and there is no memory for the answers
+  NoRoom : (o : Opened) (js : List Job) → OpensAs a.trace o → ReadsScript a.remaining (Ok js) → IsUntouched a b → RunsScript moment before after benches a b (Err Memory)
+  -- It was opened, the input was read to its end, and its jobs were done. As many calls of the disk failed as lines tell of, and as many of benches;
+  -- so where no call of the disk did, no line tells of a fault that leaves a revision in doubt. Nor does a job leave its transaction listed then,
+  -- whatever its line tells.
+  Done : (o : Opened) (js : List Job) (answers : List JobAnswer) (youngest : ℕ) (result : Result ℕ Fault) → OpensAs a.trace o → ReadsScript a.remaining (Ok js) → EndsSource a.remaining b.remaining → length answers ≡ length js
+      → RoseBy (disk_faults_in answers) before after → ((Rose before after → ⊥) → TellNoDoubt answers) → benches (bench_faults_in answers) → LeavesListed (length js) (labels_in a) (labels_in b) ⊎ Rose before after
+      → RanOver moment js answers youngest a.trace b.trace → PrintsRun answers youngest a.written b.written a.write_faults b.write_faults result → RunsScript moment before after benches a b result

@@ -6,7 +6,8 @@ ghost use Rattle.fsfs_turn.specs.Views.{View};
 ghost use Rattle.fsfs_repo.specs.Owned.Crashes.{CrashesLeave};
 ghost use Rattle.fsfs_job_run.specs.Serial.Jobs.{bench_faults_in};
 ghost use Rattle.fsfs_job_run.specs.Serial.Listed.{LeavesListed};
-ghost use Rattle.fsfs_job_run.specs.Running.{DoAll, IfAnyFails};
+ghost use Rattle.fsfs_job_run.specs.Workers.Lines.{disk_faults_in};
+ghost use Rattle.fsfs_job_run.specs.Running.{DoAll};
 
 use crate::JobGate;
 use crate::job::do_job;
@@ -35,8 +36,8 @@ pub fn run_jobs<D: Disk, R, G: Gate>(
     ensures each { IfOk result.1 (λ answers. length answers.items ≡ length jobs.now) }
     ensures none { OnErr result.1 (result.0 ≡ repo) }
     ensures crashes { (u : View) → ⟦<Owned<D> as Turns<R>>⟧.knows result.0.turns u → CrashesLeave result.0.turns.layout (D.trace result.0.turns.disk) u }
-    // Whatever the disk tells: an answer tells that it failed only where the count of failed calls rose in this run.
-    ensures cause { IfOk result.1 (λ answers. IfAnyFails answers.items (Rose (⟦<Owned<D> as Turns<R>>⟧.faults repo.turns) (⟦<Owned<D> as Turns<R>>⟧.faults result.0.turns))) }
+    // Whatever the disk tells: as many calls of it failed in this run as answers tell of, or more.
+    ensures cause { IfOk result.1 (λ answers. RoseBy (disk_faults_in answers.items) (⟦<Owned<D> as Turns<R>>⟧.faults repo.turns) (⟦<Owned<D> as Turns<R>>⟧.faults result.0.turns)) }
     // No transaction that they began stays listed, and all others do, unless a call of the disk failed in this run.
     ensures listed { LeavesListed (length jobs.now) (⟦<Owned<D> as Turns<R>>⟧.labels repo.turns) (⟦<Owned<D> as Turns<R>>⟧.labels result.0.turns) ⊎ Rose (⟦<Owned<D> as Turns<R>>⟧.faults repo.turns) (⟦<Owned<D> as Turns<R>>⟧.faults result.0.turns) }
     ensures mounted { D.mount_path result.0.turns.disk ≡ D.mount_path repo.turns.disk }

@@ -8,7 +8,7 @@ ghost use Rattle.fsfs_turn.specs.Mountings.{RoseBy};
 ghost use Rattle.fsfs_turn.specs.Views.{View};
 ghost use Rattle.fsfs_job_run.specs.Serial.Jobs.{bench_faults_in};
 ghost use Rattle.fsfs_job_run.specs.Serial.Listed.{LeavesListed};
-ghost use Rattle.fsfs_job_run.specs.Running.{IfAnyFails};
+ghost use Rattle.fsfs_job_run.specs.Workers.Lines.{disk_faults_in};
 ghost use Rattle.fsfs_job_run.specs.Runs.{run_scene, PrintsRun, Ran, RunsScript};
 
 use crate::run_jobs;
@@ -46,7 +46,8 @@ fn do_jobs<D: Disk, G: Gate>(
     ensures none { OnErr result.1 (D.trace result.0 ≡ D.trace repo.turns.disk) }
     // No transaction of theirs stays listed, unless a call of the disk failed.
     ensures listed { LeavesListed (length jobs.now) (option_map labels_now (D.trace repo.turns.disk)) (option_map labels_now (D.trace result.0)) ⊎ Rose (D.faults repo.turns.disk) (D.faults result.0) }
-    ensures cause { IfOk result.1 (λ done. IfAnyFails done.answers.items (Rose (D.faults repo.turns.disk) (D.faults result.0))) }
+    // As many calls of the disk failed as answers tell of, and as many of benches.
+    ensures cause { IfOk result.1 (λ done. RoseBy (disk_faults_in done.answers.items) (D.faults repo.turns.disk) (D.faults result.0)) }
     ensures benches { IfOk result.1 (λ done. RoseBy (bench_faults_in done.answers.items) (D.bench_faults repo.turns.disk) (D.bench_faults result.0)) }
     ensures mounted { D.mount_path result.0 ≡ D.mount_path repo.turns.disk }
     ensures later { D.faults repo.turns.disk ≤ D.faults result.0 }
@@ -84,7 +85,7 @@ pub fn run_script<D: Disk, I: Source, O: Sink, G: Gate>(
     requires right { IsTrue (D.may_write disk) }
     requires moment { micros ≤ 4102444799999999 }
     // As many calls of benches failed as lines tell of: what was counted before is left out of that.
-    ensures ran { RunsScript micros (Rose (D.faults disk) (D.faults result.0)) (λ n. RoseBy n 0 (D.bench_faults result.0)) (run_scene (D.trace disk) (I.remaining input.old) (I.faults input.old) (O.written out.old) (O.faults out.old))
+    ensures ran { RunsScript micros (D.faults disk) (D.faults result.0) (λ n. RoseBy n 0 (D.bench_faults result.0)) (run_scene (D.trace disk) (I.remaining input.old) (I.faults input.old) (O.written out.old) (O.faults out.old))
         (run_scene (D.trace result.0) (I.remaining input.new) (I.faults input.new) (O.written out.new) (O.faults out.new)) result.1 }
     ensures mounted { D.mount_path result.0 ≡ D.mount_path disk }
     ensures later { D.faults disk ≤ D.faults result.0 }

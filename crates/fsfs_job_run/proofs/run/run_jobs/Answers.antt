@@ -1,11 +1,12 @@
 use Rattle.std.proofs.Common.{◌≡◌, ◌+◌, ap, ℕ, ◌∙◌, refl, inl, length, arith}
 use Rattle.fsfs_turn.specs.Alone.{KnowsAlone}
 use Rattle.fsfs_base.specs.Failures.{Rose}
-use Rattle.fsfs_job_run.proofs.Causes.{any_none, any_more}
 use Rattle.fsfs_job_run.proofs.Listing.{lists_within}
 use Rattle.fsfs_job_run.proofs.Going.{done_none, runs_more, runs_all}
 use Rattle.fsfs_job_run.specs.Serial.Jobs.{bench_faults_in}
+use Rattle.fsfs_job_run.specs.Workers.Lines.{disk_faults_in}
 use Rattle.fsfs_job_run.proofs.BenchCounts.{benches_more}
+use Rattle.fsfs_job_run.proofs.DiskCounts.{rose_more}
 use Rattle.fsfs_job_run.proofs.ListedLemmas.{none_begun, lists_on}
 use Rattle.fsfs_repo.proofs.Crashes.{survives}
 use Rattle.fsfs_job_run.proofs.run.run_jobs.Goals as goal
@@ -22,7 +23,7 @@ loop-job-init g c =
       benches = let none : bench_faults_in c.in-Ok.answers.items ≡ 0 = ap bench_faults_in c.in-Ok.ensures.items in omega (arith, none);
       later = omega arith;
       listed = inl (none_begun 0 _ _ refl);
-      cause = any_none _ c.in-Ok.answers.items c.in-Ok.ensures.items;
+      cause = let none : disk_faults_in c.in-Ok.answers.items ≡ 0 = ap disk_faults_in c.in-Ok.ensures.items in omega (arith, none);
     }
 
 pub loop-job-preserved : goal.loop-job-preserved
@@ -46,8 +47,11 @@ loop-job-preserved g c =
           omega (arith, more, are);
       later = omega (arith, inv.later, c.do_job-after.ensures.later);
       listed = lists_on (Rose (g.D.Disk.faults start.disk) (g.D.Disk.faults before.disk)) (Rose (g.D.Disk.faults before.disk) (g.D.Disk.faults after.disk)) (Rose (g.D.Disk.faults start.disk) (g.D.Disk.faults after.disk)) c.loop-job.job-index 1 _ _ _ (λ r. omega (arith, r, c.do_job-after.ensures.later)) (λ r. omega (arith, r, inv.later)) inv.listed c.do_job-after.ensures.listed;
-      cause = any_more (Rose (g.D.Disk.faults start.disk) (g.D.Disk.faults before.disk)) (Rose (g.D.Disk.faults before.disk) (g.D.Disk.faults after.disk)) (Rose (g.D.Disk.faults start.disk) (g.D.Disk.faults after.disk))
-          c.loop-job.answers.items c.push_reserved.new.self.items c.do_job-after.result.1 c.push_reserved.ensures.items (λ r. omega (arith, r, c.do_job-after.ensures.later)) (λ r. omega (arith, r, inv.later)) inv.cause c.do_job-after.ensures.cause;
+      cause =
+          let count = g.D.Disk.faults in
+          let more = rose_more c.loop-job.answers.items c.do_job-after.result.1 (count start.disk) (count before.disk) (count after.disk) inv.cause c.do_job-after.ensures.later c.do_job-after.ensures.cause in
+          let are = ap disk_faults_in c.push_reserved.ensures.items in
+          omega (arith, more, are);
     }
 
 pub returns-clause-does : goal.returns-clause-does

@@ -8,7 +8,8 @@ use Rattle.std.specs.Vec.{vec_capacity}
 use Rattle.fsfs_turn.specs.Alone.{KnowsAlone}
 use Rattle.fsfs_turn.specs.Views.{View}
 use Rattle.fsfs_base.specs.Failures.{Rose}
-use Rattle.fsfs_job_run.specs.Running.{DoAll, IfAnyFails}
+use Rattle.fsfs_job_run.specs.Workers.Lines.{disk_faults_in}
+use Rattle.fsfs_job_run.specs.Running.{DoAll}
 use Rattle.fsfs_job_run.proofs.run.run_jobs.Given as goal
 
 -- so many jobs were done
@@ -24,5 +25,5 @@ invariant-loop-job g l = record {
   later : g.D.Disk.faults l.fn.repo.turns.disk ≤ g.D.Disk.faults l.repo.turns.disk;
   listed : LeavesListed l.job-index (option_map labels_now (g.D.Disk.trace l.fn.repo.turns.disk)) (option_map labels_now (g.D.Disk.trace l.repo.turns.disk))
       ⊎ Rose (g.D.Disk.faults l.fn.repo.turns.disk) (g.D.Disk.faults l.repo.turns.disk);
-  cause : IfAnyFails l.answers.items (Rose (g.D.Disk.faults l.fn.repo.turns.disk) (g.D.Disk.faults l.repo.turns.disk));
+  cause : RoseBy (disk_faults_in l.answers.items) (g.D.Disk.faults l.fn.repo.turns.disk) (g.D.Disk.faults l.repo.turns.disk);
 }

@@ -5,7 +5,6 @@ use Rattle.fsfs_turn.specs.Telling.{state_of}
 use Rattle.fsfs_turn.specs.OwnedLemmas.{known_still}
 use Rattle.fsfs_base.specs.Failures.{Rose}
 use Rattle.fsfs_base.proofs.ResultLemmas.{if_ok}
-use Rattle.fsfs_job_run.proofs.Causes.{any_on}
 use Rattle.fsfs_job_run.proofs.Listing.{lists_then}
 use Rattle.fsfs_job_run.proofs.RunLemmas.{ran_in}
 use Rattle.fsfs_job_run.proofs.running.do_jobs.Goals as goal
@@ -27,11 +26,9 @@ returns-in-Ok-clause-does g c = λ v known none opened few.
 pub returns-in-Ok-clause-cause : goal.returns-in-Ok-clause-cause
 returns-in-Ok-clause-cause g c =
     let count = g.D.Disk.faults in
-    let start = count c.args.repo.turns.disk in
-    let mid = count c.run_jobs-repo.result.0.turns.disk in
-    let now = count c.close-disk.result in
-    let back : now ≡ count c.youngest-youngest.new.self.turns.disk = ap count c.close-disk.ensures in
-    any_on (Rose start mid) (Rose start now) c.in-Ok.answers.items (λ r. omega (arith, r, c.youngest-youngest.ensures.faults, back)) (if_ok c.run_jobs-repo.result.1 c.in-Ok.answers _ c.in-Ok.is c.run_jobs-repo.ensures.cause)
+    let back : count c.close-disk.result ≡ count c.youngest-youngest.new.self.turns.disk = ap count c.close-disk.ensures in
+    let rose = if_ok c.run_jobs-repo.result.1 c.in-Ok.answers _ c.in-Ok.is c.run_jobs-repo.ensures.cause in
+    omega (arith, rose, c.youngest-youngest.ensures.faults, back)
 
 pub returns-in-Ok-clause-benches : goal.returns-in-Ok-clause-benches
 returns-in-Ok-clause-benches g c =
