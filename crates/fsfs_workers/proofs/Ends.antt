@@ -5,6 +5,7 @@ use Rattle.fsfs_base.specs.Failures.{Rose}
 use Rattle.fsfs_base.specs.declared.small_fault.SmallFile.TheVariants.{Current}
 use Rattle.fsfs_disk.specs.Trace.{Trace, FirmNames, FailsAt}
 use Rattle.fsfs_base.specs.declared.places.open_fault.OpenFault.{OpenFault}
+use Rattle.fsfs_layout.specs.declared.opened.Opened.{Opened}
 use Rattle.fsfs_repo.specs.OpenFaults.{OpensBecause}
 use Rattle.fsfs_script.specs.declared.job_lines.job.Job.{Job}
 use Rattle.fsfs_script.specs.Errors.{IfReadFault}
@@ -16,6 +17,8 @@ use Rattle.fsfs_cli.specs.declared.faults.fault.Fault.TheVariants.{Repository, M
 use Rattle.fsfs_cli.specs.declared.faults.repository_fault.RepositoryFault.TheVariants.{Small}
 use Rattle.fsfs_job_run.specs.Workers.Lines.{disk_faults_in, RoseBy}
 use Rattle.fsfs_job_run.specs.Serial.Jobs.{bench_faults_in}
+use Rattle.fsfs_job_run.specs.Openings.{OpensAs}
+use Rattle.fsfs_job_run.proofs.Unopened.{does_not_open}
 use Rattle.fsfs_job_run.specs.Runs.{RunScene, run_scene, PrintsRun}
 use Rattle.fsfs_job_run.specs.declared.running.JobsDone.{JobsDone}
 use Rattle.fsfs_workers.specs.ByWorkers.{RanBesideOver, RunsBeside, NotOpened, NotRead, NoRoom, Done, Lost, RunsByWorkers}
@@ -29,19 +32,19 @@ module _ (moment before after : ℕ) (benches : ℕ → Type 0) (told left : Opt
   pub unopened : (why : OpenFault) (fault : Fault) → fault ≡ fault_from_open why → OpensBecause (Rose before after) told why → FailsAt FirmNames told left → Works moment 2 true before after benches told left remaining remaining faults faults (Err fault)
   unopened why fault is because firm = λ old new count now.
       subst (λ (f : Fault). RunsByWorkers moment 2 true before after benches (run_scene told remaining faults old count) (run_scene left remaining faults old count) (Err f)) (sym is)
-      (NotOpened why because (record { disk = firm; output = refl; output_faults = refl }) refl)
+      (NotOpened why because (does_not_open (Rose before after) told why because) (record { disk = firm; output = refl; output_faults = refl }) refl)
 
-  pub unread : (error : ScriptError) (fault : Fault) → fault ≡ fault_from_script error → ReadsScript remaining (Err error) → IfReadFault error (Rose faults more) → FailsAt FirmNames told left → Works moment 2 true before after benches told left remaining rest faults more (Err fault)
-  unread error fault is read rose firm = λ old new count now.
+  pub unread : (o : Opened) (error : ScriptError) (fault : Fault) → fault ≡ fault_from_script error → OpensAs told o → ReadsScript remaining (Err error) → IfReadFault error (Rose faults more) → FailsAt FirmNames told left → Works moment 2 true before after benches told left remaining rest faults more (Err fault)
+  unread o error fault is opens read rose firm = λ old new count now.
       subst (λ (f : Fault). RunsByWorkers moment 2 true before after benches (run_scene told remaining faults old count) (run_scene left rest more old count) (Err f)) (sym is)
-      (NotRead error read rose (record { disk = firm; output = refl; output_faults = refl }))
+      (NotRead o error opens read rose (record { disk = firm; output = refl; output_faults = refl }))
 
-  pub unroomed : (js : List Job) → ReadsScript remaining (Ok js) → FailsAt FirmNames told left → Works moment 2 true before after benches told left remaining rest faults more (Err Memory)
-  unroomed js read firm = λ old new count now. NoRoom js read (record { disk = firm; output = refl; output_faults = refl })
+  pub unroomed : (o : Opened) (js : List Job) → OpensAs told o → ReadsScript remaining (Ok js) → FailsAt FirmNames told left → Works moment 2 true before after benches told left remaining rest faults more (Err Memory)
+  unroomed o js opens read firm = λ old new count now. NoRoom o js opens read (record { disk = firm; output = refl; output_faults = refl })
 
-  pub worked : (js : List Job) (done : JobsDone) → ReadsScript remaining (Ok js) → EndsSource remaining rest → length done.answers.items ≡ length js → RoseBy (disk_faults_in done.answers.items) before after → benches (bench_faults_in done.answers.items)
+  pub worked : (o : Opened) (js : List Job) (done : JobsDone) → OpensAs told o → ReadsScript remaining (Ok js) → EndsSource remaining rest → length done.answers.items ≡ length js → RoseBy (disk_faults_in done.answers.items) before after → benches (bench_faults_in done.answers.items)
       → RanBesideOver moment 2 js done.answers.items done.youngest told left → Works moment 2 true before after benches told left remaining rest faults more (Ok done)
-  worked js done read ends each rose failed over = λ old new count now ended printed. Done js done.answers.items done.youngest ended read ends each rose failed over printed
+  worked o js done opens read ends each rose failed over = λ old new count now ended printed. Done o js done.answers.items done.youngest ended opens read ends each rose failed over printed
 
   pub lost : Works moment 2 false before after benches told left remaining rest faults more (Err (Repository (Small (record { file = Current; at = 0 }))))
   lost = λ old new count now. Lost refl refl refl
@@ -49,10 +52,10 @@ module _ (moment before after : ℕ) (benches : ℕ → Type 0) (told left : Opt
 -- ---- where the files aren't known
 
 forget : (moment before after : ℕ) (benches : ℕ → Type 0) (a b : RunScene) (ended : Result ℕ Fault) → RunsBeside moment 2 true before after benches a b ended → RunsBeside moment 2 false before after benches a b ended
-forget moment before after benches a b _ (NotOpened why because untouched unread) = NotOpened why because untouched unread
-forget moment before after benches a b _ (NotRead error read rose untouched) = NotRead error read rose untouched
-forget moment before after benches a b _ (NoRoom js read untouched) = NoRoom js read untouched
-forget moment before after benches a b _ (Done js answers youngest ended read ends each rose failed over printed) = Done js answers youngest ended read ends each rose failed over printed
+forget moment before after benches a b _ (NotOpened why because unopened untouched unread) = NotOpened why because unopened untouched unread
+forget moment before after benches a b _ (NotRead o error opens read rose untouched) = NotRead o error opens read rose untouched
+forget moment before after benches a b _ (NoRoom o js opens read untouched) = NoRoom o js opens read untouched
+forget moment before after benches a b _ (Done o js answers youngest ended opens read ends each rose failed over printed) = Done o js answers youngest ended opens read ends each rose failed over printed
 forget moment before after benches a b _ (Lost unknown written failed) = absurd cc
 
 pub unknown : (moment before after : ℕ) (benches : ℕ → Type 0) (told left : Option Trace) (remaining rest : Option (List ℕ)) (faults more : ℕ) (done : Result JobsDone Fault) → Works moment 2 true before after benches None None remaining rest faults more done

@@ -23,4 +23,5 @@ pub mod Ran
 mod Begun
 mod Ends
 pub use Rattle.fsfs_job_run.proofs.ListedLemmas
+pub use Rattle.fsfs_job_run.proofs.Unopened
 pub use Rattle.fsfs_job_run.proofs.RunLemmas

@@ -4,6 +4,7 @@ use Rattle.fsfs_base.specs.Failures.{Rose}
 use Rattle.fsfs_base.specs.declared.small_fault.SmallFile.TheVariants.{Current}
 use Rattle.fsfs_tree.specs.Revisions.{Revision}
 use Rattle.fsfs_disk.specs.Trace.{Trace, files_now}
+use Rattle.fsfs_layout.specs.declared.opened.Opened.{Opened}
 use Rattle.fsfs_stands.specs.Files.{StandsFor}
 use Rattle.fsfs_repo.specs.OpenFaults.{OpensBecause}
 use Rattle.fsfs_base.specs.declared.places.open_fault.OpenFault.{OpenFault}
@@ -18,6 +19,7 @@ use Rattle.fsfs_cli.specs.declared.faults.repository_fault.RepositoryFault.TheVa
 use Rattle.fsfs_jobs.specs.declared.answer.JobAnswer.{JobAnswer}
 use Rattle.fsfs_job_run.specs.Serial.Jobs.{TellNoDoubt, bench_faults_in}
 use Rattle.fsfs_job_run.specs.Workers.Lines.{JobLines, StuckByDoubt, disk_faults_in, RoseBy}
+use Rattle.fsfs_job_run.specs.Openings.{OpensAs, DoesNotOpen}
 use Rattle.fsfs_job_run.specs.Runs.{RunScene, HoldsAll, AllStandFor, IsUntouched, PrintsRun}
 
 -- what is told of the disk: nothing where its files aren't known to stand for a history
@@ -42,17 +44,17 @@ abbrev pub RanBesideOver : ℕ → ℕ → List Job → List JobAnswer → ℕ �
 RanBesideOver moment workers js answers youngest old new =
     IfSome old (λ t. (h : List Revision) × StandsFor (files_now t) h × RanBeside moment (length t.operations + 1) workers js answers youngest h new)
 
--- A run by its status or its fault, over what is told of the disk: as of one worker, but for what is told of the jobs.
+-- A run by its status or its fault, over what is told of the disk: as of one worker, but for what is told of the jobs. The repository is opened first.
 pub data RunsBeside (moment workers : ℕ) (known : Bool) (before after : ℕ) (benches : ℕ → Type 0) (a b : RunScene) : Result ℕ Fault → Type 0 where
   -- the repository is not opened, and nothing is read
-  NotOpened : (why : OpenFault) → OpensBecause (Rose before after) a.trace why → IsUntouched a b → b.remaining ≡ a.remaining → RunsBeside moment workers known before after benches a b (Err (fault_from_open why))
-  -- what was read is no script
-  NotRead : (error : ScriptError) → ReadsScript a.remaining (Err error) → IfReadFault error (Rose a.read_faults b.read_faults) → IsUntouched a b → RunsBeside moment workers known before after benches a b (Err (fault_from_script error))
-  -- there is no memory for the answers
-  NoRoom : (js : List Job) → ReadsScript a.remaining (Ok js) → IsUntouched a b → RunsBeside moment workers known before after benches a b (Err Memory)
-  -- The input was read to its end, and its jobs were done; all workers had ended before the first line was printed. As many calls of the disk
-  -- failed as lines tell of, and as many of benches.
-  Done : (js : List Job) (answers : List JobAnswer) (youngest : ℕ) (result : Result ℕ Fault) → ReadsScript a.remaining (Ok js) → EndsSource a.remaining b.remaining → length answers ≡ length js
+  NotOpened : (why : OpenFault) → OpensBecause (Rose before after) a.trace why → DoesNotOpen a.trace why → IsUntouched a b → b.remaining ≡ a.remaining → RunsBeside moment workers known before after benches a b (Err (fault_from_open why))
+  -- it was opened, and what was read is no script
+  NotRead : (o : Opened) (error : ScriptError) → OpensAs a.trace o → ReadsScript a.remaining (Err error) → IfReadFault error (Rose a.read_faults b.read_faults) → IsUntouched a b → RunsBeside moment workers known before after benches a b (Err (fault_from_script error))
+  -- it was opened, and there is no memory for the answers
+  NoRoom : (o : Opened) (js : List Job) → OpensAs a.trace o → ReadsScript a.remaining (Ok js) → IsUntouched a b → RunsBeside moment workers known before after benches a b (Err Memory)
+  -- It was opened, the input was read to its end, and its jobs were done; all workers had ended before the first line was printed. As many calls
+  -- of the disk failed as lines tell of, and as many of benches.
+  Done : (o : Opened) (js : List Job) (answers : List JobAnswer) (youngest : ℕ) (result : Result ℕ Fault) → OpensAs a.trace o → ReadsScript a.remaining (Ok js) → EndsSource a.remaining b.remaining → length answers ≡ length js
       → RoseBy (disk_faults_in answers) before after → benches (bench_faults_in answers) → RanBesideOver moment workers js answers youngest a.trace b.trace → PrintsRun answers youngest a.written b.written a.write_faults b.write_faults result
       → RunsBeside moment workers known before after benches a b result
   -- A file was gone as it was to get its name, and no line is printed. It is so only where the files weren't known.

@@ -7,4 +7,5 @@ pub mod ByWorkers
 pub mod Works
 pub use Rattle.fsfs_job_run.specs.Workers.Lines
 pub use Rattle.fsfs_job_run.specs.Serial.Listed
+pub use Rattle.fsfs_job_run.specs.Openings
 pub use Rattle.fsfs_job_run.specs.Runs

@@ -9,7 +9,7 @@ use Rattle.fsfs_job_run.specs.Workers.Passes.{WorkedSo}
 use Rattle.fsfs_workers.specs.InTurn.{turn_after}
 use Rattle.fsfs_job_run.specs.Serial.Jobs.{bench_faults_in}
 use Rattle.fsfs_job_run.proofs.BenchCounts.{benches_more}
-use Rattle.fsfs_workers.proofs.Counting.{rose_more}
+use Rattle.fsfs_job_run.proofs.DiskCounts.{rose_more}
 use Rattle.fsfs_workers.proofs.Sharing.{none_worked, share_others, turn_is_mine, turn_is_others, each_mine, worked_mine}
 use Rattle.fsfs_workers.proofs.share.do_share.Goals as goal
 use Rattle.fsfs_workers.proofs.share.do_share.Goals.{then-has_next, else-has_next}
