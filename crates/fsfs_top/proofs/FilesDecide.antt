@@ -11,19 +11,24 @@ use Rattle.fsfs_cli.specs.declared.faults.fault.Fault.{Fault}
 use Rattle.fsfs_cli.specs.declared.faults.fault.Fault.TheVariants.{Request, Memory}
 use Rattle.fsfs_cli.specs.declared.faults.request_fault.RequestFault.TheVariants.{NoRev}
 use Rattle.fsfs_layout.specs.declared.layout.Layout.{Layout}
+use Rattle.fsfs_layout.specs.declared.small_files.format_file.Format.TheVariants.{Linear, Sharded, Other}
 use Rattle.fsfs_layout.proofs.OpeningLemmas.{one_youngest, one_layout}
 use Rattle.fsfs_look.specs.declared.look_error.LookError.TheVariants as errors
 use Rattle.fsfs_look.specs.declared.look_error.LookError.{LookError}
 use Rattle.fsfs_look.specs.Written.{Writes}
 use Rattle.fsfs_layout.specs.Opening.{small_texts, IsOpened}
+use Rattle.fsfs_create.specs.OpenFaults.{OpensBecause}
 use Rattle.fsfs_create.specs.Deciding.{Decides, IsOutside as IsOpenOutside}
+use Rattle.fsfs_create.proofs.DecidingLemmas.{decides_linear, decides_other, decides_refused, decides_unread, is_some}
 use Rattle.fsfs_layout.specs.declared.opened.Opened.{Opened}
 use Rattle.fsfs_base.specs.declared.places.open_fault.OpenFault.{OpenFault}
 use Rattle.fsfs_base.specs.declared.places.open_fault.OpenFault.TheVariants as opening
 use Rattle.fsfs_stands.specs.Texts.{End, Whole, Refused}
 use Rattle.fsfs_stands.specs.declared.look_fault.LookFault.{LookFault}
 use Rattle.fsfs_stands.specs.declared.look_fault.LookFault.TheVariants as refusal
-use Rattle.fsfs_top.specs.Looks.{AllBytes, all_bytes, TextOf, TextIn, revision_line, uuid_line, looked_revision, LacksRevision, IsFaultOf, PrintsLine, LooksInto, DoesNotOpen, IsOutside, Agrees, DecidesRevision, DecidesOpened, DecidesOpening, LookIsDecided}
+use Rattle.fsfs_top.specs.Looks.{AllBytes, all_bytes, TextOf, TextIn, revision_line, uuid_line, looked_revision, LacksRevision, IsFaultOf, PrintsLine, LooksInto, IsOutside, Agrees, DecidesRevision, DecidesOpened, DecidesOpening, LookIsDecided}
+use Rattle.fsfs_workers.specs.Openings.{OpensAs, DoesNotOpen}
+use Rattle.fsfs_workers.proofs.Unopened.{formatted, one_format, refused_behind}
 use Rattle.fsfs_top.specs.Transactions.{OpeningIsDecided}
 use Rattle.fsfs_top.specs.Scenes.{SinkScene}
 use Rattle.fsfs_cli.specs.Requests.{printed_path}
@@ -95,6 +100,44 @@ opening_done told at o fault same d = subst (λ x. OpeningIsDecided x fault) sam
   so : (x : Option Trace) → IfSome x (λ t. Decides (small_texts (files_now t)) (Ok o)) → OpeningIsDecided x fault
   so None h = tt
   so (Some t) h = record { none = λ w. absurd (h.none w); other = λ n w. absurd (h.other n w); linear = λ w. absurd (h.linear w); opened = λ p w. tt }
+
+-- the cause of a refusal decides that it comes
+because_decides : (rose : Type 0) (t : Trace) (why : OpenFault) → OpensBecause rose (Some t) why → Decides (small_texts (files_now t)) (Err why)
+because_decides rose t opening.NotRepo none =
+    let s = small_texts (files_now t) in
+    record {
+      opened = λ o w. absurd (is_some s w.format.0 w.format.1 none);
+      none = λ w. inl refl;
+      other = λ n w. absurd (is_some s w.0 w.1 none);
+      linear = λ w. absurd (is_some s w.0 w.1 none);
+    }
+because_decides rose t (opening.OtherFormat n) (text, there, is) = decides_other (small_texts (files_now t)) text n (record { is = there; only = λ g w. one_format text (Other n) g is w })
+because_decides rose t opening.Linear (text, there, is) = decides_linear (small_texts (files_now t)) text (record { is = there; only = λ g w. one_format text Linear g is w })
+because_decides rose t (opening.Small fault) (text, there, inl none) = decides_unread (small_texts (files_now t)) text fault (record { is = there; only = none.0 })
+because_decides rose t (opening.Small fault) (text, there, inr (layout, is, behind)) =
+    let s = small_texts (files_now t) in
+    decides_refused s text layout fault (record { is = there; only = λ g w. one_format text (Sharded layout.shard_size) g is w }) (λ o same opens. refused_behind s o layout fault (sym same) opens behind)
+because_decides rose t (opening.DiskFault place) failed = record { opened = λ o w. tt; none = λ w. inr tt; other = λ n w. inr tt; linear = λ w. inr tt }
+because_decides rose t opening.Memory free = record { opened = λ o w. tt; none = λ w. inr tt; other = λ n w. inr tt; linear = λ w. inr tt }
+
+pub opening_because : (rose : Type 0) (told : Option Trace) (why : OpenFault) → OpensBecause rose told why → OpeningIsDecided told (Some (fault_from_open why))
+opening_because rose told why because = opening_refusal told told why (fault_from_open why) refl refl (so told because) where
+  so : (x : Option Trace) → OpensBecause rose x why → IfSome x (λ t. Decides (small_texts (files_now t)) (Err why))
+  so None b = tt
+  so (Some t) b = because_decides rose t why b
+
+-- files that open are refused for nothing
+pub opening_as : (told : Option Trace) (o : Opened) (fault : Option Fault) → OpensAs told o → OpeningIsDecided told fault
+opening_as None o fault opens = tt
+opening_as (Some t) o fault opens =
+    let s = small_texts (files_now t) in
+    let shards = Sharded o.layout.shard_size in
+    record {
+      none = λ w. absurd (is_some s opens.format.0 opens.format.1 w);
+      other = λ n w. absurd (let e = one_format w.0 shards (Other n) (formatted s o w.0 opens w.1) w.2 in cc);
+      linear = λ w. absurd (let e = one_format w.0 shards Linear (formatted s o w.0 opens w.1) w.2 in cc);
+      opened = λ p w. tt;
+    }
 
 -- ---- a revision that was looked at
 

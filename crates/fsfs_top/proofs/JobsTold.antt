@@ -27,23 +27,23 @@ lists_no_other most (Some s) (Some t) lists = none_is_left most (Some (labels_no
 lists_same : (old new : Option Trace) → HasSameLabels old new → ListsNoOther old new
 lists_same old new same = lists_no_other 0 old new (none_begun 0 (option_map labels_now old) (option_map labels_now new) same)
 
-script_lists : (moment : ℕ) (disk : Type 0) (benches : ℕ → Type 0) (a b : RunScene) (ended : Result ℕ Fault) → RunsScript moment disk benches a b ended → ListsNoOther a.trace b.trace ⊎ disk
-script_lists moment disk benches a b _ (NotOpened why because untouched unread) = inl (lists_same a.trace b.trace (labels_firm a.trace b.trace untouched.disk))
-script_lists moment disk benches a b _ (NotRead error read rose untouched) = inl (lists_same a.trace b.trace (labels_firm a.trace b.trace untouched.disk))
-script_lists moment disk benches a b _ (NoRoom js read untouched) = inl (lists_same a.trace b.trace (labels_firm a.trace b.trace untouched.disk))
-script_lists moment disk benches a b _ (Done js answers youngest result read ends each failed quiet rose listed ran printed) = ⊎_elim (λ lists. inl (lists_no_other _ a.trace b.trace lists)) (λ more. inr more) listed
+script_lists : (moment before after : ℕ) (benches : ℕ → Type 0) (a b : RunScene) (ended : Result ℕ Fault) → RunsScript moment before after benches a b ended → ListsNoOther a.trace b.trace ⊎ Rose before after
+script_lists moment before after benches a b _ (NotOpened why because unopened untouched unread) = inl (lists_same a.trace b.trace (labels_firm a.trace b.trace untouched.disk))
+script_lists moment before after benches a b _ (NotRead o error opens read rose untouched) = inl (lists_same a.trace b.trace (labels_firm a.trace b.trace untouched.disk))
+script_lists moment before after benches a b _ (NoRoom o js opens read untouched) = inl (lists_same a.trace b.trace (labels_firm a.trace b.trace untouched.disk))
+script_lists moment before after benches a b _ (Done o js answers youngest result opens read ends each failed quiet rose listed ran printed) = ⊎_elim (λ lists. inl (lists_no_other _ a.trace b.trace lists)) (λ more. inr more) listed
 
 -- ---- of the disk of each path
 
 run_lists : (repos : List ℕ) (workers : ℕ) (known : Bool) (clock : Option ℕ) (a : Scene) (i : SourceScene) (b : Scene) (j : SourceScene) (ended : Result ℕ Fault) → workers ≡ 1 → RunsAt repos workers known clock a i b j ended
     → ListsNoOther (a.host.disk_at repos) (b.host.disk_at repos) ⊎ Rose a.host.disk_faults b.host.disk_faults
 run_lists repos workers known clock a i b j ended one (inl unmounted) = inl (lists_same (a.host.disk_at repos) (b.host.disk_at repos) (ap (option_map labels_now) unmounted.2))
-run_lists repos workers known clock a i b j ended one (inr (moment, tells, inl ran)) = script_lists moment (Rose a.host.disk_faults b.host.disk_faults) (λ n. RoseBy n a.host.bench_faults b.host.bench_faults) (run_scene repos a i) (run_scene repos b j) ended ran.1
+run_lists repos workers known clock a i b j ended one (inr (moment, tells, inl ran)) = script_lists moment a.host.disk_faults b.host.disk_faults (λ n. RoseBy n a.host.bench_faults b.host.bench_faults) (run_scene repos a i) (run_scene repos b j) ended ran.1
 run_lists repos workers known clock a i b j ended one (inr (moment, tells, inr ran)) = absurd (omega (arith, one, ran.0))
 
 pub jobs_list : (words : List (List ℕ)) (known : Bool) (clock : Option ℕ) (a : Scene) (i : SourceScene) (b : Scene) (j : SourceScene) (ended : Result ℕ Fault) → DidJobs words known clock a i b j ended
     → ((repos : List ℕ) (workers : ℕ) → Asks Jobs words repos (RunJobs workers) → workers ≡ 1) → (path : List ℕ) → ListsNoOther (a.host.disk_at path) (b.host.disk_at path) ⊎ Rose a.host.disk_faults b.host.disk_faults
-jobs_list words known clock a i b j ended (inl (repos, workers, asks, ran, others)) one path = ⊎_elim here (λ apart. inl (lists_same (a.host.disk_at path) (b.host.disk_at path) (ap (option_map labels_now) (others path apart)))) (path_cases path repos)
+jobs_list words known clock a i b j ended (inl (repos, workers, asks, ran, decided, others)) one path = ⊎_elim here (λ apart. inl (lists_same (a.host.disk_at path) (b.host.disk_at path) (ap (option_map labels_now) (others path apart)))) (path_cases path repos)
   where
     here : path ≡ repos → ListsNoOther (a.host.disk_at path) (b.host.disk_at path) ⊎ Rose a.host.disk_faults b.host.disk_faults
     here is =

@@ -9,4 +9,5 @@ pub mod FlatTexts
 pub mod CommandReplies
 pub mod Making
 pub mod JobsTold
+pub mod JobsDecided
 pub mod WorkersTold

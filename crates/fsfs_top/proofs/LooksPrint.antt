@@ -23,7 +23,8 @@ use Rattle.fsfs_cli.specs.Requests.{printed_path}
 use Rattle.fsfs_cli.specs.declared.request.Look.{Look}
 use Rattle.fsfs_cli.specs.declared.request.Look.TheVariants.{Youngest, Uuid, AtRevision}
 use Rattle.fsfs_cli.specs.declared.request.RevisionLook.{RevisionLook}
-use Rattle.fsfs_top.specs.Looks.{AllBytes, all_bytes, KnowsAll, TextOf, TextIn, looked_revision, IsFaultAt, IsFaultOf, LooksInto, OpensAs, DoesNotOpen, NotOpened, PrintsLook}
+use Rattle.fsfs_top.specs.Looks.{AllBytes, all_bytes, KnowsAll, TextOf, TextIn, looked_revision, IsFaultAt, IsFaultOf, LooksInto, NotOpened, PrintsLook}
+use Rattle.fsfs_workers.specs.Openings.{OpensAs, DoesNotOpen}
 use Rattle.fsfs_top.specs.Scenes.{Scene, SinkScene}
 use Rattle.fsfs_revision.proofs.FloorLemmas.{floor_is}
 use Rattle.fsfs_top.proofs.FilesDecide.{does_not_open}

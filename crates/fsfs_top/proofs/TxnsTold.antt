@@ -22,7 +22,7 @@ use Rattle.fsfs_disk.proofs.InTurn.{old_kept}
 use Rattle.fsfs_disk.specs.declared.transactions.removing.RemovalFault.{RemovalFault}
 use Rattle.fsfs_disk.specs.declared.transactions.removing.RemovalFault.TheVariants.{NoTxn, Failed}
 use Rattle.fsfs_top.specs.TxnAnswers.{same_txn, has_txn, without_txn, first_missing}
-use Rattle.fsfs_top.specs.Looks.{OpensAs, DoesNotOpen}
+use Rattle.fsfs_workers.specs.Openings.{OpensAs, DoesNotOpen}
 use Rattle.fsfs_top.specs.Scenes.{HostScene, Scene, SinkScene}
 use Rattle.fsfs_top.specs.Transactions.{txns_of, Lists, ListsOpened, ListsTxns, removal_fault, IfRemovalFails, RemovesOpened, RemovesTxns, LeavesRemoval}
 use Rattle.fsfs_top.proofs.CreationTold.{path_cases}

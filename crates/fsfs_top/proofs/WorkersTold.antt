@@ -15,12 +15,12 @@ by_host n before after old new none is rose = omega (arith, none, is, rose)
 
 module _ (known : Bool) (moment before after old new : ℕ) (none : before ≡ 0) (is : new ≡ added_count old after) (B C : ℕ → Type 0) (on : (n : ℕ) → B n → C n) where
   beside_by_host : (workers : ℕ) (a b : RunScene) (ended : Result ℕ Fault) → RunsBeside moment workers known before after B a b ended → RunsBeside moment workers known old new C a b ended
-  beside_by_host workers a b _ (NotOpened why because untouched unread) = NotOpened why (opens_weaker a.trace why (by_host 1 before after old new none is) because) untouched unread
-  beside_by_host workers a b _ (NotRead error read rose untouched) = NotRead error read rose untouched
-  beside_by_host workers a b _ (NoRoom js read untouched) = NoRoom js read untouched
-  beside_by_host workers a b _ (Done js answers youngest result read ends each rose failed ran printed) = Done js answers youngest result read ends each (by_host _ before after old new none is rose) (on _ failed) ran printed
+  beside_by_host workers a b _ (NotOpened why because unopened untouched unread) = NotOpened why (opens_weaker a.trace why (by_host 1 before after old new none is) because) unopened untouched unread
+  beside_by_host workers a b _ (NotRead o error opens read rose untouched) = NotRead o error opens read rose untouched
+  beside_by_host workers a b _ (NoRoom o js opens read untouched) = NoRoom o js opens read untouched
+  beside_by_host workers a b _ (Done o js answers youngest result opens read ends each rose failed ran printed) = Done o js answers youngest result opens read ends each (by_host _ before after old new none is rose) (on _ failed) ran printed
   beside_by_host workers a b _ (Lost unknown unwritten same) = Lost unknown unwritten same
 
   pub run_by_host : (a b : RunScene) (workers : ℕ) (ended : Result ℕ Fault) → RunsBy workers known moment before after B a b ended → RunsBy workers known moment old new C a b ended
-  run_by_host a b workers ended (inl (one, ran)) = inl (one, runs_weaker B C moment a b ended (by_host 1 before after old new none is) on ran)
+  run_by_host a b workers ended (inl (one, ran)) = inl (one, runs_weaker B C moment before after old new a b ended (λ n. by_host n before after old new none is) on ran)
   run_by_host a b workers ended (inr (two, ran)) = inr (two, beside_by_host 2 (scene_where known a) (scene_where known b) ended ran)

@@ -19,7 +19,6 @@ use Rattle.fsfs_look.specs.declared.look_error.LookError.{LookError}
 use Rattle.fsfs_look.specs.declared.look_error.LookError.TheVariants as errors
 use Rattle.fsfs_layout.specs.Opening.{small_texts, IsOpened, IsNone, HasFormat, IsLinear}
 use Rattle.fsfs_create.specs.OpenFaults.{OpensBecause}
-use Rattle.fsfs_create.specs.Deciding.{IsOutside as IsOpenOutside}
 use Rattle.fsfs_layout.specs.declared.layout.Layout.{Layout}
 use Rattle.fsfs_layout.specs.declared.opened.Opened.{Opened}
 use Rattle.fsfs_base.specs.declared.places.open_fault.OpenFault.{OpenFault}
@@ -37,15 +36,8 @@ use Rattle.fsfs_cli.specs.declared.request.Look.TheVariants.{Youngest, Uuid, AtR
 use Rattle.fsfs_cli.specs.declared.request.Printed.{Printed}
 use Rattle.fsfs_cli.specs.declared.request.Printed.TheVariants.{Tree, Text, Author, Date, Log, Info, Changed, History}
 use Rattle.fsfs_cli.specs.declared.request.RevisionLook.{RevisionLook}
+use Rattle.fsfs_workers.specs.Openings.{OpensAs, DoesNotOpen}
 use Rattle.fsfs_top.specs.Scenes.{Scene, SinkScene}
-
--- the small files of the repository say this
-abbrev pub OpensAs : Option Trace → Opened → Type 0
-OpensAs told o = IfSome told (λ t. IsOpened (small_texts (files_now t)) o)
-
--- the files don't open, unless the outside failed
-abbrev pub DoesNotOpen : Option Trace → OpenFault → Type 0
-DoesNotOpen told why = IfSome told (λ t. (o : Opened) → IsOpened (small_texts (files_now t)) o → IsOpenOutside why)
 
 -- nothing was printed, since the path was not mounted or the repository there not opened
 abbrev pub NotOpened : List ℕ → Scene → Scene → Option Fault → Type 0

@@ -1,5 +1,5 @@
 -- What svnjobs does, from its words and its input to the files, the output and the status.
-use Rattle.std.specs.Prelude.{◌≡◌, ◌≢◌, ◌⊎◌, ℕ, Bool, List, Option, Some, None, IfSome, Result, Ok, Err}
+use Rattle.std.specs.Prelude.{◌≡◌, ◌≢◌, ◌⊎◌, ℕ, Bool, true, List, Option, Some, None, IfSome, Result, Ok, Err}
 use Rattle.fsfs_base.specs.Failures.{Rose}
 use Rattle.fsfs_disk.specs.Crash.{AllLabels}
 use Rattle.fsfs_disk.specs.Trace.{Trace, files_now}
@@ -21,6 +21,7 @@ use Rattle.fsfs_cli.specs.declared.tool.Tool.TheVariants.{Jobs}
 use Rattle.fsfs_workers.specs.Runs.{RunScene, RunsScript}
 use Rattle.fsfs_workers.specs.ByWorkers.{RunsByWorkers}
 use Rattle.fsfs_top.specs.Scenes.{Scene, SourceScene}
+use Rattle.fsfs_top.specs.Transactions.{OpeningIsDecided}
 
 -- the status of a run, or that of its fault
 abbrev pub ended_status : Result ℕ Fault → ℕ
@@ -43,7 +44,7 @@ HasHistory told = IfSome told (λ t. (h : List Revision) × (stands : StandsFor 
 -- What so many workers did over a disk whose count of faults went from `before` to `after`, and of whose benches so many calls failed (`benches`). One does the jobs one after another; two do them beside each
 -- other, and what is told of them rests on whether the disk is known to have a history (`known`).
 abbrev pub RunsBy : ℕ → Bool → ℕ → ℕ → ℕ → (ℕ → Type 0) → RunScene → RunScene → Result ℕ Fault → Type 0
-RunsBy workers known moment before after benches a b ended = ((workers ≡ 1) × RunsScript moment (Rose before after) benches a b ended) ⊎ ((workers ≡ 2) × RunsByWorkers moment 2 known before after benches a b ended)
+RunsBy workers known moment before after benches a b ended = ((workers ≡ 1) × RunsScript moment before after benches a b ended) ⊎ ((workers ≡ 2) × RunsByWorkers moment 2 known before after benches a b ended)
 
 -- the path was mounted and the script run over the disk there, at a moment that the clock gave; or it was not mounted, and nothing was done
 abbrev pub RunsAt : List ℕ → ℕ → Bool → Option ℕ → Scene → SourceScene → Scene → SourceScene → Result ℕ Fault → Type 0
@@ -51,10 +52,15 @@ RunsAt repos workers known clock a i b j ended =
     ((ended ≡ Err (Outside Mount)) × Rose a.host.mount_faults b.host.mount_faults × (b.host.disk_at repos ≡ a.host.disk_at repos) × (b.out ≡ a.out) × (j ≡ i))
     ⊎ ((moment : ℕ) × IfSome clock (λ t. moment ≡ t) × RunsBy workers known moment a.host.disk_faults b.host.disk_faults (λ n. RoseBy n a.host.bench_faults b.host.bench_faults) (run_scene repos a i) (run_scene repos b j) ended)
 
+-- The files decide which refusal of an opening comes: always of one worker, and of two where they are known to have a history (of other files two
+-- are told nothing).
+abbrev pub RunIsDecided : ℕ → Bool → Option Trace → Result ℕ Fault → Type 0
+RunIsDecided workers known told ended = (workers ≡ 1) ⊎ (known ≡ true) → OpeningIsDecided told (ended_fault ended)
+
 -- what svnjobs did: what its words ask for, at that path alone; or they were refused, and nothing was done
 abbrev pub DidJobs : List (List ℕ) → Bool → Option ℕ → Scene → SourceScene → Scene → SourceScene → Result ℕ Fault → Type 0
 DidJobs words known clock a i b j ended =
-    ((repos : List ℕ) × (workers : ℕ) × Asks Jobs words repos (RunJobs workers) × RunsAt repos workers known clock a i b j ended × ((path : List ℕ) → path ≢ repos → b.host.disk_at path ≡ a.host.disk_at path))
+    ((repos : List ℕ) × (workers : ℕ) × Asks Jobs words repos (RunJobs workers) × RunsAt repos workers known clock a i b j ended × RunIsDecided workers known (a.host.disk_at repos) ended × ((path : List ℕ) → path ≢ repos → b.host.disk_at path ≡ a.host.disk_at path))
     ⊎ ((why : WordsFault) × (ended ≡ Err (fault_from_words why)) × Refuses (asked Jobs words) why × (b ≡ a) × (j ≡ i))
 
 -- no transaction is listed that was not before

@@ -18,7 +18,8 @@ use Rattle.fsfs_disk.specs.Transactions.Removals.{IsImageOf, Removes, WasKept, H
 use Rattle.fsfs_disk.specs.declared.transactions.removing.RemovalFault.{RemovalFault}
 use Rattle.fsfs_disk.specs.declared.transactions.removing.RemovalFault.TheVariants.{NoTxn, Failed}
 use Rattle.fsfs_top.specs.TxnAnswers.{names_text}
-use Rattle.fsfs_top.specs.Looks.{OpensAs, DoesNotOpen, NotOpened, PrintsLine, DecidesOpening}
+use Rattle.fsfs_workers.specs.Openings.{OpensAs, DoesNotOpen}
+use Rattle.fsfs_top.specs.Looks.{NotOpened, PrintsLine, DecidesOpening}
 use Rattle.fsfs_top.specs.Scenes.{HostScene, Scene, SinkScene}
 
 -- the files decide which refusal of an opening comes

@@ -6,7 +6,7 @@ ghost use Rattle.fsfs_cli.specs.declared.tool.Tool.TheVariants.{Jobs};
 ghost use Rattle.fsfs_turn.specs.Mountings.{RoseBy};
 ghost use Rattle.fsfs_workers.specs.Runs.{run_scene};
 ghost use Rattle.fsfs_top.specs.Scenes.{scene, source_scene};
-ghost use Rattle.fsfs_top.specs.Scripts.{DidJobs, HasHistory, RunsAt, RunsBy};
+ghost use Rattle.fsfs_top.specs.Scripts.{DidJobs, HasHistory, RunIsDecided, RunsAt, RunsBy};
 
 use fsfs_base::{Clock, Gate, Sink, Source};
 use fsfs_cli::{Fault, OutsideFault, Task, Tool, read_words};
@@ -64,6 +64,7 @@ where
     requires workers { (1 ≤ workers) × (workers ≤ 2) }
     requires knows { known ≡ true → HasHistory (H.disk_at host.old repos.now) }
     ensures ran { RunsAt repos.now workers known (C.next clock.old) (scene H.Host O.Sink host.old out.old) (source_scene I.Source input.old) (scene H.Host O.Sink host.new out.new) (source_scene I.Source input.new) result }
+    ensures decided { RunIsDecided workers known (H.disk_at host.old repos.now) result }
     ensures others { (path : List ℕ) → path ≢ repos.now → H.disk_at host.new path ≡ H.disk_at host.old path }
 {
     let disk = match host.mount(repos, Access::Write) {

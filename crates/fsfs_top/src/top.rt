@@ -225,7 +225,7 @@ where
     ensures labels { tool ≢ Jobs → (path : List ℕ) → ((shard : ℕ) → Asks tool (map string_bytes words.now) path (Create shard) → ⊥) → ((txns : List (ℕ × ℕ)) → Asks tool (map string_bytes words.now) path (RemoveTxns txns) → ⊥)
         → HasSameLabels (H.disk_at host.old path) (H.disk_at host.new path) }
 
-    // Of svnjobs: what became of the script in the input, to which belong the status and the line about a fault.
+    // Of svnjobs: what became of the script in the input, to which belong the status and the line about a fault. Why a repository is not opened the files decide.
     ensures jobs { tool ≡ Jobs → (ended : Result ℕ Fault) × (result ≡ ended_status ended) × Tells tool (sink_scene E.Sink err.old) (sink_scene E.Sink err.new) (ended_fault ended)
         × DidJobs (map string_bytes words.now) known (C.next clock.old) (scene H.Host O.Sink host.old out.old) (source_scene I.Source input.old) (scene H.Host O.Sink host.new out.new) (source_scene I.Source input.new) ended }
 

@@ -1,10 +1,14 @@
 use Rattle.std.proofs.Common.{◌≡◌, ◌∙◌, ℕ, ap, sym, subst, refl, inl, inr}
 use Rattle.std.specs.Prelude.{Option}
 use Rattle.fsfs_base.specs.Failures.{added_count}
+use Rattle.fsfs_cli.specs.declared.faults.fault.Fault.TheVariants.{Outside}
+use Rattle.fsfs_cli.specs.declared.faults.outside_fault.OutsideFault.TheVariants.{Mount}
 use Rattle.fsfs_disk.specs.Trace.{Trace}
 use Rattle.fsfs_turn.specs.Mountings.{RoseBy}
 use Rattle.fsfs_workers.specs.Runs.{run_scene}
-use Rattle.fsfs_top.specs.Scripts.{HasHistory, RunsBy}
+use Rattle.fsfs_top.specs.Scripts.{HasHistory, RunIsDecided, RunsBy}
+use Rattle.fsfs_top.proofs.FilesDecide.{opening_outside}
+use Rattle.fsfs_top.proofs.JobsDecided.{run_decided}
 use Rattle.fsfs_top.proofs.WorkersTold.{by_host, run_by_host}
 use Rattle.fsfs_top.proofs.jobs.run_at.Goals as goal
 
@@ -43,3 +47,16 @@ returns-clause-ran g c =
           (run_by_host c.args.known c.micros-micros.result (count c.in-Ok.disk) (count c.run_on-disk.result.0) (g.H.Host.disk_faults c.args.host.now) (g.H.Host.disk_faults c.unmount.new.self) c.in-Ok.ensures.new counted (λ n. RoseBy n 0 (benches c.run_on-disk.result.0)) rose (λ n risen. by_host n 0 (benches c.run_on-disk.result.0) old new refl counts risen) _ _ c.args.workers
           c.run_on-disk.result.1 c.run_on-disk.ensures.ran)),
     )
+
+pub returns-in-Err-clause-decided : goal.returns-in-Err-clause-decided
+returns-in-Err-clause-decided g c = λ which. opening_outside (g.H.Host.disk_at c.args.host.now c.args.repos.now) (Outside Mount) tt
+
+pub returns-clause-decided : goal.returns-clause-decided
+returns-clause-decided g c =
+    let told = g.H.Mounted.Disk.trace in
+    let count = g.H.Mounted.Disk.faults in
+    let ran = c.run_on-disk.result in
+    let before = run_scene (told c.in-Ok.disk) (g.I.Source.remaining c.args.input.now) (g.I.Source.faults c.args.input.now) (g.O.Sink.written c.args.out.now) (g.O.Sink.faults c.args.out.now) in
+    let after = run_scene (told ran.0) (g.I.Source.remaining c.run_on-disk.new.input) (g.I.Source.faults c.run_on-disk.new.input) (g.O.Sink.written c.run_on-disk.new.out) (g.O.Sink.faults c.run_on-disk.new.out) in
+    subst (λ (x : Option Trace). RunIsDecided c.args.workers c.args.known x ran.1) c.in-Ok.ensures.disk
+    (run_decided c.args.workers c.args.known c.micros-micros.result (count c.in-Ok.disk) (count ran.0) (λ n. RoseBy n 0 (g.H.Mounted.Disk.bench_faults ran.0)) before after ran.1 c.run_on-disk.ensures.ran)
