@@ -1,6 +1,6 @@
 -- The files decide which refusal of an opening a run of svnjobs tells.
 use Rattle.std.proofs.Common.{◌≡◌, ◌⊎◌, ℕ, Bool, true, inl, inr, subst, arith}
-use Rattle.std.specs.Prelude.{Some, None, Result, Ok, Err}
+use Rattle.std.specs.Prelude.{Some, Result}
 use Rattle.fsfs_base.specs.Failures.{Rose}
 use Rattle.fsfs_cli.specs.CommandFaults.{fault_from_script}
 use Rattle.fsfs_cli.specs.declared.faults.fault.Fault.{Fault}
