@@ -1,7 +1,9 @@
 // One example: a script that two workers run, and what is looked at behind each run.
-use crate::machine::{machine, run};
+use crate::known::run_new;
+use crate::machine::{empty_machine, machine, run};
 use crate::overtaking::Overtaking;
 use crate::ways::{Course, Way};
+use fsfs_base::Gate;
 use fsfs_example_calls::Tool;
 use fsfs_memory::{MemHost, NoGate, Transcript};
 use std::alloc::Global;
@@ -11,7 +13,7 @@ use std::thread::Threads;
 /// An example, as it is written.
 #[derive(Clone, Copy)]
 pub struct Example<'a> {
-    /// The script that one worker runs first.
+    /// The script that one worker runs first. Where it is empty the two run theirs over a repository that is made for it.
     pub before: &'a str,
     /// The script that two workers run.
     pub script: &'a str,
@@ -30,25 +32,49 @@ struct Told {
     gave_up: bool,
 }
 
+// Two workers run the script.
+fn run_by_two<T: Threads + Wait + Sync, G: Gate + Sync>(
+    rt: &T,
+    alloc: Global,
+    example: Example<'_>,
+    host: &mut MemHost,
+    gate: &G,
+    told: &mut Transcript,
+) {
+    if example.before.is_empty() {
+        run_new(rt, alloc, example.script, host, gate, told);
+    } else {
+        run(
+            rt,
+            alloc,
+            Tool::Jobs,
+            "R -j 2",
+            example.script,
+            host,
+            gate,
+            told,
+        );
+    }
+}
+
 // Two workers run the script, and it is told how often a job that is overtaken asked for the lock. Whether one that was to be held went on
 // by itself.
 fn run_script<T: Threads + Wait + Sync>(
     rt: &T,
     alloc: Global,
-    script: &str,
+    example: Example<'_>,
     course: &Course,
     host: &mut MemHost,
     told: &mut Transcript,
 ) -> bool {
-    let words = "R -j 2";
     match course {
         Course::Free => {
-            run(rt, alloc, Tool::Jobs, words, script, host, &NoGate, told);
+            run_by_two(rt, alloc, example, host, &NoGate, told);
             false
         }
         Course::Held(hold) => {
             let gate = hold.gate();
-            run(rt, alloc, Tool::Jobs, words, script, host, &gate, told);
+            run_by_two(rt, alloc, example, host, &gate, told);
             gate.gave_up()
         }
         Course::Overtaken { who, others } => {
@@ -56,7 +82,7 @@ fn run_script<T: Threads + Wait + Sync>(
                 told.lose();
                 return false;
             };
-            run(rt, alloc, Tool::Jobs, words, script, host, &gate, told);
+            run_by_two(rt, alloc, example, host, &gate, told);
             told.tell("asked ", &gate.asked());
             told.say(" times\n");
             gate.gave_up()
@@ -88,8 +114,12 @@ fn run_once<T: Threads + Wait + Sync>(
     let mut unsaid = Transcript::new(alloc);
     let mut answer = Transcript::new(alloc);
     let mut looks = Transcript::new(alloc);
-    let mut host = machine(rt, alloc, example.before, &mut unsaid);
-    let gave_up = run_script(rt, alloc, example.script, course, &mut host, &mut answer);
+    let mut host = if example.before.is_empty() {
+        empty_machine(alloc, &mut unsaid)
+    } else {
+        machine(rt, alloc, example.before, &mut unsaid)
+    };
+    let gave_up = run_script(rt, alloc, example, course, &mut host, &mut answer);
     look(rt, alloc, example.looks, &mut host, &mut looks);
     Told {
         answer,

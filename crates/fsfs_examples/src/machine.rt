@@ -1,6 +1,6 @@
 // A machine with one disk in memory, at the path `R`, on which two workers run.
 use fsfs_base::Gate;
-use fsfs_example_calls::Tool;
+use fsfs_example_calls::{Ran, Tool};
 use fsfs_memory::{MemDisk, MemHost, NoGate, Transcript};
 use std::alloc::Global;
 use std::sync::Wait;
@@ -18,13 +18,25 @@ pub fn run<T: Threads + Wait + Sync, G: Gate + Sync>(
     told: &mut Transcript,
 ) {
     match fsfs_example_calls::run(rt, alloc, tool, words, input, host, gate) {
-        Ok(ran) => {
-            ran.put(told);
-            told.tell("= ", &ran.status);
-            told.say("\n");
-        }
+        Ok(ran) => put_run(&ran, told),
         Err(_) => told.lose(),
     }
+}
+
+/// Tells what a run printed and its status.
+pub fn put_run(ran: &Ran, told: &mut Transcript) {
+    ran.put(told);
+    told.tell("= ", &ran.status);
+    told.say("\n");
+}
+
+/// A machine with nothing at `R`.
+pub fn empty_machine(alloc: Global, told: &mut Transcript) -> MemHost {
+    let mut host = MemHost::new(alloc);
+    if host.add_disk("R", MemDisk::new(alloc)).is_err() {
+        told.lose();
+    }
+    host
 }
 
 /// A machine with a new repository, of two revisions in a shard, in which one worker has done the jobs of a script.
@@ -34,10 +46,7 @@ pub fn machine<T: Threads + Wait + Sync>(
     script: &str,
     told: &mut Transcript,
 ) -> MemHost {
-    let mut host = MemHost::new(alloc);
-    if host.add_disk("R", MemDisk::new(alloc)).is_err() {
-        told.lose();
-    }
+    let mut host = empty_machine(alloc, told);
     let create = "create R --shard 2";
     run(rt, alloc, Tool::Admin, create, "", &mut host, &NoGate, told);
     run(rt, alloc, Tool::Jobs, "R", script, &mut host, &NoGate, told);

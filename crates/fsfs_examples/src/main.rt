@@ -7,6 +7,7 @@ mod command;
 mod edit;
 mod example;
 mod files;
+mod known;
 mod line;
 mod machine;
 mod overtaking;
