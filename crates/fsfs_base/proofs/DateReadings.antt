@@ -4,11 +4,15 @@ use Rattle.std.proofs.lemmas.Bool.Decides.{nat_tests}
 use Rattle.std.specs.Cmp.Lexicographic.{pointwise, nat_list_eq_equiv}
 use Rattle.std.specs.Prelude.{nat_eq}
 use Rattle.std.specs.Result.{result_ok}
+use Rattle.std.proofs.Props.{props}
+use Rattle.std.specs.Int.{IsInRange}
+use mathlib.Core.HLevel.{is_prop→PathP}
+use Rattle.jiff_core.specs.declared.civil.date.Date.{Date}
 use Rattle.jiff_core.specs.declared.civil.datetime.DateTime.{DateTime}
-use Rattle.jiff_core.specs.Calendar.{IsDate, days_in_month}
-use Rattle.jiff_core.specs.Time.{IsTime, time_nanos}
-use Rattle.jiff.proofs.Family.{same_datetime, epoch_day_same, civil_nanos-parts}
-use Rattle.jiff.proofs.SpanFacts.{signed_arith}
+use Rattle.jiff_core.specs.declared.civil.time.Time.{Time}
+use Rattle.jiff_core.specs.Calendar.{IsDate, IsYear, days_in_month}
+use Rattle.jiff_core.specs.Time.{IsTime}
+use Rattle.jiff_core.proofs.SignedLemmas.{signed_arith}
 use Rattle.fsfs_base.specs.Fields.Dates.{date_text, IsDateText}
 use Rattle.fsfs_base.specs.Fields.DateReading.{two_of, Numbers, numbers_at, IsShownAs, HasNumbers}
 
@@ -48,11 +52,35 @@ not_same r xs ys is off same = let yes : pointwise nat_eq xs ys ≡ true = ap (�
 
 -- ---- the date and time of day
 
+same_date : (a b : Date) → a.year ≡ b.year → a.month ≡ b.month → a.day ≡ b.day → a ≡ b
+same_date a b year month day =
+    λ i. record {
+      year = year i;
+      month = month i;
+      day = day i;
+      year_in = is_prop→PathP (λ j. IsYear (year j)) (λ j. hlevel props) a.year_in b.year_in i;
+      month_in = is_prop→PathP (λ j. IsInRange 1 12 (month j)) (λ j. hlevel props) a.month_in b.month_in i;
+      day_in = is_prop→PathP (λ j. IsInRange 1 (days_in_month (year j) (month j)) (day j)) (λ j. hlevel props) a.day_in b.day_in i;
+    }
+
+same_time : (a b : Time) → a.hour ≡ b.hour → a.minute ≡ b.minute → a.second ≡ b.second → a.subsec_nanosecond ≡ b.subsec_nanosecond → a ≡ b
+same_time a b hour minute second nanos =
+    λ i. record {
+      hour = hour i;
+      minute = minute i;
+      second = second i;
+      subsec_nanosecond = nanos i;
+      hour_in = is_prop→PathP (λ j. hour j < 24) (λ j. hlevel props) a.hour_in b.hour_in i;
+      minute_in = is_prop→PathP (λ j. minute j < 60) (λ j. hlevel props) a.minute_in b.minute_in i;
+      second_in = is_prop→PathP (λ j. second j < 60) (λ j. hlevel props) a.second_in b.second_in i;
+      subsec_in = is_prop→PathP (λ j. nanos j < 1_000_000_000) (λ j. hlevel props) a.subsec_in b.subsec_in i;
+    }
+
 pub same_parts : (a b : DateTime) → a.date.year ≡ b.date.year → a.date.month ≡ b.date.month → a.date.day ≡ b.date.day → a.time.hour ≡ b.time.hour → a.time.minute ≡ b.time.minute → a.time.second ≡ b.time.second → a.time.subsec_nanosecond ≡ b.time.subsec_nanosecond → a ≡ b
 same_parts a b year month day hour minute second nanos =
-    let days = epoch_day_same a.date b.date year month day in
-    let time : time_nanos a.time ≡ time_nanos b.time = omega (arith, hour, minute, second, nanos) in
-    same_datetime a b (civil_nanos-parts a ∙ (λ i. days i *ℤ pos 86_400_000_000_000 +ℤ pos (time i)) ∙ sym (civil_nanos-parts b))
+    let date = same_date a.date b.date year month day in
+    let time = same_time a.time b.time hour minute second nanos in
+    λ i. record { date = date i; time = time i }
 
 pub exists_date : (dt : DateTime) (year month day hour minute second nanos : ℤ) → year ≡ dt.date.year → month ≡ pos dt.date.month → day ≡ pos dt.date.day → hour ≡ pos dt.time.hour → minute ≡ pos dt.time.minute → second ≡ pos dt.time.second → nanos ≡ pos dt.time.subsec_nanosecond → IsDate year month day × IsTime hour minute second nanos
 exists_date dt year month day hour minute second nanos ey em ed eh ei es en =

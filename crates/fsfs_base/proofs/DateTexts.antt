@@ -11,15 +11,15 @@ use Rattle.jiff_core.proofs.DateTimeLemmas.{civil_nanos-parts, time_nanos_bound}
 use Rattle.jiff_fmt.specs.Text as Text
 use Rattle.jiff_fmt.specs.Text.{places}
 use Rattle.jiff_fmt.specs.Printer as Printer
-use Rattle.jiff.proofs.OnLiterals.{jiff_on_literals}
-use Rattle.jiff.proofs.SpanFacts.{signed_arith}
+use Rattle.jiff_fmt.proofs.OnLiterals.{jiff_fmt_on_literals}
+use Rattle.jiff_core.proofs.SignedLemmas.{signed_arith}
 use Rattle.fsfs_base.specs.Fields.Dates.{two_digits, four_digits, six_digits, date_text, IsDateAt}
 
 abbrev epoch : Date
 epoch = record { year = pos 1970; month = 1; day = 1; year_in = (omega (arith, signed_arith), omega (arith, signed_arith)); month_in = (omega arith, omega arith); day_in = (omega arith, omega arith) }
 
 epoch_first : epoch_day epoch ≡ pos 0
-unfolding jiff_on_literals
+unfolding jiff_fmt_on_literals
 epoch_first = refl
 
 -- a day that is not before the epoch lies in a year that has a text of four digits

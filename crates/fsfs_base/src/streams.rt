@@ -60,7 +60,7 @@ pub trait Dice {
 }
 
 /// A place of a run at which a gate may hold its caller.
-#[derive(Clone, Copy, Debug, PartialEq, Eq)]
+#[derive(Clone, Copy, PartialEq, Eq)]
 pub enum GatePlace {
     BeforeLock,
     AfterPutRev,

@@ -21,7 +21,7 @@ use Rattle.fsfs_machine.specs.declared.machine.Drawn.{Drawn}
 use Rattle.fsfs_machine.specs.declared.machine.Section.TheVariants.{Begun}
 use Rattle.fsfs_machine.specs.declared.machine.Outcome.TheVariants as outcome
 use Rattle.fsfs_machine.specs.declared.machine.Step.TheVariants as step
-use Rattle.fsfs_machine.specs.Kept.{IsIn}
+use Rattle.fsfs_machine.specs.Kept.{AllBelow, IsIn}
 use Rattle.fsfs_turn.specs.Bytes.{bytes_of}
 use Rattle.fsfs_turn.specs.Courses.{Course, ReadOnly, End as CourseEnd, More as CourseMore}
 use Rattle.fsfs_turn.specs.Labels.{KeepsLabels, Relabels}
@@ -39,16 +39,17 @@ use Rattle.fsfs_begin.specs.declared.begin_fault.BeginFault.{BeginFault}
 use Rattle.fsfs_begin.proofs.Benching.{no_more_on}
 use Rattle.fsfs_begin.proofs.Going.{steps_on, one_turn}
 use Rattle.fsfs_begin.proofs.Moving.{moved_on, by_look, moved_by, may_give, given_over, bytes_stay, longer}
+use Rattle.fsfs_begin.proofs.Parts.{above_given}
 
 -- ---- the lock may be given, however the section went
 
 pub held_begun : (v : View) → v.section ≡ Some Begun → MayGive v
 held_begun v at = record { inside = Begun; is = at; quiet = refl }
 
-pub give_due : (known : View → Type 0) (base : ℕ) (r : Result TxnName NameFault) (m : View) (P S : Type 0) → m.section ≡ Some Begun → S → Draws known base r m ⊎ (P × (S → OnOk r ⊥ × IfErr r NoNumber × known m)) → (u : View) × known u × MayGive u
-give_due known base r m P S at s (inr p) = (m, (p.1 s).2, held_begun m at)
-give_due known base (Ok name) m P S at s (inl d) = (d.0, d.1, given_over name.number.number m d.0 d.2)
-give_due known base (Err why) m P S at s (inl d) = (d.0, d.1, may_give base m d.0 why d.2)
+pub give_due : (known : View → Type 0) (base : ℕ) (r : Result TxnName NameFault) (m : View) (P : Type 0) → m.section ≡ Some Begun → Draws known base r m ⊎ (P × OnOk r ⊥ × IfErr r NoNumber × known m) → (u : View) × known u × MayGive u
+give_due known base r m P at (inr p) = (m, p.3, held_begun m at)
+give_due known base (Ok name) m P at (inl d) = (d.0, d.1, given_over name.number.number m d.0 d.2)
+give_due known base (Err why) m P at (inl d) = (d.0, d.1, may_give base m d.0 why d.2)
 
 -- nothing was drawn
 pub lacks_named : (why : NameFault) → NoNumber why → LacksNumber (named_fault why)
@@ -158,6 +159,7 @@ module _ (young : ℕ) (v a b : View) (number : ℕ) (l : Looked young v a) (h :
     least = omega (arith, l.least, least_is, named_least, made.least);
     all = made.all;
     base = longer b.seen u.seen name.base made.grows within;
+    above = subst (λ (n : ℕ). AllBelow n v.given) (sym same) (above_given young v a b number l h);
     root = begun;
     draft = stands_for (bytes_of u.seen) name root held begun;
     doubtless = λ few. made.doubtless (same_faults a b (ap {A = View} (λ z. z.pass.faults) h.is) (same_faults v a (ap {A = View} (λ z. z.pass.faults) l.is) few));
@@ -190,10 +192,10 @@ pub relabels_on : {B E : Type 0} (r : Result B E) (bound then : Bool) (f : List 
 relabels_on (Ok x) bound then f old mid new duty keeps w = record { met = w.met; is_met = λ free. w.is_met (duty ∙ free) ∙ keeps free; made = w.made }
 relabels_on (Err e) bound then f old mid new duty keeps w = tt
 
-pub no_more_among : {B E : Type 0} (r : Result B E) (bound then : Bool) (base : ℕ) (P Q : Type 0) (old mid new : Option (List Label)) → then ≡ bound → KeepsLabels bound old mid → (P → Q)
-    → OnErr r (then ≡ false → ListsNoMore base P mid new) → OnErr r (bound ≡ false → ListsNoMore base Q old new)
-no_more_among (Ok x) bound then base P Q old mid new duty keeps f w = tt
-no_more_among (Err e) bound then base P Q old mid new duty keeps f w = λ free. no_more_on base P Q old mid new (keeps free) f (w (duty ∙ free))
+pub no_more_among : {B E : Type 0} (r : Result B E) (bound then : Bool) (N : ℕ → Type 0) (base : ℕ) (P Q : Type 0) (old mid new : Option (List Label)) → then ≡ bound → KeepsLabels bound old mid → (P → Q)
+    → OnErr r (then ≡ false → ListsNoMore N base P mid new) → OnErr r (bound ≡ false → ListsNoMore N base Q old new)
+no_more_among (Ok x) bound then N base P Q old mid new duty keeps f w = tt
+no_more_among (Err e) bound then N base P Q old mid new duty keeps f w = λ free. no_more_on N N base P Q old mid new (keeps free) (λ n named. named) f (w (duty ∙ free))
 
 pub relabels_begun : {B E : Type 0} (name_of : B → TxnName) (name : TxnName) (r : Result B E) (bound then : Bool) (old mid new : Option (List Label)) → then ≡ bound → KeepsLabels bound old mid → IfOk r (λ b. name_of b ≡ name)
     → OnOk r (Relabels then (with_label (txn_label (pair_of name))) mid new) → IfOk r (λ b. Relabels bound (with_label (txn_label (pair_of (name_of b)))) old new)
@@ -201,7 +203,7 @@ relabels_begun name_of name (Ok b) bound then old mid new duty keeps is w =
     subst (λ (n : TxnName). Relabels bound (with_label (txn_label (pair_of n))) old new) (sym is) (record { met = w.met; is_met = λ free. w.is_met (duty ∙ free) ∙ keeps free; made = w.made })
 relabels_begun name_of name (Err e) bound then old mid new duty keeps is w = tt
 
-pub unlisted_among : {B E : Type 0} (r : Result B E) (bound then : Bool) (base other : ℕ) (P Q : Type 0) (old mid new : Option (List Label)) → other ≡ base → then ≡ bound → KeepsLabels bound old mid → (P → Q)
-    → OnErr r (then ≡ false → ListsNoMore other P mid new) → OnErr r (bound ≡ false → ListsNoMore base Q old new)
-unlisted_among (Ok x) bound then base other P Q old mid new at duty keeps f w = tt
-unlisted_among (Err e) bound then base other P Q old mid new at duty keeps f w = λ free. no_more_on base P Q old mid new (keeps free) f (subst (λ (n : ℕ). ListsNoMore n P mid new) at (w (duty ∙ free)))
+pub unlisted_among : {B E : Type 0} (r : Result B E) (bound then : Bool) (M N : ℕ → Type 0) (base other : ℕ) (P Q : Type 0) (old mid new : Option (List Label)) → other ≡ base → then ≡ bound → KeepsLabels bound old mid → ((n : ℕ) → M n → N n) → (P → Q)
+    → OnErr r (then ≡ false → ListsNoMore M other P mid new) → OnErr r (bound ≡ false → ListsNoMore N base Q old new)
+unlisted_among (Ok x) bound then M N base other P Q old mid new at duty keeps named f w = tt
+unlisted_among (Err e) bound then M N base other P Q old mid new at duty keeps named f w = λ free. no_more_on M N base P Q old mid new (keeps free) named f (subst (λ (n : ℕ). ListsNoMore M n P mid new) at (w (duty ∙ free)))

@@ -53,6 +53,6 @@ unlisted_now bound then l old mid new first before now (Err e) free after later 
 
 -- ---- of the whole, by what the first part left
 
-pub no_more_on : (base : ℕ) (P Q : Type 0) (old mid new : Option (List Label)) → mid ≡ old → (P → Q) → ListsNoMore base P mid new → ListsNoMore base Q old new
-no_more_on base P Q old mid new same f w =
-    subst (λ o. ListsNoMore base Q o new) same (⊎_elim (λ stays. inl stays) (λ d. inr (d.0, ⊎_elim (λ gone. inl gone) (λ p. inr (f p)) d.1)) w)
+pub no_more_on : (M N : ℕ → Type 0) (base : ℕ) (P Q : Type 0) (old mid new : Option (List Label)) → mid ≡ old → ((n : ℕ) → M n → N n) → (P → Q) → ListsNoMore M base P mid new → ListsNoMore N base Q old new
+no_more_on M N base P Q old mid new same named f w =
+    subst (λ o. ListsNoMore N base Q o new) same (⊎_elim (λ stays. inl stays) (λ d. inr (d.0, named d.0 d.1, ⊎_elim (λ gone. inl gone) (λ p. inr (f p)) d.2)) w)

@@ -17,6 +17,7 @@ use Rattle.fsfs_machine.specs.declared.machine.Went.{Went}
 use Rattle.fsfs_machine.specs.declared.machine.Went.TheVariants.{Fine, Before, After, Torn}
 use Rattle.fsfs_machine.specs.Machine.{World, is_fine_in, answer, after, spoiled}
 use Rattle.fsfs_turn.specs.Views.{View, Turned, with_txns, Called, called_view, given_by}
+use Rattle.fsfs_machine.specs.Kept.{AllBelow}
 use Rattle.fsfs_turn.specs.Learning.{TurnedFrom, CounterRead, drawn_of}
 use Rattle.fsfs_base.specs.declared.fields.txn_name.TxnName.{TxnName}
 use Rattle.fsfs_begin.specs.declared.name_fault.NameFault.TheVariants.{DiskFault, Memory}
@@ -148,6 +149,7 @@ draws_on k base number name v same m r w = (
   w.1,
   subst (λ n. IsGiven n v w.0) (sym same) (given_on (CountRead (drawn_of base number)) number v m w.0 r.reached w.2),
   later,
+  subst (λ n. AllBelow n v.given) (sym same) r.above,
 )
   where
     later : v.pass.least < length w.0.seen

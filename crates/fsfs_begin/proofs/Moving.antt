@@ -12,7 +12,7 @@ use Rattle.fsfs_machine.specs.declared.machine.Outcome.TheVariants as outcome
 use Rattle.fsfs_machine.specs.declared.machine.Step.TheVariants as step
 use Rattle.fsfs_machine.specs.declared.machine.Went.{Went}
 use Rattle.fsfs_machine.specs.Machine.{is_fine_in, answer}
-use Rattle.fsfs_machine.specs.Kept.{IsIn}
+use Rattle.fsfs_machine.specs.Kept.{AllBelow, IsIn}
 use Rattle.fsfs_turn.specs.Alone.{BringsNoDoubt, are_harmless, brings_doubt}
 use Rattle.fsfs_turn.specs.Bytes.{bytes_beside, bytes_of}
 use Rattle.fsfs_turn.specs.Views.{View, Begins, Looked, LockTaken, FoundStuck, LockGiven, MayGive, outside}
@@ -143,11 +143,12 @@ module _ (v m k u : View) (t : LockTaken v m) (g : LockGiven (step.GiveLock k.nu
   course : Steps v u
   course = steps_on v m u (taken_steps v m t) (steps_on m k u steps (given_steps k u g))
 
-  pub has_name : (name : ℕ) → IsGiven name m k → m.pass.least < length k.seen → HasName name v u
-  has_name name d all = record {
+  pub has_name : (name : ℕ) → IsGiven name m k → m.pass.least < length k.seen → AllBelow name m.given → HasName name v u
+  has_name name d all above = record {
     is = g.is ∙ ap {A = View} (λ z. outside z) (d.is ∙ ap {A = View} (λ z. record z { pass = record z.pass { seen = length k.seen }; seen = k.seen; section = Some Over; given = name ∷ z.given }) t.is)
         ∙ ap {A = List Recorded} (λ l. record v { pass = record v.pass { seen = length l }; seen = l; section = None; sure = false; given = name ∷ v.given }) (sym (given_seen k u g));
     all = let e : m.pass.least ≡ v.pass.least = ap {A = View} (λ z. z.pass.least) t.is in let f : length u.seen ≡ length k.seen = ap length (given_seen k u g) in omega (arith, all, e, f);
+    above = subst (λ (l : List ℕ). AllBelow name l) (ap {A = View} (λ z. z.given) t.is) above;
     grows = grew;
     steps = course;
   }

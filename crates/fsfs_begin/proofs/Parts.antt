@@ -13,7 +13,7 @@ use Rattle.fsfs_begin.specs.Begun.{IsBegunOn}
 use Rattle.fsfs_begin.proofs.RevisionLemmas.{begun_same, stands_for}
 use Rattle.fsfs_machine.specs.declared.machine.Outcome.TheVariants as outcome
 use Rattle.fsfs_machine.specs.declared.machine.Step.TheVariants as step
-use Rattle.fsfs_machine.specs.Kept.{IsIn}
+use Rattle.fsfs_machine.specs.Kept.{AllBelow, IsIn}
 use Rattle.fsfs_turn.specs.Bytes.{bytes_of}
 use Rattle.fsfs_turn.specs.Views.{View, Begins, Looked}
 use Rattle.fsfs_turn.specs.Learning.{MayMake, drawn_of}
@@ -42,6 +42,9 @@ module _ (young : ℕ) (v a b : View) (number : ℕ) (l : Looked young v a) (h :
   given_is : b.given ≡ number ∷ v.given
   given_is = ap {A = View} (λ z. z.given) h.is ∙ ap (λ g. number ∷ g) (ap {A = View} (λ z. z.given) l.is)
 
+  pub above_given : AllBelow number v.given
+  above_given = subst (λ (l : List ℕ). AllBelow number l) (ap {A = View} (λ z. z.given) l.is) h.above
+
   pub refused_on : v.section ≡ None → (u : View) → Moved b u → Moved v u
   refused_on none u m = moved_on v a u (by_look young v a none l) (moved_on a b u (by_name number a b h) m)
 
@@ -62,6 +65,7 @@ module _ (young : ℕ) (v a b : View) (number : ℕ) (l : Looked young v a) (h :
     least = omega (arith, young_is, l.least);
     all = omega (arith, young_is, least_is, h.all, longer b.seen u.seen a.pass.least made.grows h.all);
     base = longer b.seen u.seen name.base made.grows within;
+    above = subst (λ (n : ℕ). AllBelow n v.given) (sym same) above_given;
     root = begun;
     draft = stands_for (bytes_of u.seen) name root held begun;
     grows = begins_on v.seen b.seen u.seen (subst (λ s. Begins b.seen s) (ap {A = View} (λ z. z.seen) l.is) h.grows) made.grows;

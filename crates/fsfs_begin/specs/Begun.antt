@@ -5,6 +5,7 @@ use Rattle.fsfs_base.specs.declared.fields.txn_name.TxnName.{TxnName}
 use Rattle.fsfs_noderev.specs.declared.node_rev.NodeRev.{NodeRev}
 use Rattle.fsfs_begin.specs.Beginning.{BeginsOn, IsRootText}
 use Rattle.fsfs_begin.specs.Benches.{first_files}
+use Rattle.fsfs_machine.specs.Kept.{AllBelow}
 use Rattle.fsfs_turn.specs.Alone.{BringsNoDoubt}
 use Rattle.fsfs_turn.specs.Bytes.{bytes_of}
 use Rattle.fsfs_turn.specs.Views.{View, Begins}
@@ -54,6 +55,8 @@ pub record HasBegun (name : TxnName) (node : NodeRev) (held : Option Files) (v u
   pub least : v.pass.least ≤ u.pass.least
   pub all : u.pass.least < length u.seen
   pub base : name.base < length u.seen
+  -- each name that the pass knew to be given is below this one
+  pub above : AllBelow name.number.number v.given
   pub root : IsBegunOn (bytes_of u.seen) name node
   -- where these bytes show trees, it is a draft of its base's, without marks
   pub draft : StandsForBase (bytes_of u.seen) name node held
@@ -67,6 +70,7 @@ pub record HasBegunAmong (name : TxnName) (node : NodeRev) (held : Option Files)
   pub least : v.pass.least ≤ u.pass.least
   pub all : u.pass.least < length u.seen
   pub base : name.base < length u.seen
+  pub above : AllBelow name.number.number v.given
   pub root : IsBegunOn (bytes_of u.seen) name node
   pub draft : StandsForBase (bytes_of u.seen) name node held
   pub doubtless : BringsNoDoubt v u

@@ -7,6 +7,8 @@ use Rattle.fsfs_begin.specs.declared.name_fault.NameFault.TheVariants.{Small, Na
 use Rattle.fsfs_base.specs.declared.places.place.BeginPlace.{BeginPlace}
 use Rattle.fsfs_machine.specs.declared.machine.Drawn.{Drawn}
 use Rattle.fsfs_machine.specs.declared.machine.Section.TheVariants.{CountRead}
+use Rattle.fsfs_machine.specs.Machine.{last_name}
+use Rattle.fsfs_machine.specs.Kept.{AllBelow}
 use Rattle.fsfs_turn.specs.Learning.{drawn_of}
 use Rattle.fsfs_turn.specs.Views.{View}
 use Rattle.fsfs_begin.specs.Steps.{Reached, Stopped, IsGiven, HasName, Moved}
@@ -26,7 +28,9 @@ IsSmallIn text Memory = ⊥
 pub record HasRead (base number : ℕ) (v u : View) : Type 0 where
   pub reached : Reached (CountRead (drawn_of base number)) v u
   pub all : v.pass.least < length u.seen
-  pub small : number < 18446744073709551615
+  pub small : number < last_name
+  -- each name that the pass knew to be given is below it
+  pub above : AllBelow number v.given
 
 -- why no name was drawn, and where the section stands
 abbrev pub IsUndrawn : ℕ → NameFault → View → View → Type 0
@@ -46,7 +50,7 @@ Raises known x (Err place) v = (u : View) × known u × Stopped place v u
 
 -- with the lock held
 abbrev pub Draws : (View → Type 0) → ℕ → Result TxnName NameFault → View → Type 0
-Draws known base (Ok name) v = (u : View) × known u × IsGiven name.number.number v u × (v.pass.least < length u.seen)
+Draws known base (Ok name) v = (u : View) × known u × IsGiven name.number.number v u × (v.pass.least < length u.seen) × AllBelow name.number.number v.given
 Draws known base (Err why) v = (u : View) × known u × IsUndrawn base why v u
 
 -- by a section of its own

@@ -86,7 +86,7 @@ abbrev pub IfBench : BeginFault → Type 0 → Type 0
 IfBench BenchFault P = P
 IfBench fault P = Unit {0}
 
--- No number was drawn: the next one isn't among those that may be drawn, or it could not be read.
+-- No number was drawn: none comes behind the one that stands there, or that could not be read.
 abbrev pub NoNumber : NameFault → Type 0
 NoNumber (names.Small fault) = ⊥
 NoNumber names.NamesFull = Unit {0}
@@ -109,8 +109,8 @@ IsDropped l labels rose = IfSome labels (λ ls. (has_label l ls ≡ false) ⊎ r
 abbrev pub LeavesNone : ℕ → Option (List Label) → Type 0 → View → View → Type 0
 LeavesNone base labels rose v u = (n : ℕ) × (u.given ≡ n ∷ v.given) × IsDropped (Txn base n) labels rose
 
--- In what the pass knows behind it. Neither is `txn-current` damaged where the pass knows anything, nor is the last number there one that
--- the machine reads. That a read failed is not among the faults that it knows, since reading told it nothing.
+-- In what the pass knows behind it. Where the pass knows anything `txn-current` is not damaged; and that the last number stands there it learns
+-- by no step of the machine, but by what its turns tell of the files (`MeetsLastName`). That a read failed is not among the faults that it knows, since reading told it nothing.
 abbrev pub Cause : ℕ → BeginFault → View → Type 0
 Cause base (NoRev asked youngest) u = (asked ≡ base) × (youngest < asked) × (u.pass.least ≡ youngest)
 Cause base (Stuck at) u = u.pass.stuck ≡ Some at

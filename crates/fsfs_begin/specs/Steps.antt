@@ -13,7 +13,8 @@ use Rattle.fsfs_machine.specs.declared.machine.Section.{Section}
 use Rattle.fsfs_machine.specs.declared.machine.Section.TheVariants.{Over}
 use Rattle.fsfs_machine.specs.declared.machine.Outcome.{Outcome}
 use Rattle.fsfs_machine.specs.declared.machine.Step.{Step}
-use Rattle.fsfs_machine.specs.Machine.{World}
+use Rattle.fsfs_machine.specs.Machine.{World, last_name}
+use Rattle.fsfs_machine.specs.Kept.{AllBelow}
 use Rattle.fsfs_turn.specs.Alone.{BringsNoDoubt}
 use Rattle.fsfs_turn.specs.Views.{View, Begins}
 use Rattle.fsfs_turn.specs.Learning.{TurnedFrom}
@@ -45,6 +46,8 @@ pub record IsGiven (name : ℕ) (v u : View) : Type 0 where
 pub record HasName (name : ℕ) (v u : View) : Type 0 where
   pub is : u ≡ record v { pass = record v.pass { seen = length u.seen }; seen = u.seen; section = None; sure = false; given = name ∷ v.given }
   pub all : v.pass.least < length u.seen
+  -- each name that the pass knew to be given is below it
+  pub above : AllBelow name v.given
   pub grows : Begins u.seen v.seen
   pub steps : Steps v u
 
@@ -72,16 +75,16 @@ pub record HasFault (place : DiskPlace) (u : View) : Type 0 where
   pub later : List DiskPlace
   pub is : u.pass.faults ≡ before ++ place ∷ later
 
--- In `db/txn-current` a number stands that is past those that the machine reads.
-pub record IsPastNumbers {Lasting : Type 0} (s : StoreView Lasting) : Type 0 where
+-- In `db/txn-current` the last number stands that a name has digits for: no name is left, since no number comes behind it.
+pub record HasLastName {Lasting : Type 0} (s : StoreView Lasting) : Type 0 where
   pub files : Files
   pub told : s.files ≡ Some files
   pub number : ℕ
   pub line : IsBase36Line (text_at files (only_name TxnCurrent)) number
-  pub past : 2 ^ 64 - 1 ≤ number
+  pub last : last_name ≤ number
 
--- such a number stood there as a call of these turns met the files
-pub record MeetsPastNumbers {T Lasting : Type 0} (store : T → StoreView Lasting) (turns : T) : Type 0 where
+-- it stood there as a call of these turns met the files
+pub record MeetsLastName {T Lasting : Type 0} (store : T → StoreView Lasting) (turns : T) : Type 0 where
   pub met : T
   pub lasting : (store met).below ≡ (store turns).below
-  pub past : IsPastNumbers (store met)
+  pub last : HasLastName (store met)

@@ -10,17 +10,15 @@ ghost use Rattle.fsfs_turn.specs.Labels.{Relabels};
 ghost use Rattle.fsfs_turn.specs.Mountings.{RoseBy};
 ghost use Rattle.fsfs_turn.specs.Views.{View};
 ghost use Rattle.fsfs_turn.specs.Learning.{MayMake, drawn_of};
-ghost use Rattle.fsfs_begin.specs.Steps.{MeetsPastNumbers, Moved};
+ghost use Rattle.fsfs_begin.specs.Steps.{MeetsLastName, Moved};
 ghost use Rattle.fsfs_begin.specs.Faults.{Cause, IfBench, IfDisk, IsAbove, IsDropped, LacksNumber, LeavesNone, bench_faults_in, read_fault};
 ghost use Rattle.fsfs_begin.specs.Begun.{HoldsRoot, IsMade, IsMadeAmong, HasBegun, HasBegunAmong};
-ghost use Rattle.fsfs_begin.specs.Labels.{ListsNoMore};
-ghost use Rattle.fsfs_begin.specs.declared.numbers.Numbers.TheVariants.{OfMachine};
+ghost use Rattle.fsfs_begin.specs.Labels.{IsNew, ListsNoMore};
 
 use crate::begin_fault::BeginFault;
 use crate::begun::Begun;
 use crate::drawing::draw;
 use crate::making::make;
-use crate::numbers::Numbers;
 use crate::root::base_root;
 use fsfs_base::{DiskPlace, RevNum, TxnName};
 use fsfs_revision::ReadError;
@@ -59,7 +57,7 @@ fn begin_named<R, T: Turns<R>>(
         → IfErr result.1 (λ why. (u : View) × T.knows result.0 u × Moved v u × (u.given ≡ v.given) × Cause name.base why u) }
     ensures dropped { IfErr result.1 (λ why. IfBench why (IsDropped (txn_label (pair_of name)) (T.labels result.0) (Rose (T.faults turns) (T.faults result.0)))) }
     ensures listed { OnOk result.1 (Relabels (T.bound turns) (with_label (txn_label (pair_of name))) (T.labels turns) (T.labels result.0)) }
-    ensures unlisted { OnErr result.1 (T.bound turns ≡ false → ListsNoMore name.base (Rose (T.faults turns) (T.faults result.0)) (T.labels turns) (T.labels result.0)) }
+    ensures unlisted { OnErr result.1 (T.bound turns ≡ false → ListsNoMore (λ n. n ≡ name.number.number) name.base (Rose (T.faults turns) (T.faults result.0)) (T.labels turns) (T.labels result.0)) }
     ensures mounted { (T.mounting result.0).mount ≡ (T.mounting turns).mount }
     ensures benches { RoseBy (bench_faults_in result.1) (T.mounting turns).bench_faults (T.mounting result.0).bench_faults }
     ensures duty { T.bound result.0 ≡ T.bound turns }
@@ -81,15 +79,13 @@ fn begin_named<R, T: Turns<R>>(
 /// Begins a transaction on a revision, and gives the turns back, whatever is answered. Its name is drawn first, by a section of its
 /// own; then the root of the base is read, and last the bench is made and filled. No name is given twice, whatever fails and whenever
 /// the disk stops, and whatever fails the lock is given, unless it was found stuck. Where the bench fails it is dropped again, and its
-/// label, as far as the disk lets. Of the numbers that a name may have it draws these; where the next isn't among them, names are full.
+/// label, as far as the disk lets. Names are full where `db/txn-current` has the last number that a name has digits for.
 pub fn begin<R, T: Turns<R>>(
     alloc: Global,
     rt: &R,
     turns: T,
     base: RevNum,
-    numbers: Numbers,
 ) -> (T, Result<Begun<T::Bench>, BeginFault>)
-    requires few { T.bound turns ≡ true → numbers ≡ OfMachine }
     requires due { T.bound turns ≡ true → (v : View) × T.knows turns v × (v.section ≡ None) }
     ensures base { IfOk result.1 (λ begun. begun.name.base ≡ base) }
     // Its bench holds the files that a transaction begins with, and no others: among them its root's text. Its label is kept.
@@ -98,24 +94,22 @@ pub fn begin<R, T: Turns<R>>(
     ensures tells { IfOk result.1 (λ begun. TellsRoot begun.root (T.Bench.contents begun.bench)) }
     ensures sound { IfOk result.1 (λ begun. T.Bench.faults begun.bench ≡ 0) }
     ensures kept { IfSome (T.labels result.0) (λ ls. IfOk result.1 (λ begun. has_label (txn_label (pair_of begun.name)) ls ≡ true)) }
-    // What the pass knows then; and why none was begun, where none was. Or a number stood in `db/txn-current`, as a call met it, that the
-    // machine doesn't read: where only those that it reads are drawn, none was begun then, for want of a number or since its read failed, and
-    // the lock was given.
+    // What the pass knows then; and why none was begun, where none was. Or the last number stood in `db/txn-current`, as a call met it: none
+    // was begun then, for want of a number or since its read failed, and the lock was given.
     ensures begun { (v : View) → T.knows turns v → v.section ≡ None
-        → IfOk result.1 (λ begun. ((u : View) × T.knows result.0 u × HasBegunAmong begun.name begun.root (T.Bench.contents begun.bench) v u)
-        ⊎ (MeetsPastNumbers T.store turns × (numbers ≡ OfMachine → ⊥))) }
+        → IfOk result.1 (λ begun. (u : View) × T.knows result.0 u × HasBegunAmong begun.name begun.root (T.Bench.contents begun.bench) v u) }
     ensures refused { (v : View) → T.knows turns v → v.section ≡ None
         → IfErr result.1 (λ why. ((u : View) × T.knows result.0 u × Moved v u × Cause base why u
         × IfBench why (LeavesNone base (T.labels result.0) (Rose (T.faults turns) (T.faults result.0)) v u))
-        ⊎ (MeetsPastNumbers T.store turns × (numbers ≡ OfMachine → LacksNumber why × ((u : View) × T.knows result.0 u × Moved v u)))) }
+        ⊎ (MeetsLastName T.store turns × LacksNumber why × ((u : View) × T.knows result.0 u × Moved v u))) }
     // Where what is known is of what no reading changes, as it is for a pass that is alone, reading tells it nothing.
     ensures alone { ((old new : T) (v : View) → (T.store new).below ≡ (T.store old).below → T.knows old v → T.knows new v)
         → (v : View) → T.knows turns v → v.section ≡ None
-        → IfOk result.1 (λ begun. ((u : View) × T.knows result.0 u × HasBegun begun.name begun.root (T.Bench.contents begun.bench) v u)
-        ⊎ (MeetsPastNumbers T.store turns × (numbers ≡ OfMachine → ⊥))) }
-    // Its label came to those that were kept, and no other came or went. Where none was begun, none came.
+        → IfOk result.1 (λ begun. (u : View) × T.knows result.0 u × HasBegun begun.name begun.root (T.Bench.contents begun.bench) v u) }
+    // Its label came to those that were kept, and no other came or went. Where none was begun, none came, and none went but that of a name that is
+    // new to the pass.
     ensures listed { IfOk result.1 (λ begun. Relabels (T.bound turns) (with_label (txn_label (pair_of begun.name))) (T.labels turns) (T.labels result.0)) }
-    ensures unlisted { OnErr result.1 (T.bound turns ≡ false → ListsNoMore base (Rose (T.faults turns) (T.faults result.0)) (T.labels turns) (T.labels result.0)) }
+    ensures unlisted { OnErr result.1 (T.bound turns ≡ false → ListsNoMore (IsNew (T.knows turns)) base (Rose (T.faults turns) (T.faults result.0)) (T.labels turns) (T.labels result.0)) }
     // Whatever the disk tells.
     ensures above { IfErr result.1 (IsAbove base) }
     ensures duty { T.bound result.0 ≡ T.bound turns }
@@ -135,7 +129,7 @@ pub fn begin<R, T: Turns<R>>(
             }),
         );
     }
-    match draw(alloc, rt, &mut turns, base, numbers) {
+    match draw(alloc, rt, &mut turns, base) {
         Ok(name) => begin_named(alloc, rt, turns, name),
         Err(fault) => (turns, Err(fault)),
     }

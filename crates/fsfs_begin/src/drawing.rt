@@ -1,19 +1,18 @@
 // The name of a new transaction is drawn, by a section of its own.
-ghost use Rattle.std.specs.Prelude.{◌≡◌, ◌⊎◌, ◌≤◌, ◌-◌, ◌^◌, true, Some, None, OnOk, IfOk, IfErr};
+ghost use Rattle.std.specs.Prelude.{◌≡◌, ◌⊎◌, ◌≤◌, true, Some, None, OnOk, IfOk, IfErr};
 ghost use Rattle.fsfs_base.specs.Failures.{HasCause, Rose};
 ghost use Rattle.fsfs_layout.specs.Small.{IsBase36Line};
 ghost use Rattle.fsfs_machine.specs.declared.machine.Drawn.{Drawn};
 ghost use Rattle.fsfs_machine.specs.declared.machine.Section.TheVariants.{Begun, CountRead};
+ghost use Rattle.fsfs_machine.specs.Machine.{last_name};
 ghost use Rattle.fsfs_turn.specs.Labels.{KeepsLabels};
 ghost use Rattle.fsfs_turn.specs.Views.{View};
-ghost use Rattle.fsfs_begin.specs.Steps.{MeetsPastNumbers, Moved};
-ghost use Rattle.fsfs_begin.specs.declared.numbers.Numbers.TheVariants.{OfMachine};
+ghost use Rattle.fsfs_begin.specs.Steps.{MeetsLastName, Moved};
 ghost use Rattle.fsfs_begin.specs.Faults.{IfDisk, IfNameDisk, IsNoBase, IsNoBench, LacksNumber, NoNumber, named_fault};
 ghost use Rattle.fsfs_begin.specs.Drawing.{Counts, IsSmallIn, Raises, Draws, Drew};
 
 use crate::begin_fault::BeginFault;
 use crate::name_fault::NameFault;
-use crate::numbers::{Numbers, may_draw};
 use fsfs_base::{B36, BeginPlace, DiskPlace, RevNum, TxnName, next_b36};
 use fsfs_layout::{OnlyFile, read_txn_current, write_txn_current};
 use fsfs_turn::Turns;
@@ -34,11 +33,11 @@ fn number_in(bytes: &[u8]) -> Result<B36, NameFault>
 }
 
 // The number that stands in `db/txn-current`, by the section's first call. A file that isn't there counts as empty. Where the machine has no
-// reading of it the pass knows what it knew.
+// reading of it, the last one, the pass knows what it knew.
 fn read_number<R, T: Turns<R>>(rt: &R, turns: &mut T, base: RevNum) -> Result<B36, NameFault>
     requires due { T.bound turns.old ≡ true → (v : View) × T.knows turns.old v × (v.section ≡ Some Begun) × (base ≤ v.pass.least) }
     ensures counted { (v : View) → T.knows turns.old v → v.section ≡ Some Begun → base ≤ v.pass.least
-        → Counts (T.knows turns.new) base result v ⊎ (T.knows turns.new v × IfOk result (λ b. 2 ^ 64 - 1 ≤ b.number) × IfErr result NoNumber × MeetsPastNumbers T.store turns.old) }
+        → Counts (T.knows turns.new) base result v ⊎ (T.knows turns.new v × IfOk result (λ b. last_name ≤ b.number) × IfErr result NoNumber × MeetsLastName T.store turns.old) }
     ensures mounted { T.mounting turns.new ≡ T.mounting turns.old }
     ensures duty { T.bound turns.new ≡ T.bound turns.old }
     ensures listed { KeepsLabels (T.bound turns.old) (T.labels turns.old) (T.labels turns.new) }
@@ -79,20 +78,18 @@ fn raise<R, T: Turns<R>>(rt: &R, turns: &mut T, text: &[u8]) -> Result<(), Begin
     }
 }
 
-// Draws a name with the lock held: the number that stands in `db/txn-current`, where the next one takes its place. One that the machine
-// doesn't read is drawn where any may be; else nothing is done, and the pass knows what it knew.
+// Draws a name with the lock held: the number that stands in `db/txn-current`, where the next one takes its place. Where none
+// comes behind it nothing is done, and the pass knows what it knew.
 fn next_name<R, T: Turns<R>>(
     alloc: Global,
     rt: &R,
     turns: &mut T,
     base: RevNum,
-    numbers: Numbers,
 ) -> Result<TxnName, NameFault>
-    requires few { T.bound turns.old ≡ true → numbers ≡ OfMachine }
     requires due { T.bound turns.old ≡ true → (v : View) × T.knows turns.old v × (v.section ≡ Some Begun) × (base ≤ v.pass.least) }
     ensures base { IfOk result (λ name. name.base ≡ base) }
     ensures drawn { (v : View) → T.knows turns.old v → v.section ≡ Some Begun → base ≤ v.pass.least
-        → Draws (T.knows turns.new) base result v ⊎ (MeetsPastNumbers T.store turns.old × (numbers ≡ OfMachine → OnOk result ⊥ × IfErr result NoNumber × T.knows turns.new v)) }
+        → Draws (T.knows turns.new) base result v ⊎ (MeetsLastName T.store turns.old × OnOk result ⊥ × IfErr result NoNumber × T.knows turns.new v) }
     ensures mounted { T.mounting turns.new ≡ T.mounting turns.old }
     ensures duty { T.bound turns.new ≡ T.bound turns.old }
     ensures listed { KeepsLabels (T.bound turns.old) (T.labels turns.old) (T.labels turns.new) }
@@ -103,9 +100,6 @@ fn next_name<R, T: Turns<R>>(
         Ok(number) => number,
         Err(fault) => return Err(fault),
     };
-    if !may_draw(numbers, &number) {
-        return Err(NameFault::NamesFull);
-    }
     let Some(next) = next_b36(&number) else {
         return Err(NameFault::NamesFull);
     };
@@ -137,13 +131,11 @@ pub(crate) fn draw<R, T: Turns<R>>(
     rt: &R,
     turns: &mut T,
     base: RevNum,
-    numbers: Numbers,
 ) -> Result<TxnName, BeginFault>
-    requires few { T.bound turns.old ≡ true → numbers ≡ OfMachine }
     requires due { T.bound turns.old ≡ true → (v : View) × T.knows turns.old v × (v.section ≡ None) × (base ≤ v.pass.least) }
     ensures base { IfOk result (λ name. name.base ≡ base) }
     ensures drew { (v : View) → T.knows turns.old v → v.section ≡ None → base ≤ v.pass.least
-        → Drew (T.knows turns.new) base result v ⊎ (MeetsPastNumbers T.store turns.old × (numbers ≡ OfMachine → OnOk result ⊥ × IfErr result LacksNumber × ((u : View) × T.knows turns.new u × Moved v u))) }
+        → Drew (T.knows turns.new) base result v ⊎ (MeetsLastName T.store turns.old × OnOk result ⊥ × IfErr result LacksNumber × ((u : View) × T.knows turns.new u × Moved v u)) }
     ensures mounted { T.mounting turns.new ≡ T.mounting turns.old }
     ensures duty { T.bound turns.new ≡ T.bound turns.old }
     ensures listed { KeepsLabels (T.bound turns.old) (T.labels turns.old) (T.labels turns.new) }
@@ -156,7 +148,7 @@ pub(crate) fn draw<R, T: Turns<R>>(
         Ok(()) => {}
         Err(place) => return Err(BeginFault::Stuck(place)),
     }
-    let drawn = next_name(alloc, rt, turns, base, numbers);
+    let drawn = next_name(alloc, rt, turns, base);
     turns.give_lock();
     match drawn {
         Ok(name) => Ok(name),

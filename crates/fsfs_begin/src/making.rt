@@ -118,7 +118,7 @@ pub(crate) fn make<R, T: Turns<R>>(
         → IfErr result (λ why. (u : View) × T.knows turns.new u × Moved v u × (u.given ≡ v.given) × Cause name.base why u) }
     ensures dropped { IfErr result (λ why. IfBench why (IsDropped (txn_label (pair_of name)) (T.labels turns.new) (Rose (T.faults turns.old) (T.faults turns.new)))) }
     ensures listed { OnOk result (Relabels (T.bound turns.old) (with_label (txn_label (pair_of name))) (T.labels turns.old) (T.labels turns.new)) }
-    ensures unlisted { OnErr result (T.bound turns.old ≡ false → ListsNoMore name.base (Rose (T.faults turns.old) (T.faults turns.new)) (T.labels turns.old) (T.labels turns.new)) }
+    ensures unlisted { OnErr result (T.bound turns.old ≡ false → ListsNoMore (λ n. n ≡ name.number.number) name.base (Rose (T.faults turns.old) (T.faults turns.new)) (T.labels turns.old) (T.labels turns.new)) }
     ensures mounted { (T.mounting turns.new).mount ≡ (T.mounting turns.old).mount }
     ensures benches { RoseBy (bench_faults_in result) (T.mounting turns.old).bench_faults (T.mounting turns.new).bench_faults }
     ensures duty { T.bound turns.new ≡ T.bound turns.old }

@@ -3,12 +3,13 @@ use Rattle.std.proofs.Common.{◌≡◌, ◌≤◌, ℕ, Bool, true, false, List
 use Rattle.std.proofs.lemmas.Option.{same_Some, option_and_then_some}
 use Rattle.std.specs.Prelude.{Option, Some, None, option_map, unwrap_or, codes, if◌then◌else◌}
 use Rattle.std.specs.Str.{bytes_eq}
-use Rattle.clap.specs.Words.{first_of}
+use Rattle.clap.specs.Words.{Row, first_of}
 use Rattle.fsfs_base.specs.Paths.{Path}
 use Rattle.fsfs_cli.specs.Commands.{create_app, jobs_app, lstxns_app, rmtxns_app, youngest_app, uuid_app, revision_app, tree_app, history_app, cat_app, revision_verb, verb_named}
 use Rattle.fsfs_cli.specs.Grammars.{shard_of, workers_of}
 use Rattle.fsfs_cli.specs.Readings.{Asks}
-use Rattle.fsfs_cli.specs.Words.{Asked, asked, asked_by, asked_by_command, asked_by_jobs, taken, number_of, shard_in, workers_in, txns_in, revision_in, pathless, create_in, jobs_in, rmtxns_in, tree_in, cat_in, history_in, printed_in, create_asked, jobs_asked, rmtxns_asked, tree_asked, cat_asked, history_asked, printed_asked, printed_by}
+use Rattle.fsfs_cli.specs.Words.{Asked, asked, asked_by, asked_by_command, asked_by_jobs, taken, number_of, shard_in, workers_in, run_by, run_in, txns_in, revision_in, pathless, create_in, jobs_in, rmtxns_in, tree_in, cat_in, history_in, printed_in, create_asked, jobs_asked, rmtxns_asked, tree_asked, cat_asked, history_asked, printed_asked, printed_by}
+use Rattle.fsfs_cli.specs.declared.request.JobRun.{JobRun}
 use Rattle.fsfs_cli.specs.declared.request.Look.TheVariants.{Youngest, Uuid}
 use Rattle.fsfs_cli.specs.declared.request.Printed.{Printed}
 use Rattle.fsfs_cli.specs.declared.request.Printed.TheVariants.{Author, Date, Log, Info, Changed}
@@ -32,7 +33,7 @@ IsTaskOf tool (Create shard) = (tool ≡ tools.Admin) × IsShardSize shard
 IsTaskOf tool ListTxns = tool ≡ tools.Admin
 IsTaskOf tool (RemoveTxns txns) = tool ≡ tools.Admin
 IsTaskOf tool (Look look) = tool ≡ tools.Look
-IsTaskOf tool (RunJobs workers) = (tool ≡ tools.Jobs) × AreWorkers workers
+IsTaskOf tool (RunJobs run) = (tool ≡ tools.Jobs) × AreWorkers run.workers
 
 -- ---- the size of a shard
 
@@ -136,10 +137,15 @@ by_command tool [] a path e = absurd cc
 by_command tool (word ∷ words) a path e = option_and_then_some (λ v. asked_by v words) (verb_named tool word) a e (λ v named is.
     subst (λ (t : Tool). IsTaskOf t (a.task path)) (sym (tool_named tool word v named)) (by_verb v words a path is))
 
+run_workers : (rows : List Row) (run : JobRun) → run_in rows ≡ Some run → AreWorkers run.workers
+run_workers rows run e =
+    let n = mapped run_by (workers_in rows) run e in
+    subst AreWorkers (ap (λ (r : JobRun). r.workers) n.2) (given_workers (first_of (codes "workers") rows) n.0 n.1)
+
 by_jobs : (words : List (List ℕ)) (a : Asked) (path : Path) → asked_by_jobs words ≡ Some a → IsTaskOf tools.Jobs (a.task path)
 by_jobs words a path e = option_and_then_some jobs_asked (taken jobs_app words) a e (λ rows found is.
-    let n = mapped (jobs_in rows) (workers_in rows) a is in
-    subst (λ (x : Asked). IsTaskOf tools.Jobs (x.task path)) n.2 (refl, given_workers (first_of (codes "workers") rows) n.0 n.1))
+    let run = mapped (jobs_in rows) (run_in rows) a is in
+    subst (λ (x : Asked). IsTaskOf tools.Jobs (x.task path)) run.2 (refl, run_workers rows run.0 run.1))
 
 asked_of : (tool : Tool) (words : List (List ℕ)) (a : Asked) (path : Path) → asked tool words ≡ Some a → IsTaskOf tool (a.task path)
 asked_of tools.Admin words a path e = by_command tools.Admin words a path e

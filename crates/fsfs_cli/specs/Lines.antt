@@ -73,7 +73,7 @@ rep_what_values rep.Hash = codes " Hash"
 rep_what_values rep.BadName = codes " BadName"
 rep_what_values rep.EntryValue = codes " EntryValue"
 
--- what is damaged in a revision
+-- what is damaged in a revision, with the count that is kept and the one that was found
 abbrev pub what_values : DamageKind → List ℕ
 what_values damaged.Trailer = codes " Trailer"
 what_values damaged.NodeRev = codes " NodeRev"
@@ -85,6 +85,11 @@ what_values damaged.Changes = codes " Changes"
 what_values damaged.Props = codes " Props"
 what_values damaged.BadDate = codes " BadDate"
 what_values damaged.Missing = codes " Missing"
+what_values damaged.ChangePath = codes " ChangePath"
+what_values damaged.PredId = codes " PredId"
+what_values damaged.CopyId = codes " CopyId"
+what_values (damaged.Minfo kept found) = codes " Minfo" ++ ((32 ∷ decimal kept) ++ 32 ∷ decimal found)
+what_values damaged.MinfoRange = codes " MinfoRange"
 
 -- where a revision is damaged, and what is
 abbrev pub damage_values : Damage → List ℕ

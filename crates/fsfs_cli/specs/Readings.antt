@@ -3,6 +3,7 @@ use Rattle.std.specs.Prelude.{◌≡◌, [], ℕ, List, Option, Some, None, Resu
 use Rattle.fsfs_base.specs.Paths.{Path}
 use Rattle.fsfs_base.specs.PathTexts.{IsBadPath}
 use Rattle.fsfs_cli.specs.Grammars.{path_meant, IsPathOf}
+use Rattle.fsfs_cli.specs.Requests.{IsNoneOf, paths_of}
 use Rattle.fsfs_cli.specs.Words.{Asked, asked}
 use Rattle.fsfs_cli.specs.declared.faults.words_fault.WordsFault.{WordsFault}
 use Rattle.fsfs_cli.specs.declared.faults.words_fault.WordsFault.TheVariants.{Usage, BadPath, Memory}
@@ -47,6 +48,10 @@ AsksFor asked repos task = (a : Asked) × (asked ≡ Some a) × Means a repos ta
 -- a program's words ask for this task, of the repository at this path
 abbrev pub Asks : Tool → List (List ℕ) → List ℕ → Task → Type 0
 Asks tool words = AsksFor (asked tool words)
+
+-- no task that they ask for touches this path
+abbrev pub IsUnnamed : Tool → List (List ℕ) → List ℕ → Type 0
+IsUnnamed tool words path = (repos : List ℕ) (task : Task) → Asks tool words repos task → IsNoneOf (paths_of repos task) path
 
 -- the word for a path means none: at which byte of the path's text, and why
 abbrev pub IsBadPathOf : Asked → BadPathAt → Type 0

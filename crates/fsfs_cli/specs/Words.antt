@@ -7,6 +7,7 @@ use Rattle.clap.specs.Walk.{is_empty}
 use Rattle.fsfs_cli.specs.Commands.{verb_named, create_app, jobs_app, lstxns_app, rmtxns_app, youngest_app, uuid_app, revision_app, tree_app, history_app, cat_app}
 use Rattle.fsfs_cli.specs.Grammars.{revision_of, shard_of, workers_of, txns_named}
 use Rattle.fsfs_base.specs.Paths.{Path}
+use Rattle.fsfs_cli.specs.declared.request.JobRun.{JobRun}
 use Rattle.fsfs_cli.specs.declared.request.Task.{Task}
 use Rattle.fsfs_cli.specs.declared.request.Task.TheVariants.{Create, ListTxns, RemoveTxns, Look, RunJobs}
 use Rattle.fsfs_cli.specs.declared.request.Look.TheVariants.{Youngest, Uuid, AtRevision}
@@ -47,6 +48,13 @@ shard_in rows = option_map (λ n. unwrap_or n 1000) (number_of shard_of (first_o
 abbrev pub workers_in : List Row → Option ℕ
 workers_in rows = option_map (λ n. unwrap_or n 1) (number_of workers_of (first_of (codes "workers") rows))
 
+-- what a run of jobs is asked for
+abbrev pub run_by : ℕ → JobRun
+run_by workers = record { workers = workers }
+
+abbrev pub run_in : List Row → Option JobRun
+run_in rows = option_map run_by (workers_in rows)
+
 -- TXN..
 abbrev pub txns_in : List Row → Option (List (ℕ × ℕ))
 txns_in rows = txns_named (unwrap_or (all_of (codes "TXN") rows) [])
@@ -78,8 +86,8 @@ look_at revision printed = Look (AtRevision (record { revision = revision; print
 abbrev pub create_in : List Row → ℕ → Asked
 create_in rows shard = pathless rows (Create shard)
 
-abbrev pub jobs_in : List Row → ℕ → Asked
-jobs_in rows workers = pathless rows (RunJobs workers)
+abbrev pub jobs_in : List Row → JobRun → Asked
+jobs_in rows run = pathless rows (RunJobs run)
 
 abbrev pub rmtxns_in : List Row → List (ℕ × ℕ) → Asked
 rmtxns_in rows txns = pathless rows (RemoveTxns txns)
@@ -103,7 +111,7 @@ abbrev pub create_asked : List Row → Option Asked
 create_asked rows = option_map (create_in rows) (shard_in rows)
 
 abbrev pub jobs_asked : List Row → Option Asked
-jobs_asked rows = option_map (jobs_in rows) (workers_in rows)
+jobs_asked rows = option_map (jobs_in rows) (run_in rows)
 
 abbrev pub rmtxns_asked : List Row → Option Asked
 rmtxns_asked rows = option_map (rmtxns_in rows) (txns_in rows)

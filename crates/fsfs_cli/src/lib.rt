@@ -25,6 +25,6 @@ pub use faults::request_fault::RequestFault;
 pub use faults::values::{digest_text, number_text, txn_text};
 pub use faults::words_fault::WordsFault;
 pub use read::read_words;
-pub use request::{Look, Printed, Request, RevisionLook, Task};
+pub use request::{JobRun, Look, Printed, Request, RevisionLook, Task};
 pub use tool::Tool;
 pub use txn_names::TxnNames;

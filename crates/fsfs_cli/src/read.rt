@@ -2,7 +2,7 @@
 ghost use Rattle.std.specs.Prelude.{◌≡◌, ◌==◌, ℕ, List, map, string_bytes, true, is_some, option_map, IfOk};
 ghost use Rattle.clap.specs.Words.{app_of, found_of, is_simple_and_free, rows_of, first_of, IsParsedFrom};
 ghost use Rattle.fsfs_cli.specs.Commands.{revision_app};
-ghost use Rattle.fsfs_cli.specs.Words.{taken, asked, asked_by, asked_by_command, asked_by_jobs, printed_by, revision_in, shard_in, workers_in, txns_in, shows_ids, path_in, required_in};
+ghost use Rattle.fsfs_cli.specs.Words.{taken, asked, asked_by, asked_by_command, asked_by_jobs, printed_by, revision_in, shard_in, workers_in, run_in, txns_in, shows_ids, path_in, required_in};
 ghost use Rattle.fsfs_cli.specs.Readings.{Reads, Finds, GivesPath};
 
 use crate::commands::{
@@ -11,7 +11,7 @@ use crate::commands::{
 };
 use crate::faults::words_fault::WordsFault;
 use crate::path_word::read_path;
-use crate::request::{Look, Printed, Request, RevisionLook, Task};
+use crate::request::{JobRun, Look, Printed, Request, RevisionLook, Task};
 use crate::revision::read_revision;
 use crate::shard::read_shard;
 use crate::tool::Tool;
@@ -98,6 +98,14 @@ fn workers_given(matches: &ArgMatches<'_>) -> Result<u32, WordsFault>
     }
 }
 
+// What a run of jobs is asked for.
+fn run_given(matches: &ArgMatches<'_>) -> Result<JobRun, WordsFault>
+    ensures { Finds (run_in (rows_of (found_of matches.now))) (λ run. run) result }
+{
+    let workers = workers_given(matches)?;
+    Ok(JobRun { workers })
+}
+
 // TXN..
 fn txns_given(alloc: Global, matches: &ArgMatches<'_>) -> Result<TxnNames, WordsFault>
     ensures { Finds (txns_in (rows_of (found_of matches.now))) (λ names. names) result }
@@ -143,8 +151,8 @@ fn read_jobs<'a>(alloc: Global, words: &'a [String]) -> Result<Request<'a>, Word
 {
     let matches = matches_of(jobs_command(alloc)?, words)?;
     let repos = required(&matches, "REPOS");
-    let workers = workers_given(&matches)?;
-    let task = Task::RunJobs { workers };
+    let job_run = run_given(&matches)?;
+    let task = Task::RunJobs(job_run);
     Ok(Request { repos, task })
 }
 

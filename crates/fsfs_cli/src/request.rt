@@ -30,14 +30,18 @@ pub enum Task {
     /// A command of `svnlook`, which reads and prints.
     Look(Look),
     /// `svnjobs`: the jobs of the script in the input are done.
-    RunJobs {
-        /// How many workers do them: 1 or 2.
-        workers: u32,
-    },
+    RunJobs(JobRun),
+}
+
+/// What a run of jobs is asked for.
+#[derive(Debug, PartialEq, Eq, Drop)]
+pub struct JobRun {
+    /// How many workers do the jobs: 1 or 2.
+    pub workers: u32,
 }
 
 /// What is looked at.
-#[derive(Debug, PartialEq, Eq, Drop)]
+#[derive(Debug, Drop)]
 pub enum Look {
     /// `youngest`: the number of the youngest revision.
     Youngest,
@@ -48,7 +52,7 @@ pub enum Look {
 }
 
 /// A look at a revision.
-#[derive(Debug, PartialEq, Eq, Drop)]
+#[derive(Debug, Drop)]
 pub struct RevisionLook {
     /// The revision; none for the youngest.
     pub revision: Option<u64>,
@@ -56,7 +60,7 @@ pub struct RevisionLook {
 }
 
 /// What is printed of a revision.
-#[derive(Debug, PartialEq, Eq, Drop)]
+#[derive(Debug, Drop)]
 pub enum Printed {
     /// `tree`: the nodes at and below a path, with their ids or without.
     Tree { show_ids: bool, path: FsPath },

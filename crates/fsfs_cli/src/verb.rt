@@ -5,7 +5,7 @@ ghost use Rattle.fsfs_cli.specs.Commands.{revision_verb as revision_verb_named, 
 use crate::tool::Tool;
 
 /// A command, as its word names it.
-#[derive(Clone, Copy, Debug, PartialEq, Eq)]
+#[derive(Clone, Copy)]
 pub enum Verb {
     /// `svnadmin create`.
     Create,

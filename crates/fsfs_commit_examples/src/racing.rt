@@ -5,7 +5,7 @@ use crate::calls::MOMENT;
 use crate::jobs::edit_all;
 use crate::rivals::Rivals;
 use fsfs_base::{Pairs, RevNum};
-use fsfs_begin::{Begun, Numbers, begin};
+use fsfs_begin::{Begun, begin};
 use fsfs_commit::{CommitFault, CommitRefusal, TxnDraft, commit, dated};
 use fsfs_create::open;
 use fsfs_disk::Bench;
@@ -86,7 +86,7 @@ fn race_from(
     out: &mut Transcript,
 ) -> MemDisk {
     let rt = ();
-    let (store, begun) = begin(alloc, &rt, store, base, Numbers::Any);
+    let (store, begun) = begin(alloc, &rt, store, base);
     let Ok(begun) = begun else {
         out.say("? not begun");
         return store.into_disk();

@@ -1,6 +1,6 @@
 // A transaction that is begun and purged by turns.
 use fsfs_base::RevNum;
-use fsfs_begin::{Begun, Numbers, PurgeFault, begin, purge};
+use fsfs_begin::{Begun, PurgeFault, begin, purge};
 use fsfs_create::{OpenedStore, Unopened, open_store};
 use fsfs_example_calls::{say_begin_fault, say_disk_fault, say_open_fault, say_txn};
 use fsfs_memory::{MemBench, MemDisk, Transcript};
@@ -33,7 +33,7 @@ fn begin_and_purge(
     out: &mut Transcript,
 ) -> MemDisk {
     let rt = ();
-    let (back, begun) = begin(alloc, &rt, store, base, Numbers::Any);
+    let (back, begun) = begin(alloc, &rt, store, base);
     let mut store = back;
     match begun {
         Ok(begun) => purge_begun(alloc, &mut store, begun, out),

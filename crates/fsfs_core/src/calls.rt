@@ -15,6 +15,9 @@ use fsfs_machine::{Contents, Drawn, FileName, Lock, NameChange, Outcome, Section
 use std::alloc::AllocError;
 use std::mem;
 
+// The last number that a transaction's name has digits for, and that none is given: no number comes behind it.
+const LAST_NAME: u128 = 170581728179578208255;
+
 impl State {
     // The section of the pass, taken out where it holds the lock.
     fn take_section(&mut self, p: u64) -> Option<Section>
@@ -176,7 +179,7 @@ impl State {
             }
             Section::RevFirm(_) => Ok(Some(NameChange::Put(
                 FileName::CurrentNext,
-                Contents::Number(number),
+                Contents::Number(number as u128),
             ))),
             Section::CurrentPut(_) => self.renaming(FileName::CurrentNext, FileName::Current),
             Section::CountRenamed(_) | Section::PropsPut(_) | Section::CurrentRenamed(_) => {
@@ -280,7 +283,7 @@ impl State {
         match find_number(&self.disk, &FileName::Counter) {
             None => Ok(Outcome::Barred),
             Some(name) => {
-                if (base.get() as u64) < self.count() && name < u64::MAX {
+                if (base.get() as u64) < self.count() && name < LAST_NAME {
                     self.end_read(p, drawn_section(name, name + 1, base, went), went)?;
                     Ok(answer_of(went))
                 } else {

@@ -10,7 +10,7 @@ use fsfs_machine::files::is_fine;
 use fsfs_machine::labels::{drop_label, is_labelled, put_label};
 use fsfs_machine::passes::learn;
 use fsfs_machine::section::{answer_of, is_lock_up, is_outside_section};
-use fsfs_machine::{Drawn, Marks, Numbers, Outcome, Txn, Went};
+use fsfs_machine::{Drawn, Marks, Names, Outcome, Txn, Went};
 use std::alloc::AllocError;
 use std::collections::VecDeque;
 use std::mem;
@@ -43,7 +43,7 @@ impl State {
         learn(&mut self.passes, p, seen, place, went)
     }
 
-    fn unlabel(&mut self, name: u64, went: &Went) -> Result<(), AllocError>
+    fn unlabel(&mut self, name: u128, went: &Went) -> Result<(), AllocError>
         ensures { OnOk result (world_of self.new ≡ record (world_of self.old) { labels = unlabelled went.now name self.old.labels.items }) }
     {
         let labels = mem::replace(&mut self.labels, VecDeque::new(self.alloc));
@@ -93,7 +93,7 @@ impl State {
         ensures { IfOk result (λ o. o ≡ listed (world_of self.now) went.now) }
     {
         if is_fine(went) {
-            Ok(Outcome::Names(Numbers::of(self.alloc, &self.labels)?))
+            Ok(Outcome::Names(Names::of(self.alloc, &self.labels)?))
         } else {
             Ok(Outcome::Failed)
         }
@@ -150,7 +150,7 @@ impl State {
         }
     }
 
-    pub(crate) fn drop_label(&mut self, name: u64, went: &Went) -> Result<Outcome, AllocError>
+    pub(crate) fn drop_label(&mut self, name: u128, went: &Went) -> Result<Outcome, AllocError>
         ensures { IfOk result (λ o. did (world_of self.new) o ≡ (if is_up self.old.lock then barred (world_of self.old) else label_dropped (world_of self.old) name went.now)) }
     {
         if is_lock_up(&self.lock) {

@@ -11,7 +11,7 @@ mod txns;
 
 pub use fsfs_base::{BeginPlace, CommitPlace, DiskPlace};
 pub use fsfs_machine::{
-    Bytes, Coming, Contents, Drawn, Entry, FileName, Line, Lock, Marks, NameChange, Numbers,
+    Bytes, Coming, Contents, Drawn, Entry, FileName, Line, Lock, Marks, NameChange, Names, Numbers,
     Outcome, Pass, Picks, Places, Recorded, Section, Step, Txn, Went, every_run_keeps_one_history,
 };
 pub use state::State;

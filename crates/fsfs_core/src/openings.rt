@@ -108,7 +108,8 @@ impl State {
             find_number(&self.disk, &FileName::Floor),
         ) {
             (Some(last), Some(floor)) => {
-                if last < u64::MAX {
+                if last < u64::MAX as u128 {
+                    let last = last as u64;
                     self.open_at(last, last + 1, floor)
                 } else {
                     Ok(Outcome::Missing)
@@ -127,7 +128,7 @@ impl State {
         Ok(Outcome::Failed)
     }
 
-    fn open_at(&mut self, last: u64, count: u64, floor: u64) -> Result<Outcome, AllocError>
+    fn open_at(&mut self, last: u64, count: u64, floor: u128) -> Result<Outcome, AllocError>
         requires { count ≡ last + 1 }
         ensures { IfOk result (λ o. did (world_of self.new) o ≡ opened (world_of self.old) last floor (read_back self.old.disk.items (last + 1))) }
     {

@@ -11,7 +11,7 @@ use fsfs_machine::passes::{join_to, learn, read_floor_by};
 use fsfs_machine::{Contents, FileName, Outcome, Went};
 use std::alloc::AllocError;
 
-fn floor_answer(found: Option<u64>, went: &Went) -> Outcome
+fn floor_answer(found: Option<u128>, went: &Went) -> Outcome
     ensures { result ≡ either went.now (floor_of found) Outcome.Failed }
 {
     if !is_fine(went) {

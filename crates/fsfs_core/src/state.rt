@@ -26,14 +26,14 @@ pub struct State {
     // How many revisions there were at the opening, and the entries of those since.
     pub(crate) opening: u64,
     pub(crate) since: Vec<Entry>,
-    pub(crate) floor: u64,
+    pub(crate) floor: u128,
     // The newest name first.
-    pub(crate) given: VecDeque<u64>,
+    pub(crate) given: VecDeque<u128>,
     // The newest label first.
-    pub(crate) labels: VecDeque<u64>,
+    pub(crate) labels: VecDeque<u128>,
     pub(crate) named: Vec<Drawn>,
     pub(crate) txns: Vec<Txn>,
-    pub(crate) spent: Vec<u64>,
+    pub(crate) spent: Vec<u128>,
     pub(crate) passes: Vec<Pass>,
 }
 

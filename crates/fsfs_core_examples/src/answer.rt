@@ -1,15 +1,15 @@
 // What a step answers, and which history stands, as lines write them.
 use fsfs_base::{FsPath, RevNum};
-use fsfs_core::{Numbers, Outcome, State};
+use fsfs_core::{Names, Outcome, State};
 use fsfs_memory::Transcript;
 use fsfs_model::flat_history;
 use fsfs_tree::{History, Revision, Text, Tree};
 use std::alloc::Global;
 use std::collections::BTreeSet;
 
-fn put_names(out: &mut Transcript, names: &Numbers) {
+fn put_names(out: &mut Transcript, names: &Names) {
     out.say("names");
-    for number in names.numbers.iter() {
+    for number in names.names.iter() {
         out.tell(" ", number);
     }
 }

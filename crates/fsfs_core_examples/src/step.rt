@@ -113,7 +113,7 @@ fn dropping(alloc: Global, word: &str, words: &mut Words<'_>, youngest: u64) -> 
             went: words.went(),
         },
         "drop-label" => Step::DropLabel {
-            name: words.number(),
+            name: words.number() as u128,
             went: words.went(),
         },
         _ => reading(alloc, word, words, youngest),

@@ -5,13 +5,14 @@ use Rattle.fsfs_base.proofs.Unique.{numeral_decimal}
 use Rattle.fsfs_layout.specs.Hash.Dump.{dump_text}
 use Rattle.fsfs_layout.specs.CreatedFiles.{date_properties}
 use Rattle.std.specs.Prelude.{codes, decimal}
-use Rattle.std.proofs.Math.Nat.{zero-div}
 use Rattle.std.proofs.lemmas.Fmt.{decimal_digit}
 use Rattle.fsfs_base.specs.Grammar.Numeral.{numeral_at, plain_at}
 use Rattle.fsfs_base.proofs.Numerals.{numeral_one, numeral_found}
 use Rattle.fsfs_base.proofs.Unique.{numeral_same}
 use Rattle.fsfs_base.specs.Files.{NamedFile}
-use Rattle.fsfs_layout.specs.Names.{in_shard}
+use Rattle.fsfs_layout.specs.Layouts.{IsSharded}
+use Rattle.fsfs_layout.specs.Names.{in_folder}
+use Rattle.fsfs_stands.proofs.NewRepository.{first_name as first_in}
 use Rattle.fsfs_layout.specs.declared.layout.Layout.{Layout}
 use Rattle.fsfs_layout.specs.Small.{IsBase36Line}
 
@@ -43,8 +44,6 @@ dated_text date size =
     (λ i. T (eight i) (number i))
     ∙ ap (λ (t : List ℕ). codes "K 8\nsvn:date\nV 27\n" ++ t) (ap (λ (t : List ℕ). t ++ codes "END\n") (append-nil (date ++ 10 ∷ [])) ∙ append_assoc date (10 ∷ []) (codes "END\n"))
 
--- whatever the layout, revision 0 is in shard 0
-pub first_name : (folder name : List ℕ) (n : Layout) → name ≡ in_shard folder n 0 → name ≡ folder ++ 47 ∷ codes "0" ++ 47 ∷ codes "0"
-first_name folder name n is =
-    is ∙ ap (λ (k : ℕ). folder ++ 47 ∷ decimal k ++ 47 ∷ decimal 0) (zero-div n.shard_size)
-    ∙ ap (λ (t : List ℕ). folder ++ 47 ∷ t ++ 47 ∷ t) zero_text
+-- of whatever size the shards are, revision 0 is in shard 0
+pub first_name : (folder name : List ℕ) (n : Layout) → IsSharded n → name ≡ in_folder folder n 0 → name ≡ folder ++ 47 ∷ codes "0" ++ 47 ∷ codes "0"
+first_name folder name n sharded is = is ∙ first_in folder n sharded

@@ -18,7 +18,7 @@ use Rattle.fsfs_create.specs.Known.{HasSeenAll}
 -- the names were made firm, and the small files said so: a pass that has seen the history is known by what they said
 pub known_now : (old new : Option Trace) (said : Opened) (knows : View → Type 0) → Performs FirmNames old new → IfSome old (λ t. IsOpened (small_texts (files_now t)) said)
     → ((v : View) → KnowsAlone said.layout said.youngest None new v → knows v)
-    → IfSome old (λ t. (h : List Revision) (stands : StandsFor (files_now t) h) → LeftoversAgree stands → HasSeenAll knows t stands.opened.min_unpacked_rev h)
+    → IfSome old (λ t. (h : List Revision) (stands : StandsFor (files_now t) h) → LeftoversAgree stands → HasSeenAll knows t stands.opened.min_unpacked_rev stands.opened.next_txn.number h)
 known_now None new said knows firm opened known = tt
 known_now (Some t) new said knows firm opened known = λ h stands agreeing.
     let k = store_is_known t.first t.labels t.operations h stands agreeing in
@@ -28,4 +28,4 @@ known_now (Some t) new said knows firm opened known = λ h stands agreeing.
     let at_youngest = subst (λ y. KnowsAlone said.layout y None (Some (record { first = t.first; labels = t.labels; operations = Done FirmNames ∷ t.operations })) k.0) youngest at_layout in
     let mine : length k.0.pass.mine ≡ 0 = ap (λ p. length p.mine) k.3 in
     let long : length (revisions k.0.seen) ≡ length h = ap length k.4 in
-    (k.0, known k.0 (subst (λ o. KnowsAlone said.layout said.youngest None o k.0) (sym firm) at_youngest), k.2, k.3, k.4, k.5, omega (arith, k.1.1.own, mine, long, revisions_length k.0.seen))
+    (k.0, known k.0 (subst (λ o. KnowsAlone said.layout said.youngest None o k.0) (sym firm) at_youngest), k.2, k.3, k.4, k.5, omega (arith, k.1.1.own, mine, long, revisions_length k.0.seen), k.6)

@@ -5,12 +5,12 @@ use Rattle.std.specs.Result.{is_err}
 use Rattle.std.proofs.lemmas.Option.{same_Some}
 use Rattle.fsfs_base.specs.Files.{Files}
 use Rattle.fsfs_base.specs.declared.small_fault.SmallFault.{SmallFault}
-use Rattle.fsfs_base.specs.Grammar.Relations.{begins}
-use Rattle.std.proofs.lemmas.Fmt.{decimal_digit}
-use Rattle.fsfs_base.proofs.Unique.{numeral_decimal}
 use Rattle.fsfs_disk.specs.Trace.{Trace, Performs, FailsAt, FirmNames, Done, Attempted, add_operation, files_now}
-use Rattle.fsfs_layout.specs.Formats.{IsCount, IsFormat}
-use Rattle.fsfs_layout.specs.declared.small_files.format_file.Format.TheVariants.{Linear, Sharded, Other}
+use Rattle.fsfs_layout.specs.Formats.{IsFormat}
+use Rattle.fsfs_layout.specs.declared.folders.Folders.{Folders}
+use Rattle.fsfs_layout.specs.declared.format.Format.{Format}
+use Rattle.fsfs_layout.specs.declared.format.Format.TheVariants.{Four}
+use Rattle.fsfs_layout.specs.declared.small_files.format_file.FormatFile.TheVariants.{Known}
 use Rattle.fsfs_layout.specs.Small.{IsUuid, IsRevLine, IsMinUnpackedRev, IsBase36Line, IsRefusedFile, IsMinUnpackedFault}
 use Rattle.fsfs_base.specs.declared.small_fault.SmallFile.TheVariants as file
 use Rattle.fsfs_layout.specs.declared.layout.Layout.{Layout}
@@ -59,30 +59,9 @@ refused_txn n s u c m x uuid youngest floor fault su iu sc ic sm im within sx ix
       ),
     )
 
--- a number that doesn't begin with 0 is at least 1
-count_fits : (text : List ℕ) (n : ℕ) → IsCount text n → (0 < n) × (n ≤ 2147483647)
-count_fits text zero h =
-    let digits : h.0.digits ≡ 48 ∷ [] = numeral_decimal h.0.digits 0 (omega arith) h.0.numeral ∙ decimal_digit 0 (omega arith) in
-    let is : text ≡ 48 ∷ 10 ∷ [] = h.0.parts ∙ ap (λ d. d ++ 10 ∷ []) digits in
-    let bad : true ≡ false = sym (ap (begins 48) is) ∙ h.1 in cc
-count_fits text (suc n) h = (omega arith, h.0.fits)
-
-sharded_is : (n m : ℕ) → Sharded n ≡ Sharded m → n ≡ m
-sharded_is n m e = cc
-
-not_linear : (n : ℕ) → Sharded n ≡ Linear → ⊥
-not_linear n e = cc
-
-not_other : (n m : ℕ) → Sharded n ≡ Other m → ⊥
-not_other n m e = cc
-
--- a shard has from 1 to 2,147,483,647 revisions
-pub shards_fit : (text : List ℕ) (n : ℕ) → IsFormat text (Sharded n) → (0 < n) × (n ≤ 2147483647)
-shards_fit text n h = ⊎_elim
-    (λ ours. ⊎_elim (λ none. absurd (not_linear n none.1))
-    (λ layout. ⊎_elim (λ s. let m = s.second_is.inner in subst (λ k. (0 < k) × (k ≤ 2147483647)) (sym (sharded_is n m s.second_is.value_is)) (count_fits s.second m s.second_is.inner_is))
-    (λ l. absurd (not_linear n l.second_is.value_is)) layout.second_is) ours.second_is)
-    (λ other. absurd (not_other n other.number other.is)) h
+-- what is read is format 4
+pub known_four : (text : List ℕ) (layout : Layout) → IsFormat text (Known layout) → layout.format ≡ Four
+known_four text layout w = ap (λ (p : Format × Folders). p.0) w.second_is.value_is
 
 -- the cause of a refusal, in the files of the disk
 pub opens_because : (rose : Type 0) (told : Option Trace) (s : SmallTexts) (why : OpenFault) → IfSome told (λ t. s ≡ first_texts (small_texts (files_now t))) → JudgedBecause s why → OpensBecause rose told why

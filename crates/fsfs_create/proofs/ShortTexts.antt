@@ -5,9 +5,9 @@ use Rattle.std.proofs.lemmas.Fmt.{length-decimal-le}
 use Rattle.fsfs_base.specs.Grammar.Numeral.{IsNumber}
 use Rattle.fsfs_base.proofs.Unique.{numeral_decimal}
 use Rattle.fsfs_base.proofs.Base36Texts.{numeral_base36, length-last_digits}
-use Rattle.fsfs_layout.specs.Formats.{IsLayout, IsOurFormat}
+use Rattle.fsfs_layout.specs.Formats.{AreFolders, IsOurFormat}
 use Rattle.fsfs_layout.specs.Small.{IsUuid, IsRevLine, IsBase36Line}
-use Rattle.fsfs_layout.specs.declared.small_files.format_file.Format.{Format}
+use Rattle.fsfs_layout.specs.declared.folders.Folders.{Folders}
 use Rattle.fsfs_disk.specs.WholeFiles.FirstBytes.{IsShorter}
 
 -- a number of 64 bits has at most 20 digits
@@ -30,8 +30,8 @@ uuid_short text uuid w =
     let end : length w.second ≡ 1 = ap length w.second_is.inner_is in
     omega (arith, ap length w.parts, length-append w.first w.second, line, end)
 
-layout_short : (text : List ℕ) (f : Format) → IsLayout text f → length text ≤ 36
-layout_short text f w =
+folders_short : (text : List ℕ) (f : Folders) → AreFolders text f → length text ≤ 36
+folders_short text f w =
     let word : length w.first ≡ 7 = ap length w.first_is in
     let rest : length w.second ≤ 29 = ⊎_elim
     (λ s. let a : length s.first ≡ 8 = ap length s.first_is in
@@ -47,5 +47,5 @@ layout_short text f w =
 pub our_format_short : IsShorter 64 IsOurFormat
 our_format_short text f w =
     let line : length w.first ≡ 2 = ap length w.first_is in
-    let rest : length w.second ≤ 36 = ⊎_elim (λ none. let a : length w.second ≡ 0 = ap length none.0 in omega (arith, a)) (λ layout. layout_short w.second f layout) w.second_is in
+    let rest : length w.second ≤ 36 = ⊎_elim (λ none. let a : length w.second ≡ 0 = ap length none.0 in omega (arith, a)) (λ line. folders_short w.second w.second_is.inner line) w.second_is.inner_is in
     omega (arith, ap length w.parts, length-append w.first w.second, line, rest)

@@ -4,6 +4,7 @@ ghost use Rattle.fsfs_base.specs.Failures.{Rose};
 ghost use Rattle.fsfs_disk.specs.Trace.{Trace};
 ghost use Rattle.fsfs_disk.specs.Crash.{AllImages, Leaves, IsFirm};
 ghost use Rattle.fsfs_layout.specs.CreatedFiles.{identifier_text};
+ghost use Rattle.fsfs_layout.specs.Layouts.{Packs, shard_size};
 ghost use Rattle.fsfs_create.specs.NewFiles.{named};
 ghost use Rattle.fsfs_create.specs.Creation.{after_puts, after_publishing, after_creation, StopsInPuts, StopsPublishing, StopsAt, HasRepository, IsNoRepository, IsUnpublished, IsCreated, IsNoneOrWhole, CreateFails};
 ghost use Rattle.fsfs_create.specs.NewStore.{IsNewStore, IsNoneOrNew};
@@ -11,7 +12,7 @@ ghost use Rattle.fsfs_create.specs.NewStore.{IsNewStore, IsNoneOrNew};
 use crate::initial::{NewFile, created_files};
 use fsfs_base::{CreateFault, CreatePlace, DiskPlace, Failed, write_date};
 use fsfs_disk::Disk;
-use fsfs_layout::{Format, Layout, OnlyFile, RepositoryFile, write_format};
+use fsfs_layout::{Layout, OnlyFile, RepositoryFile, write_format};
 use std::alloc::Global;
 use uuid::Uuid;
 
@@ -84,7 +85,7 @@ fn write_files<D: Disk>(
     publish(disk, format)
 }
 
-/// Makes a repository of this layout, of revision 0 alone, whose date is the moment
+/// Makes a repository of this layout, of format 4 and in shards, of revision 0 alone, whose date is the moment
 /// (microseconds since the beginning of 1970 in UTC). It is one from the moment on at which `db/format` has its name.
 pub fn create<D: Disk>(
     alloc: Global,
@@ -94,22 +95,23 @@ pub fn create<D: Disk>(
     moment: u64,
 ) -> Result<(), CreateFault>
     requires moment { moment ≤ 4_102_444_799_999_999 }
+    requires packs { Packs layout }
     requires right { IsTrue (D.may_write disk.old) }
 
-    ensures created { OnOk result (IsCreated layout.shard_size (identifier_text identifier) moment (D.trace disk.old) (D.trace disk.new)) }
+    ensures created { OnOk result (IsCreated (shard_size layout) (identifier_text identifier) moment (D.trace disk.old) (D.trace disk.new)) }
     ensures fresh { OnOk result (IsNoRepository (D.trace disk.old)) }
 
     // The new repository is firm.
     ensures firm { OnOk result (IsFirm (D.trace disk.new)) }
 
-    ensures refused { IfErr result (CreateFails (Rose (D.faults disk.old) (D.faults disk.new)) layout.shard_size (identifier_text identifier) moment (D.trace disk.old) (D.trace disk.new)) }
+    ensures refused { IfErr result (CreateFails (Rose (D.faults disk.old) (D.faults disk.new)) (shard_size layout) (identifier_text identifier) moment (D.trace disk.old) (D.trace disk.new)) }
 
     // A repository that is there stays as it is, whatever is answered.
     ensures there_same { (t : Trace) → D.trace disk.old ≡ Some t → HasRepository t → D.trace disk.new ≡ D.trace disk.old }
 
     // A crash at any moment leaves no repository or the whole of this one.
     ensures any_moment { AllImages (D.trace disk.old) IsUnpublished
-        → Leaves (D.trace disk.old) (D.trace disk.new) (IsNoneOrWhole layout.shard_size (identifier_text identifier) moment (D.trace disk.old)) }
+        → Leaves (D.trace disk.old) (D.trace disk.new) (IsNoneOrWhole (shard_size layout) (identifier_text identifier) moment (D.trace disk.old)) }
 
     // So it leaves no repository, or a store of which it is known what it stands for: the history of revision 0 alone. From the last
     // firming on it leaves that store.
@@ -127,7 +129,7 @@ pub fn create<D: Disk>(
     }
     let date = write_date(alloc, moment)?;
     let files = created_files(alloc, identifier, layout, &date)?;
-    let format = write_format(alloc, &Format::Sharded(layout.shard_size()))?;
+    let format = write_format(alloc, layout)?;
     match write_files(disk, layout, &files, &format) {
         Ok(()) => Ok(()),
         Err(place) => Err(CreateFault::DiskFault(DiskPlace::Create(place))),

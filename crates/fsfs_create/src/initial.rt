@@ -1,6 +1,7 @@
 // The files of a new repository.
 ghost use Rattle.std.specs.Prelude.{◌≡◌, ◌<◌, ◌++◌, ◌∷◌, [], length, map, IfOk, OnOk};
 ghost use Rattle.fsfs_create.specs.NewFiles.{named};
+ghost use Rattle.fsfs_layout.specs.Layouts.{Packs};
 ghost use Rattle.fsfs_layout.specs.CreatedFiles.{unpublished_files, date_properties, identifier_text as text_of_identifier};
 
 use crate::first_revision::write_first_revision;
@@ -57,7 +58,8 @@ pub fn created_files(
     layout: Layout,
     date: &[u8],
 ) -> Result<Vec<NewFile>, AllocError>
-    requires { length date.now ≡ 27 }
+    requires date { length date.now ≡ 27 }
+    requires packs { Packs layout }
     ensures { IfOk result (λ files. map named files.items ≡ unpublished_files (text_of_identifier identifier) date.now) }
 {
     let version = Vec::from_slice(alloc, b"5\n")?;

@@ -11,8 +11,8 @@ ghost use Rattle.fsfs_layout.specs.declared.opened.Opened.{Opened};
 use fsfs_base::{DiskPlace, Name, OpenFault, OpenPlace, SmallFault, SmallFile};
 use fsfs_disk::{Disk, FileFault, read_disk_file};
 use fsfs_layout::{
-    Format, Layout, OnlyFile, Opened, read_current, read_format, read_min_unpacked_rev,
-    read_txn_current, read_uuid,
+    Folders, FormatFile, Layout, OnlyFile, Opened, read_current, read_format,
+    read_min_unpacked_rev, read_txn_current, read_uuid,
 };
 use std::alloc::Global;
 
@@ -124,14 +124,14 @@ fn judge(files: &SmallFiles) -> Result<Opened, OpenFault>
         return Err(OpenFault::NotRepo);
     }
     match read_format(format) {
-        Ok(Format::Other(number)) => Err(OpenFault::OtherFormat(number)),
-        Ok(Format::Linear) => Err(OpenFault::Linear),
-        Ok(Format::Sharded(shard_size)) => {
-            match judge_sharded(files, Layout::sharded(shard_size)) {
+        Ok(FormatFile::Other(number)) => Err(OpenFault::OtherFormat(number)),
+        Ok(FormatFile::Known(layout)) => match layout.folders() {
+            Folders::OneFolder => Err(OpenFault::Linear),
+            Folders::Shards(_) => match judge_sharded(files, layout) {
                 Ok(opened) => Ok(opened),
                 Err(fault) => Err(OpenFault::Small(fault)),
-            }
-        }
+            },
+        },
         Err(fault) => Err(OpenFault::Small(fault)),
     }
 }

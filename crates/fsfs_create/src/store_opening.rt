@@ -37,7 +37,7 @@ pub fn open_store<D: Disk>(alloc: Global, mut disk: D) -> Result<OpenedStore<D>,
     // Where the files stand for a history, packed or not, and each file that is left over of a packed revision has the same bytes, its
     // pass has seen all of that history, and is in no section. Of images it is spoken from then on.
     ensures known { IfSome (D.trace disk) (λ t. (h : List Revision) (stands : StandsFor (files_now t) h) → LeftoversAgree stands
-        → IfOk result (λ o. HasSeenAll (⟦<Owned<D> as Turns<()>>⟧.knows o.store) t stands.opened.min_unpacked_rev h)) }
+        → IfOk result (λ o. HasSeenAll (⟦<Owned<D> as Turns<()>>⟧.knows o.store) t stands.opened.min_unpacked_rev stands.opened.next_txn.number h)) }
     ensures same { IfOk result (λ o. (o.store.layout ≡ o.said.layout) × (o.store.young ≡ o.said.youngest)) }
     ensures refused { IfErr result (λ e. OpensBecause (Rose (D.faults disk) (D.faults e.disk)) (D.trace disk) e.why) }
     // Where it is opened or refused is decided by the files alone.

@@ -9,7 +9,7 @@ use fsfs_noderev::{Contents, NodeRev, Rep};
 use fsfs_revision::RevOffset;
 
 /// A node-revision that a reading came to, at the place that its id says. What it names stands before it.
-#[derive(Debug, Drop)]
+#[derive(Drop)]
 pub struct PlacedNode {
     pub node: NodeRev,
     pub ghost ordered: { is_ordered (offset_of node.id.place) node ≡ true },

@@ -20,7 +20,7 @@ use fsfs_revision::{Book, ReadError};
 use std::alloc::Global;
 
 /// An entry that is left, and how many levels it stands below where the walk began.
-#[derive(Debug, Drop)]
+#[derive(Drop)]
 pub struct Pending {
     pub level: usize,
     pub entry: DirEntry,

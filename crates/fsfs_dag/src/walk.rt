@@ -15,7 +15,7 @@ use fsfs_revision::{Book, ReadError};
 use std::alloc::Global;
 
 /// What stands at a path.
-#[derive(Debug, Drop)]
+#[derive(Drop)]
 pub enum Met {
     Node(PlacedNode),
     /// So many names from the root lead to nothing.

@@ -51,11 +51,6 @@ LeftSince n first labels (operation ∷ operations) m ls =
     (IsImage first (operation ∷ operations) m × AreLeft (labels_after labels (operation ∷ operations)) ls)
     ⊎ ((n ≤ length operations) × (IsLeftAmid (change_of operation) first labels operations m ls ⊎ LeftSince n first labels operations m ls))
 
--- whatever is left now, files and labels, has P
-abbrev pub AllLeft : Option Trace → (Files → List Label → Type 0) → Type 0
-AllLeft None P = Unit {0}
-AllLeft (Some t) P = (m : Files) (ls : List Label) → IsLeft t m ls → P m ls
-
 -- whatever is left at a moment between old and new has P; the same for a run that began earlier
 pub record LeavesBothOnly (old new : Trace) (P : Files → List Label → Type 0) : Type 0 where
   pub later : length old.operations ≤ length new.operations

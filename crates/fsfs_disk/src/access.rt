@@ -3,7 +3,7 @@ ghost use Rattle.std.specs.Prelude.{IsTrue};
 ghost use Rattle.fsfs_disk.specs.Accesses.{MayChange};
 
 /// What a path is mounted for.
-#[derive(Clone, Copy, Debug, PartialEq, Eq)]
+#[derive(Clone, Copy)]
 pub enum Access {
     /// A look: no file is changed.
     Read,

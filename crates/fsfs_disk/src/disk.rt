@@ -14,7 +14,7 @@ use std::alloc::Global;
 use thiserror::Error;
 
 /// Why a folder wasn't listed.
-#[derive(Clone, Copy, Debug, PartialEq, Eq, Error)]
+#[derive(Clone, Copy, Debug, Error)]
 pub enum ListFault {
     /// The disk failed, and its count of faults rose.
     #[error("the call failed")]

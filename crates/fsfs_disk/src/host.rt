@@ -9,7 +9,7 @@ use crate::disk::Disk;
 use thiserror::Error;
 
 /// The path could not be mounted, and the host's count of mounts rose.
-#[derive(Clone, Copy, Debug, PartialEq, Eq, Error)]
+#[derive(Clone, Copy, Debug, Error)]
 #[error("the path could not be mounted")]
 pub struct MountFault;
 

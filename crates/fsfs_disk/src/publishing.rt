@@ -14,7 +14,7 @@ use fsfs_base::{Failed, Name};
 use thiserror::Error;
 
 /// Why a file wasn't published.
-#[derive(Clone, Copy, Debug, PartialEq, Eq, Error)]
+#[derive(Clone, Copy, Debug, Error)]
 pub enum PublishFault {
     #[error("the disk failed")]
     Disk,

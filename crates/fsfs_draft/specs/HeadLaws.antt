@@ -38,10 +38,3 @@ HeadLaws = (look : RevisionBytes) (top : ℕ) (tree : ℕ → TreeFunction) → 
 abbrev pub UntouchedIsShared : Type 0
 UntouchedIsShared = (look : RevisionBytes) (top : ℕ) (tree : ℕ → TreeFunction) → ShowTrees look top tree → (b h : ℕ) → b ≤ h → h ≤ top
     → (p : Path) (y : NodeRev) → StandsAt look h p y → touched_by_head b (tree h p) ≡ false → StandsAt look b p y
-
--- and what stands behind a node-revision of a tree in its chain of predecessors is one of an earlier tree
-pub record IsOfEarlier (look : RevisionBytes) (r : ℕ) (u : NodeRev) : Type 0 where
-  pub rev : ℕ
-  pub path : Path
-  pub earlier : rev ≤ r
-  pub stands : StandsAt look rev path u

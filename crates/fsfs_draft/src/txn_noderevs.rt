@@ -29,7 +29,7 @@ pub struct KeptNode {
 }
 
 /// The steps of an edit were not settled.
-#[derive(Clone, Copy, Debug, PartialEq, Eq, Error)]
+#[derive(Clone, Copy, Debug, Error)]
 pub enum OwnError {
     /// Nothing was settled.
     #[error("out of memory")]

@@ -20,14 +20,14 @@ use fsfs_revision::{Book, is_revision_id};
 use std::alloc::Global;
 
 /// A node-revision that a walk came to: the transaction's own, or one of a revision.
-#[derive(Debug, Drop)]
+#[derive(Drop)]
 pub enum Step {
     Own(NodeId),
     Lasting(PlacedNode),
 }
 
 /// A node-revision and its kind.
-#[derive(Debug, Drop)]
+#[derive(Drop)]
 pub struct Child {
     pub step: Step,
     pub kind: Kind,
@@ -104,7 +104,7 @@ fn lasting_below<B: Book>(
 }
 
 /// What stands at a path of the transaction's tree.
-#[derive(Debug, Drop)]
+#[derive(Drop)]
 pub enum Found {
     Node(Child),
     /// So many names from the root lead to nothing.

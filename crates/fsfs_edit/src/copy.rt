@@ -15,7 +15,7 @@ use fsfs_revision::Book;
 use std::alloc::Global;
 
 /// What became of a copy: it was put, or why it can't be.
-#[derive(Clone, Copy, Debug, PartialEq, Eq)]
+#[derive(Clone, Copy)]
 pub enum Copied {
     Done,
     /// So many names of the directory's path lead to nothing.
@@ -35,7 +35,7 @@ pub enum Copied {
 }
 
 /// What stands where a copy is to be taken.
-#[derive(Debug, Drop)]
+#[derive(Drop)]
 enum Source {
     NoRev(RevNum),
     Absent(usize),

@@ -14,7 +14,7 @@ use fsfs_revision::Book;
 use std::alloc::Global;
 
 /// What became of a delete: it was done, or why it can't be.
-#[derive(Clone, Copy, Debug, PartialEq, Eq)]
+#[derive(Clone, Copy)]
 pub enum Gone {
     Done,
     /// So many names of the directory's path lead to nothing.

@@ -18,7 +18,7 @@ use fsfs_revision::Book;
 use std::alloc::Global;
 
 /// What stands where an edit is asked for.
-#[derive(Debug, Drop)]
+#[derive(Drop)]
 pub(crate) enum Target {
     /// So many names of the directory's path lead to nothing.
     NotFound(usize),

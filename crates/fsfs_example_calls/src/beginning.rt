@@ -6,7 +6,7 @@ use fsfs_base::RevNum;
 use fsfs_create::{OpenedStore, Unopened, open_store};
 use fsfs_disk::Disk;
 use fsfs_memory::Transcript;
-use fsfs_repo::{HeldNodes, Numbers, Txn, begin_txn};
+use fsfs_repo::{HeldNodes, Txn, begin_txn};
 use fsfs_turn::Owned;
 use std::alloc::Global;
 
@@ -23,7 +23,7 @@ fn begin_in<D: Disk>(
     ensures right { IsTrue (D.may_write result.0) }
     ensures mounted { D.mount_path result.0 ≡ D.mount_path store.disk }
 {
-    let (left, begun) = begin_txn(&(), alloc, store, base, Numbers::Any);
+    let (left, begun) = begin_txn(&(), alloc, store, base);
     let disk = left.into_disk();
     match begun {
         Ok(txn) => {

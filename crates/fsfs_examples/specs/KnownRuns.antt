@@ -10,6 +10,7 @@ use Rattle.fsfs_stands.specs.Same.{AreSameRevisions}
 use Rattle.fsfs_create.specs.NewStore.{IsNewStore}
 use Rattle.fsfs_cli.specs.Readings.{Asks}
 use Rattle.fsfs_cli.specs.declared.faults.fault.Fault.{Fault}
+use Rattle.fsfs_cli.specs.declared.request.JobRun.{JobRun}
 use Rattle.fsfs_cli.specs.declared.request.Task.TheVariants.{RunJobs}
 use Rattle.fsfs_cli.specs.declared.tool.Tool.TheVariants.{Jobs}
 use Rattle.fsfs_top.specs.Command.{Tells}
@@ -30,18 +31,18 @@ StandsForNew clock told = IfSome told (λ t. (h : List Revision) → StandsFor (
 
 -- A RUN OVER A REPOSITORY THAT WAS JUST MADE at the path of these words of svnjobs, by its status: from what the outputs and the input were to what they
 -- and the host are.
-pub record RanOverNew (words : List (List ℕ)) (clock : Option ℕ) (out err : SinkScene) (input : SourceScene) (after : Scene) (err_after : SinkScene) (input_after : SourceScene) (status : ℕ) : Type 0 where
+pub record RanOverNew (words : List (List ℕ)) (clock : Option ℕ) (out err : SinkScene) (input : SourceScene) (after : Scene) (err_after : SinkScene) (status : ℕ) : Type 0 where
   -- the host, as the run began
   pub begun : HostScene
   -- the repository had been made there
-  pub made : (repos : List ℕ) (workers : ℕ) → Asks Jobs words repos (RunJobs workers) → IsMade clock (begun.disk_at repos)
+  pub made : (repos : List ℕ) (run : JobRun) → Asks Jobs words repos (RunJobs run) → IsMade clock (begun.disk_at repos)
   -- so whatever history the run was over was that of a new repository
-  pub history : (repos : List ℕ) (workers : ℕ) → Asks Jobs words repos (RunJobs workers) → StandsForNew clock (begun.disk_at repos)
+  pub history : (repos : List ℕ) (run : JobRun) → Asks Jobs words repos (RunJobs run) → StandsForNew clock (begun.disk_at repos)
   -- what the clock gave next, if it tells
   pub next : Option ℕ
   -- what became of the script, told as over a disk that is known to have a history
   pub ended : Result ℕ Fault
-  pub did : DidJobs words true next (record { host = begun; out = out }) input after input_after ended
+  pub did : DidJobs words true next (record { host = begun; out = out; input = input }) after ended
   -- to which belong the status and the line about a fault
   pub status_is : status ≡ ended_status ended
   pub line_is : Tells Jobs err err_after (ended_fault ended)

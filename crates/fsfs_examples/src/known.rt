@@ -1,6 +1,7 @@
 // A script that is run over a repository that was just made, so that it is known to stand for a history.
 ghost use Rattle.std.specs.Prelude.{ℕ, List, map, string_bytes, IfSome, IsTrue};
 ghost use Rattle.fsfs_cli.specs.Readings.{Asks};
+ghost use Rattle.fsfs_cli.specs.declared.request.JobRun.{JobRun};
 ghost use Rattle.fsfs_cli.specs.declared.request.Task.TheVariants.{RunJobs};
 ghost use Rattle.fsfs_cli.specs.declared.tool.Tool.TheVariants.{Jobs};
 ghost use Rattle.fsfs_top.specs.Scenes.{scene, sink_scene, source_scene};
@@ -28,7 +29,7 @@ fn make<H: Host, C: Clock, R: Dice>(
     clock: &mut C,
     dice: &mut R,
 ) -> bool
-    ensures { IsTrue result → (repos : List ℕ) (workers : ℕ) → Asks Jobs (map string_bytes words.now) repos (RunJobs workers) → IsMade (C.next clock.old) (H.disk_at host.new repos) }
+    ensures { IsTrue result → (repos : List ℕ) (run : JobRun) → Asks Jobs (map string_bytes words.now) repos (RunJobs run) → IsMade (C.next clock.old) (H.disk_at host.new repos) }
 {
     let Ok(request) = read_words(alloc, Tool::Jobs, words) else {
         return false;
@@ -70,7 +71,7 @@ where
     H::Mounted: Drop + Send,
     <H::Mounted as Disk>::Bench: Send,
     ensures { IfSome result (λ status. RanOverNew (map string_bytes words.now) (C.next clock.old) (sink_scene O.Sink out.old) (sink_scene E.Sink err.old) (source_scene I.Source input.old)
-        (scene H.Host O.Sink host.new out.new) (sink_scene E.Sink err.new) (source_scene I.Source input.new) status) }
+        (scene H.Host O.Sink host.new out.new (source_scene I.Source input.new)) (sink_scene E.Sink err.new) status) }
 {
     if !make(alloc, words, host, clock, dice) {
         return None;

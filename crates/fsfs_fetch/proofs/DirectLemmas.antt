@@ -7,7 +7,7 @@ use Rattle.std.specs.Cmp.Lexicographic.{same_text, nat_list_eq_equiv}
 use Rattle.std.specs.FinMap as map
 use Rattle.fsfs_base.specs.Files.{Files}
 use Rattle.fsfs_base.specs.declared.small_fault.SmallFault.{SmallFault}
-use Rattle.fsfs_layout.specs.Names.{in_shard}
+use Rattle.fsfs_layout.specs.Names.{in_folder}
 use Rattle.fsfs_revision.specs.declared.wrong.Refusal.{Refusal}
 use Rattle.fsfs_revision.specs.declared.wrong.Refusal.TheVariants.{Missing, Small}
 use Rattle.fsfs_revision.specs.declared.book.BookFault.{BookFault}
@@ -16,7 +16,7 @@ use Rattle.fsfs_revision.specs.Told.{Gives, part_read, size_read}
 use Rattle.fsfs_layout.specs.declared.layout.Layout.{Layout}
 use Rattle.fsfs_layout.specs.Layouts.{shard_of}
 use Rattle.fsfs_fetch.specs.declared.manifests.KeptManifest.{KeptManifest}
-use Rattle.fsfs_revision.specs.RevBytes.{floor_in, rev_bytes, packed_bytes, by_floor, or_missing, rev_file, props_file, props_bytes, manifest_of}
+use Rattle.fsfs_revision.specs.RevBytes.{floor_in, rev_bytes, packed_bytes, by_floor, or_missing, rev_file, manifest_of}
 use Rattle.fsfs_fetch.specs.Views.{Reach, IsKnown, View, Follows, Later, is_packed, is_below}
 use Rattle.fsfs_fetch.specs.Answers.{MayGo, FromFile, refused}
 use Rattle.fsfs_fetch.specs.Kept.{fits, agrees, is_right, are_offsets, IsPackedAt, ServesAsWell, IsFoundAt, FindsAsWell, IsGoneAt}
@@ -157,18 +157,18 @@ own_bytes file bytes (Err f) is h = let P : Option (List ℕ) → Type 0 = λ o.
 pub packed_at : {B : Type 0} (v : View B) (floor : ℕ) (kept : Option KeptManifest) (m : Files) (rev : ℕ) → rev < floor → IsFoundAt v floor kept rev m → IsPackedAt v kept rev m
 packed_at v floor kept m rev lt p = let q = right_below v.layout m floor kept rev lt p.right in record { told = p.told; packed = q.0; fits = q.1 }
 
-pub own_goes : {B : Type 0} (v : View B) (m : Files) (rev : ℕ) (n : Layout) (name : List ℕ) → v.files ≡ Some m → IsKnown v.reach rev → n ≡ v.layout → name ≡ in_shard (codes "db/revs") n rev → MayGo v name (rev_file v.layout m rev)
+pub own_goes : {B : Type 0} (v : View B) (m : Files) (rev : ℕ) (n : Layout) (name : List ℕ) → v.files ≡ Some m → IsKnown v.reach rev → n ≡ v.layout → name ≡ in_folder (codes "db/revs") n rev → MayGo v name (rev_file v.layout m rev)
 own_goes v m rev n name told known e named =
     let P : List ℕ → Type 0 = λ t. MayGo v t (rev_file v.layout m rev) in
-    let is : in_shard (codes "db/revs") v.layout rev ≡ name = ap (λ k. in_shard (codes "db/revs") k rev) (sym e) ∙ sym named in
+    let is : in_folder (codes "db/revs") v.layout rev ≡ name = ap (λ k. in_folder (codes "db/revs") k rev) (sym e) ∙ sym named in
     subst P is (record { now = m; told = told; later = λ new f. f.own rev known })
 
-pub gone_at : {B : Type 0} (v w : View B) (m : Files) (rev : ℕ) (n : Layout) (name : List ℕ) → Later v w → v.files ≡ Some m → IsKnown v.reach rev → n ≡ v.layout → name ≡ in_shard (codes "db/revs") n rev → (k : Files) × (w.files ≡ Some k) × (map.get k name ≡ None)
+pub gone_at : {B : Type 0} (v w : View B) (m : Files) (rev : ℕ) (n : Layout) (name : List ℕ) → Later v w → v.files ≡ Some m → IsKnown v.reach rev → n ≡ v.layout → name ≡ in_folder (codes "db/revs") n rev → (k : Files) × (w.files ≡ Some k) × (map.get k name ≡ None)
     → (new : Files) × (IsGoneAt w rev new) × (rev_bytes w.layout new rev ≡ rev_bytes v.layout m rev)
 gone_at v w m rev n name e told known same named p =
     let k = next v w m e told in
     let one : k.files ≡ p.0 = same_Some k.files p.0 (sym k.told ∙ p.1) in
-    let is : in_shard (codes "db/revs") w.layout rev ≡ name = ap (λ j. in_shard (codes "db/revs") j rev) (e.layout ∙ sym same) ∙ sym named in
+    let is : in_folder (codes "db/revs") w.layout rev ≡ name = ap (λ j. in_folder (codes "db/revs") j rev) (e.layout ∙ sym same) ∙ sym named in
     let gone : rev_file w.layout k.files rev ≡ None = ap (map.get k.files) is ∙ ap (λ f. map.get f name) one ∙ p.2 in
     (k.files, record { told = k.told; known = known_later v.reach w.reach rev e.reach known; gone = gone }, ap (λ j. rev_bytes j k.files rev) e.layout ∙ k.follows.bytes rev known)
 
@@ -283,7 +283,7 @@ gone_err view look f file read new name (Refused r) gone h = absurd h
 gone_err view look f file read new name (Short r o) gone h = let no : ◌≡◌ {A = Option (List ℕ)} (Some h.0) None = sym h.1 ∙ gone in cc
 
 -- the own file of a revision whose bytes were read after the floor was
-pub fresh_goes : {B : Type 0} (v w : View B) (m : Files) (rev fresh : ℕ) (n : Layout) (name : List ℕ) (f : Fresh v w m rev fresh) → n ≡ w.layout → name ≡ in_shard (codes "db/revs") n rev → MayGo w name (rev_file w.layout f.new rev)
+pub fresh_goes : {B : Type 0} (v w : View B) (m : Files) (rev fresh : ℕ) (n : Layout) (name : List ℕ) (f : Fresh v w m rev fresh) → n ≡ w.layout → name ≡ in_folder (codes "db/revs") n rev → MayGo w name (rev_file w.layout f.new rev)
 fresh_goes v w m rev fresh n name f e named = own_goes w f.new rev n name f.told f.known e named
 
 -- what is answered of one reading is answered of an equal one
@@ -307,31 +307,3 @@ fresh_found v w m rev fresh left f lt none =
     let p = fresh_packed v w m rev fresh f lt in
     let P : Option KeptManifest → Type 0 = λ o. IsPackedAt w o rev f.new in
     (subst P (sym none) p.0, p.1)
-
--- ---- properties
-
-pub props_stay : {B : Type 0} (v : View B) (m : Files) (rev : ℕ) (n : Layout) (name : List ℕ) → v.files ≡ Some m → IsKnown v.reach rev → n ≡ v.layout → name ≡ in_shard (codes "db/revprops") n rev → MayGo v name (props_file v.layout m rev)
-props_stay v m rev n name told known e named =
-    let P : List ℕ → Type 0 = λ t. MayGo v t (props_file v.layout m rev) in
-    let is : in_shard (codes "db/revprops") v.layout rev ≡ name = ap (λ k. in_shard (codes "db/revprops") k rev) (sym e) ∙ sym named in
-    subst P is (record { now = m; told = told; later = λ new f. inl (f.props rev known) })
-
-pub props_gone : {B : Type 0} (v w : View B) (m : Files) (rev : ℕ) (n : Layout) (name : List ℕ) → Later v w → v.files ≡ Some m → IsKnown v.reach rev → n ≡ v.layout → name ≡ in_shard (codes "db/revprops") n rev → (k : Files) × (w.files ≡ Some k) × (map.get k name ≡ None)
-    → props_bytes v.layout m rev ≡ Err (Missing rev)
-props_gone v w m rev n name e told known same named p =
-    let k = next v w m e told in
-    let one : k.files ≡ p.0 = same_Some k.files p.0 (sym k.told ∙ p.1) in
-    let is : in_shard (codes "db/revprops") v.layout rev ≡ name = ap (λ j. in_shard (codes "db/revprops") j rev) (sym same) ∙ sym named in
-    let gone : props_file v.layout k.files rev ≡ None = ap (map.get k.files) is ∙ ap (λ f. map.get f name) one ∙ p.2 in
-    ap (or_missing rev) (sym (k.follows.props rev known) ∙ gone)
-
-pub props_some : {X Y : Type 0} (view : X → Y) (F : Result (List ℕ) Refusal → Result Y BookFault) (rev : ℕ) (file : Option (List ℕ)) (new : Option Files) (name : List ℕ) (x : X)
-    → FromFile {X = X} {Y = Y} file new name view (λ bytes. F (Ok bytes)) (Ok (Some x)) → Gives {X = X} {Y = Y} view (Ok x) (F (or_missing rev file))
-props_some view F rev file new name x h = ap (λ o. F (or_missing rev o)) h.1 ∙ h.2
-
-pub props_err : {X Y Z : Type 0} (view : X → Y) (look : Z → Y) (F : Result (List ℕ) Refusal → Result Y BookFault) (rev : ℕ) (file : Option (List ℕ)) (new : Option Files) (name : List ℕ) (e : BookFault)
-    → FromFile {X = X} {Y = Y} file new name view (λ bytes. F (Ok bytes)) (Err e) → Gives {X = Z} {Y = Y} look (Err e) (F (or_missing rev file))
-props_err view look F rev file new name DiskFault h = tt
-props_err view look F rev file new name OutOfMemory h = tt
-props_err view look F rev file new name (Refused r) h = absurd h
-props_err view look F rev file new name (Short r o) h = ap (λ o. F (or_missing rev o)) h.1 ∙ h.2

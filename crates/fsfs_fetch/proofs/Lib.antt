@@ -4,4 +4,5 @@ pub mod PackLemmas
 pub mod DirectLemmas
 pub mod FloorLemmas
 pub mod TellingLemmas
+pub mod PropsLemmas
 pub mod OwnedLemmas

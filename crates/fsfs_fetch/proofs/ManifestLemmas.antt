@@ -22,7 +22,7 @@ use Rattle.fsfs_revision.specs.declared.book.BookFault.{BookFault}
 use Rattle.fsfs_revision.specs.declared.book.BookFault.TheVariants.{Refused, Short, DiskFault, OutOfMemory}
 use Rattle.fsfs_revision.specs.Told.{Gives}
 use Rattle.fsfs_layout.specs.declared.layout.Layout.{Layout}
-use Rattle.fsfs_layout.specs.Layouts.{shard_of}
+use Rattle.fsfs_layout.specs.Layouts.{shard_size, shard_of}
 use Rattle.fsfs_fetch.specs.declared.manifests.KeptManifest.{KeptManifest}
 use Rattle.fsfs_revision.specs.RevBytes.{manifest_of, manifest_in, manifest_file}
 use Rattle.fsfs_fetch.specs.Views.{View}
@@ -73,23 +73,23 @@ manifest_short : (shard_size : ℕ) → IsShorter (shard_size * 21 + 1) (IsManif
 manifest_short shard_size text offsets w = omega (arith, ap length w.lines, lines_short offsets w.fit, w.count)
 
 -- what the first bytes say, the whole file says
-pub manifest_told : (n m : Layout) (shard : ℕ) (bytes text file offsets : List ℕ) → n ≡ m → bytes ≡ text → text ≡ take (n.shard_size * 21 + 1) file → IsManifest n.shard_size bytes offsets
+pub manifest_told : (n m : Layout) (shard : ℕ) (bytes text file offsets : List ℕ) → n ≡ m → bytes ≡ text → text ≡ take ((shard_size n) * 21 + 1) file → IsManifest (shard_size n) bytes offsets
     → refused (manifest_of m shard file) ≡ Ok offsets
 manifest_told n m shard bytes text file offsets e f h w =
-    let first : IsManifest n.shard_size (take (n.shard_size * 21 + 1) file) offsets = subst (λ (t : List ℕ). IsManifest n.shard_size t offsets) (f ∙ h) w in
-    let is = text_of_first (IsManifest n.shard_size) (n.shard_size * 21 + 1) file offsets (manifest_short n.shard_size) first in
+    let first : IsManifest (shard_size n) (take ((shard_size n) * 21 + 1) file) offsets = subst (λ (t : List ℕ). IsManifest (shard_size n) t offsets) (f ∙ h) w in
+    let is = text_of_first (IsManifest (shard_size n)) ((shard_size n) * 21 + 1) file offsets (manifest_short (shard_size n)) first in
     ap refused ((λ i. manifest_of (sym e i) shard file) ∙ manifest_ok n shard file offsets is)
 
-pub manifest_fault : (n m : Layout) (shard : ℕ) (bytes text file : List ℕ) (fault : SmallFault) → n ≡ m → bytes ≡ text → text ≡ take (n.shard_size * 21 + 1) file
-    → IsFaultOf (Manifest shard) (IsManifest n.shard_size) bytes fault → ((offsets : List ℕ) → IsManifest n.shard_size bytes offsets → ⊥)
+pub manifest_fault : (n m : Layout) (shard : ℕ) (bytes text file : List ℕ) (fault : SmallFault) → n ≡ m → bytes ≡ text → text ≡ take ((shard_size n) * 21 + 1) file
+    → IsFaultOf (Manifest shard) (IsManifest (shard_size n)) bytes fault → ((offsets : List ℕ) → IsManifest (shard_size n) bytes offsets → ⊥)
     → refused (manifest_of m shard file) ≡ Err (Refused (Small fault))
 manifest_fault n m shard bytes text file fault e f h w none =
-    let most : ℕ = n.shard_size * 21 + 1 in
-    let G : List ℕ → List ℕ → Type 0 = IsManifest n.shard_size in
+    let most : ℕ = (shard_size n) * 21 + 1 in
+    let G : List ℕ → List ℕ → Type 0 = IsManifest (shard_size n) in
     let same : bytes ≡ take most file = f ∙ h in
     let at : IsFaultAt G (take most file) fault.at = subst (λ (t : List ℕ). IsFaultAt G t fault.at) same w.place in
-    let of : IsFaultOf (Manifest shard) G file fault = record { names = w.names; place = fault_of_first G most file fault.at (manifest_short n.shard_size) at } in
-    let none_whole : (offsets : List ℕ) → G file offsets → ⊥ = (λ offsets g. none offsets (subst (λ (t : List ℕ). G t offsets) (sym same) (first_of_text G most file offsets (manifest_short n.shard_size) g))) in
+    let of : IsFaultOf (Manifest shard) G file fault = record { names = w.names; place = fault_of_first G most file fault.at (manifest_short (shard_size n)) at } in
+    let none_whole : (offsets : List ℕ) → G file offsets → ⊥ = (λ offsets g. none offsets (subst (λ (t : List ℕ). G t offsets) (sym same) (first_of_text G most file offsets (manifest_short (shard_size n)) g))) in
     ap refused ((λ i. manifest_of (sym e i) shard file) ∙ manifest_err n shard file fault of none_whole)
 
 -- a failure tells the same whatever was wanted

@@ -5,7 +5,7 @@ use Rattle.fsfs_base.specs.Files.{Files}
 use Rattle.fsfs_disk.specs.Trace.{Trace, files_now}
 use Rattle.fsfs_revision.specs.Told.{Telling}
 use Rattle.fsfs_layout.specs.declared.layout.Layout.{Layout}
-use Rattle.fsfs_revision.specs.RevBytes.{rev_bytes, props_bytes, floor_in}
+use Rattle.fsfs_revision.specs.RevBytes.{rev_bytes, floor_in}
 use Rattle.fsfs_fetch.specs.Kept.{TellsFiles}
 use Rattle.fsfs_fetch.specs.Views.{DiskState}
 use Rattle.fsfs_fetch.specs.Owned.{owned_view, state_of, TellsAll}
@@ -19,6 +19,5 @@ owned_floor n layout floor m e is = ap (λ k. floor_in k m) e ∙ is
 pub owned_tells : {Below : Type 0} (disk : DiskState) (y : ℕ) (n : Layout) (last : ℕ) (layout : Layout) (m : Files) (told : Telling Below) → y ≡ last → n ≡ layout → TellsFiles (owned_view disk y n) m told → TellsAll last layout m told
 owned_tells disk y n last layout m told same_last same_size h = record {
   revs = λ r le. h.revs r (omega (arith, le, same_last)) ∙ ap (λ k. Some (rev_bytes k m r)) same_size;
-  props = λ r le. h.props r (omega (arith, le, same_last)) ∙ ap (λ k. Some (props_bytes k m r)) same_size;
   youngest = h.youngest ∙ ap (λ (k : ℕ). Some k) same_last;
 }

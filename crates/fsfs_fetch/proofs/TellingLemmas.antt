@@ -16,10 +16,10 @@ use Rattle.fsfs_layout.specs.declared.layout.Layout.{Layout}
 use Rattle.fsfs_layout.specs.Layouts.{shard_of}
 use Rattle.fsfs_fetch.specs.declared.manifests.KeptManifest.{KeptManifest}
 use Rattle.fsfs_revision.specs.declared.section.Section.{Section}
-use Rattle.fsfs_revision.specs.RevBytes.{rev_bytes, rev_file, props_bytes, or_missing, by_floor, floor_in, packed_bytes, packed_section, pack_in, cut, cut_from}
+use Rattle.fsfs_revision.specs.RevBytes.{rev_bytes, rev_file, or_missing, by_floor, floor_in, packed_bytes, packed_section, pack_in, cut, cut_from}
 use Rattle.fsfs_fetch.specs.Views.{Reach, Ends, Grows, IsKnown, IsYoungest, Extends, View, Later}
 use Rattle.fsfs_disk.specs.Benches.{HasShortFiles}
-use Rattle.fsfs_fetch.specs.Kept.{TellsFiles, TellsOwn, telling, within, revs_in, props_in, is_short, is_right, last_of, IsFoundAt, FindsAsWell}
+use Rattle.fsfs_fetch.specs.Kept.{TellsFiles, TellsOwn, telling, within, revs_in, is_short, is_right, last_of, IsFoundAt, FindsAsWell}
 use Rattle.fsfs_fetch.specs.ViewLemmas.{next, known_later}
 use Rattle.fsfs_fetch.proofs.DirectLemmas.{found_later, fresh_right, make_right}
 
@@ -100,34 +100,6 @@ pub tells_found : {B : Type 0} (v : View B) (floor : ℕ) (kept : Option KeptMan
 unfolding telling
 tells_found v floor kept m rev p short = within_known v.reach rev (revs_in v.layout floor kept v.files rev) p.known ∙ revs_found v.layout floor kept v.files m rev p.told p.right short
 
-props_some : (n : Layout) (files : Option Files) (rev : ℕ) (read : Result (List ℕ) Refusal) → props_in n files rev ≡ Some read → (m : Files) × (files ≡ Some m) × (props_bytes n m rev ≡ read)
-props_some n None rev read told = cc
-props_some n (Some m) rev read told = (m, refl, cc)
-
-pub record HasProps {B : Type 0} (view : View B) (rev : ℕ) (read : Result (List ℕ) Refusal) : Type 0 where
-  pub files : Files
-  pub told : view.files ≡ Some files
-  pub known : IsKnown view.reach rev
-  pub bytes : props_bytes view.layout files rev ≡ read
-
-pub told_props : {B : Type 0} (v : View B) (floor : ℕ) (kept : Option KeptManifest) (rev : ℕ) (read : Result (List ℕ) Refusal) → (telling v floor kept).props rev ≡ Some read → (IsPast v.reach rev read) ⊎ (HasProps v rev read)
-unfolding telling
-told_props v floor kept rev read told =
-    elim (within_read v.reach rev (props_in v.layout v.files rev) read told) [
-      | inl p ↦ inl p
-      | inr p ↦
-          let q = props_some v.layout v.files rev read p.1 in
-          inr (record { files = q.0; told = q.1; known = p.0; bytes = q.2 })
-    ]
-
-pub tells_past_props : {B : Type 0} (v : View B) (floor : ℕ) (kept : Option KeptManifest) (rev : ℕ) (read : Result (List ℕ) Refusal) → IsPast v.reach rev read → (telling v floor kept).props rev ≡ Some read
-unfolding telling
-tells_past_props v floor kept rev read p = within_past v.reach rev p.youngest (props_in v.layout v.files rev) p.ends p.above ∙ ap (λ (r : Result (List ℕ) Refusal). Some r) (sym p.is)
-
-pub tells_props : {B : Type 0} (v : View B) (floor : ℕ) (kept : Option KeptManifest) (m : Files) (rev : ℕ) → v.files ≡ Some m → IsKnown v.reach rev → (telling v floor kept).props rev ≡ Some (props_bytes v.layout m rev)
-unfolding telling
-tells_props v floor kept m rev e known = within_known v.reach rev (props_in v.layout v.files rev) known ∙ ap (λ f. props_in v.layout f rev) e
-
 -- ---- what is told stays told
 
 past_later : {B : Type 0} (v w : View B) (rev : ℕ) (read : Result (List ℕ) Refusal) → Later v w → IsPast v.reach rev read → IsPast w.reach rev read
@@ -149,13 +121,6 @@ found_told v w f g k l rev read e finds p =
     ap (λ m. rev_bytes w.layout m rev) (sym one) ∙ ap (λ j. rev_bytes j n.files rev) e.layout ∙ n.follows.bytes rev p.found.known in
     tells_found w g l q.0 rev q.1 (ap is_short same ∙ p.short) ∙ ap (λ (r : Result (List ℕ) Refusal). Some r) (same ∙ p.bytes)
 
-props_told : {B : Type 0} (v w : View B) (g : ℕ) (l : Option KeptManifest) (rev : ℕ) (read : Result (List ℕ) Refusal) → Later v w → HasProps v rev read → (telling w g l).props rev ≡ Some read
-props_told v w g l rev read e p =
-    let n = next v w p.files e p.told in
-    let same : props_bytes w.layout n.files rev ≡ props_bytes v.layout p.files rev =
-    ap (λ j. props_bytes j n.files rev) e.layout ∙ ap (or_missing rev) (n.follows.props rev p.known) in
-    tells_props w g l n.files rev n.told (known_later v.reach w.reach rev e.reach p.known) ∙ ap (λ (r : Result (List ℕ) Refusal). Some r) (same ∙ p.bytes)
-
 youngest_told : {B : Type 0} (v w : View B) (f g : ℕ) (k l : Option KeptManifest) (y : ℕ) → Later v w → (telling v f k).youngest ≡ Some y → (telling w g l).youngest ≡ Some y
 unfolding telling
 youngest_told v w f g k l y e is = last_later v.reach w.reach y e.reach is
@@ -167,14 +132,13 @@ below_told v w f g k l e = e.below
 pub keeps : {B : Type 0} (v w : View B) (f g : ℕ) (k l : Option KeptManifest) → Later v w → FindsAsWell v f k w g l → Keeps (telling v f k) (telling w g l)
 keeps v w f g k l e finds = record {
   revs = λ rev read told. elim (told_revs v f k rev read told) [ inl p ↦ tells_past w g l rev read (past_later v w rev read e p) | inr p ↦ found_told v w f g k l rev read e finds p ];
-  props = λ rev read told. elim (told_props v f k rev read told) [ inl p ↦ tells_past_props w g l rev read (past_later v w rev read e p) | inr p ↦ props_told v w g l rev read e p ];
   youngest = λ y is. youngest_told v w f g k l y e is;
   below = below_told v w f g k l e;
 }
 
 -- ---- what a call meets: a revision above the youngest, or one that there is
 
-not_above : (reach : Reach) (rev n : ℕ) → IsYoungest reach n → n < rev → ¬ IsKnown reach rev
+pub not_above : (reach : Reach) (rev n : ℕ) → IsYoungest reach n → n < rev → ¬ IsKnown reach rev
 not_above (Ends y) rev n is lt known = omega (arith, is, lt, known)
 not_above (Grows least) rev n is lt known = omega (arith, is, lt, known)
 
@@ -193,13 +157,6 @@ revs_above v w floor kept rev n read e is lt told =
       | inr p ↦ absurd (not_above w.reach rev n is lt (known_later v.reach w.reach rev e.reach p.found.known))
     ]
 
-pub props_above : {B : Type 0} (v w : View B) (floor : ℕ) (kept : Option KeptManifest) (rev n : ℕ) (read : Result (List ℕ) Refusal) → Later v w → IsYoungest w.reach n → n < rev → (telling v floor kept).props rev ≡ Some read → read ≡ Err (NoRev rev n)
-props_above v w floor kept rev n read e is lt told =
-    elim (told_props v floor kept rev read told) [
-      | inl p ↦ past_read v w rev n read e is p
-      | inr p ↦ absurd (not_above w.reach rev n is lt (known_later v.reach w.reach rev e.reach p.known))
-    ]
-
 -- there is a revision, by the youngest
 abbrev pub IsThere : {B : Type 0} → View B → ℕ → Type 0
 IsThere view rev = (n : ℕ) × IsYoungest view.reach n × (rev ≤ n)
@@ -215,17 +172,6 @@ revs_there v w floor kept rev read e there told =
     elim (told_revs v floor kept rev read told) [
       | inl p ↦ absurd (not_past_there v w rev read e there p)
       | inr p ↦ let k = found_later v w floor kept p.files rev e p.found in (k.0, k.1, k.2 ∙ p.bytes)
-    ]
-
-pub props_there : {B : Type 0} (v w : View B) (floor : ℕ) (kept : Option KeptManifest) (rev : ℕ) (read : Result (List ℕ) Refusal) → Later v w → IsThere w rev → (telling v floor kept).props rev ≡ Some read → HasProps w rev read
-props_there v w floor kept rev read e there told =
-    elim (told_props v floor kept rev read told) [
-      | inl p ↦ absurd (not_past_there v w rev read e there p)
-      | inr p ↦
-          let n = next v w p.files e p.told in
-          let same : props_bytes w.layout n.files rev ≡ props_bytes v.layout p.files rev =
-          ap (λ j. props_bytes j n.files rev) e.layout ∙ ap (or_missing rev) (n.follows.props rev p.known) in
-          record { files = n.files; told = n.told; known = known_later v.reach w.reach rev e.reach p.known; bytes = same ∙ p.bytes }
     ]
 
 youngest_within : (a b : Reach) (n : ℕ) → Extends a b → IsYoungest b n → IfSome (last_of a) (λ y. n ≡ y)
@@ -291,12 +237,10 @@ below_same v floor kept = refl
 pub tells_own : {B : Type 0} (v : View B) (floor : ℕ) (m : Files) → v.files ≡ Some m → HasShortFiles m → TellsOwn v floor m (telling v floor None)
 tells_own v floor m told short = record {
   revs = λ rev known le own. tells_found v floor None m rev (record { told = told; known = known; right = make_right v.layout m floor None rev (λ lt. absurd (omega (arith, lt, le))) (λ _. own) }) (short_bytes v.layout m rev short);
-  props = λ rev known. tells_props v floor None m rev told known;
 }
 
 pub tells_files : {B : Type 0} (v : View B) (floor : ℕ) (m : Files) → v.files ≡ Some m → floor_in v.layout m ≡ Ok floor → HasShortFiles m → TellsFiles v m (telling v floor None)
 tells_files v floor m told is short = record {
   revs = λ rev known. tells_found v floor None m rev (record { told = told; known = known; right = fresh_right v.layout m rev floor is }) (short_bytes v.layout m rev short);
-  props = λ rev known. tells_props v floor None m rev told known;
   youngest = youngest_last v floor None;
 }

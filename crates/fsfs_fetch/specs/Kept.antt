@@ -10,7 +10,7 @@ use Rattle.fsfs_layout.specs.declared.layout.Layout.{Layout}
 use Rattle.fsfs_layout.specs.Layouts.{shard_of}
 use Rattle.fsfs_fetch.specs.declared.manifests.KeptManifest.{KeptManifest}
 use Rattle.fsfs_fetch.specs.Views.{View, Reach, Ends, Grows, IsKnown, is_packed}
-use Rattle.fsfs_revision.specs.RevBytes.{rev_bytes, rev_file, props_bytes, manifest_in}
+use Rattle.fsfs_revision.specs.RevBytes.{rev_bytes, rev_file, manifest_in}
 
 abbrev pub are_offsets : List ℕ → Result (List ℕ) SmallFault → Bool
 are_offsets offsets (Err fault) = false
@@ -46,10 +46,6 @@ abbrev pub revs_in : Layout → ℕ → Option KeptManifest → Option Files →
 revs_in layout floor kept None rev = None
 revs_in layout floor kept (Some files) rev = if_short (is_right layout files floor kept rev) (rev_bytes layout files rev)
 
-abbrev pub props_in : Layout → Option Files → ℕ → Option (Result (List ℕ) Refusal)
-props_in layout None rev = None
-props_in layout (Some files) rev = Some (props_bytes layout files rev)
-
 -- of a revision above the youngest, that there is none
 abbrev pub within : Reach → ℕ → Option (Result (List ℕ) Refusal) → Option (Result (List ℕ) Refusal)
 within (Ends youngest) rev read = if nat_lt youngest rev then Some (Err (NoRev rev youngest)) else read
@@ -63,7 +59,6 @@ last_of (Grows least) = None
 unfoldable pub telling : {B : Type 0} → View B → ℕ → Option KeptManifest → Telling B
 telling view floor kept = record {
   revs = λ rev. within view.reach rev (revs_in view.layout floor kept view.files rev);
-  props = λ rev. within view.reach rev (props_in view.layout view.files rev);
   youngest = last_of view.reach;
   below = view.below;
 }
@@ -71,14 +66,11 @@ telling view floor kept = record {
 -- of each revision that there is, all is told that these files say
 pub record TellsFiles {B : Type 0} (view : View B) (files : Files) {Below : Type 0} (told : Telling Below) : Type 0 where
   pub revs : (rev : ℕ) → IsKnown view.reach rev → told.revs rev ≡ Some (rev_bytes view.layout files rev)
-  pub props : (rev : ℕ) → IsKnown view.reach rev → told.props rev ≡ Some (props_bytes view.layout files rev)
   pub youngest : told.youngest ≡ last_of view.reach
 
--- Of these revisions all is told that these files say: of one at or above this floor whose own file has its bytes, where there is one;
--- and its properties.
+-- Of these revisions all is told that these files say: of one at or above this floor whose own file has its bytes, where there is one.
 pub record TellsOwn {B : Type 0} (view : View B) (floor : ℕ) (files : Files) {Below : Type 0} (told : Telling Below) : Type 0 where
   pub revs : (rev : ℕ) → IsKnown view.reach rev → floor ≤ rev → agrees (rev_file view.layout files rev) (rev_bytes view.layout files rev) ≡ true → told.revs rev ≡ Some (rev_bytes view.layout files rev)
-  pub props : (rev : ℕ) → IsKnown view.reach rev → told.props rev ≡ Some (props_bytes view.layout files rev)
 
 abbrev pub keeps_shard : Option KeptManifest → ℕ → Bool
 keeps_shard None shard = false

@@ -2,7 +2,9 @@ pub mod Views
 pub mod Owned
 pub mod Kept
 pub mod Answers
+pub mod Props
 pub mod KeptLemmas
 pub mod PartsLater
 pub mod ViewLemmas
 pub mod OwnedShort
+pub mod StillProps

@@ -34,7 +34,6 @@ follows_same n reach m = record {
   manifest = λ rev is. refl;
   pack = λ rev is. refl;
   own = λ rev known. inl refl;
-  props = λ rev known. refl;
 }
 
 own_more : {A : Type 0} (a b c : Option A) → (b ≡ a) ⊎ (b ≡ None) → (c ≡ b) ⊎ (c ≡ None) → (c ≡ a) ⊎ (c ≡ None)
@@ -49,7 +48,6 @@ follows_more n r s a b c e f g = record {
   manifest = λ rev is. g.manifest rev (f.packed rev is) ∙ f.manifest rev is;
   pack = λ rev is. g.pack rev (f.packed rev is) ∙ f.pack rev is;
   own = λ rev known. own_more _ _ _ (f.own rev known) (g.own rev (known_later r s rev e known));
-  props = λ rev known. g.props rev (known_later r s rev e known) ∙ f.props rev known;
 }
 
 files_same : (n : Layout) (reach : Reach) (files : Option Files) → FilesLater n reach files files

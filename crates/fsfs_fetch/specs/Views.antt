@@ -5,7 +5,7 @@ use Rattle.fsfs_base.specs.declared.small_fault.SmallFault.{SmallFault}
 use Rattle.fsfs_disk.specs.Trace.{Trace}
 use Rattle.fsfs_layout.specs.declared.layout.Layout.{Layout}
 use Rattle.fsfs_layout.specs.Layouts.{shard_of}
-use Rattle.fsfs_revision.specs.RevBytes.{rev_bytes, rev_file, props_file, floor_in, manifest_file, pack_in}
+use Rattle.fsfs_revision.specs.RevBytes.{rev_bytes, rev_file, floor_in, manifest_file, pack_in}
 
 -- which revisions there are: those up to the youngest, which stays the youngest, or at least those up to a number
 pub data Reach : Type 0 where
@@ -50,14 +50,13 @@ unfoldable pub is_packed : Layout → Files → ℕ → Bool
 is_packed layout files rev = is_below rev (floor_in layout files)
 
 -- The files that are met later: revisions keep their bytes, floors don't fall, what is packed stays where it is, and a
--- revision's own file stays or goes.
+-- revision's own file stays or goes. Of property files nothing is said.
 pub record Follows (layout : Layout) (reach : Reach) (old new : Files) : Type 0 where
   pub bytes : (rev : ℕ) → IsKnown reach rev → rev_bytes layout new rev ≡ rev_bytes layout old rev
   pub packed : (rev : ℕ) → is_packed layout old rev ≡ true → is_packed layout new rev ≡ true
   pub manifest : (rev : ℕ) → is_packed layout old rev ≡ true → manifest_file new (shard_of layout rev) ≡ manifest_file old (shard_of layout rev)
   pub pack : (rev : ℕ) → is_packed layout old rev ≡ true → pack_in new (shard_of layout rev) ≡ pack_in old (shard_of layout rev)
   pub own : (rev : ℕ) → IsKnown reach rev → (rev_file layout new rev ≡ rev_file layout old rev) ⊎ (rev_file layout new rev ≡ None)
-  pub props : (rev : ℕ) → IsKnown reach rev → props_file layout new rev ≡ props_file layout old rev
 
 abbrev pub FilesLater : Layout → Reach → Option Files → Option Files → Type 0
 FilesLater layout reach None new = Unit {0}

@@ -76,7 +76,7 @@ pub(crate) fn file_len<R: Reads>(reads: &mut R, name: &Name) -> Result<Option<u6
     size_at(reads, name)
 }
 
-// A part of a revision's own file, or of the file of its properties. `None`: there is no such file.
+// A part of a revision's own file. `None`: there is no such file.
 pub(crate) fn file_part<R: Reads>(
     reads: &mut R,
     name: &Name,

@@ -4,7 +4,7 @@ ghost use Rattle.std.specs.Prelude.{◌≡◌, ◌<◌};
 use crate::reads::Reads;
 use fsfs_base::{Failed, Name, RevNum};
 use fsfs_disk::Disk;
-use fsfs_layout::Layout;
+use fsfs_layout::{Layout, RepositoryFile};
 
 /// A disk that nobody else writes to, with the youngest revision of its repository and its layout.
 #[derive(Drop)]
@@ -37,14 +37,15 @@ impl<D: Disk> OwnedReads<D> {
 }
 
 impl<D: Disk> Reads for OwnedReads<D> {
-    ghost use Rattle.fsfs_fetch.specs.Owned.{owned_view, state_of};
+    ghost use Rattle.fsfs_fetch.specs.Owned.{OwnedBelow, owned_view, state_of};
     ghost use Rattle.fsfs_fetch.specs.OwnedShort.{owned_short};
-    ghost use Rattle.std.specs.Prelude.{Option};
-    ghost use Rattle.fsfs_fetch.specs.Views.{DiskState};
+    ghost use Rattle.fsfs_fetch.specs.Props.{owned_props};
 
-    ghost Below = { Option DiskState };
+    ghost Below = { OwnedBelow };
 
     ghost view = { λ r. owned_view (state_of (D.trace r.disk) (D.mount_path r.disk) (D.may_write r.disk) (D.bench_faults r.disk)) r.youngest r.layout };
+
+    ghost may_meet = { λ r. owned_props (D.trace r.disk) r.layout };
 
     ghost faults = { λ r. D.faults r.disk };
 
@@ -63,6 +64,11 @@ impl<D: Disk> Reads for OwnedReads<D> {
         buffer: &mut [u8],
     ) -> Result<Option<usize>, Failed> {
         self.disk.read(name, offset, buffer)
+    }
+
+    fn read_props(&mut self, rev: RevNum, buffer: &mut [u8]) -> Result<Option<usize>, Failed> {
+        let name = RepositoryFile::Props(rev).name(self.layout);
+        self.disk.read(&name, 0, buffer)
     }
 
     fn size(&mut self, name: &Name) -> Result<Option<u64>, Failed> {

@@ -1,10 +1,11 @@
 //! What a store of revisions is read through.
-ghost use Rattle.std.specs.Prelude.{◌≡◌, ◌≤◌, ◌<◌, ℕ, length, IfOk, IfSome};
+ghost use Rattle.std.specs.Prelude.{◌≡◌, ◌≤◌, ◌<◌, ℕ, List, Option, length, IfOk, IfSome};
 ghost use Rattle.std.specs.FinMap.{get};
 ghost use Rattle.fsfs_base.specs.Failures.{HasCause};
 ghost use Rattle.fsfs_disk.specs.Benches.{HasShortFiles};
 ghost use Rattle.fsfs_disk.specs.Trace.{IsRead, IsSize};
 ghost use Rattle.fsfs_fetch.specs.Views.{View, Later, IsYoungest};
+ghost use Rattle.fsfs_fetch.specs.Props.{MeetsNoMore, Met};
 
 use fsfs_base::{Failed, Name, RevNum};
 use fsfs_layout::Layout;
@@ -19,6 +20,10 @@ pub trait Reads {
     /// changes.
     ghost view: { Self → View Below };
 
+    /// What the property file of a revision may be when it is looked at: a text, or absent. Others may set its properties
+    /// between two looks, so this may be one text or several.
+    ghost may_meet: { Self → ℕ → Option (List ℕ) → Type 0 };
+
     /// How often it has failed. The count stops at the last number of a u64.
     ghost faults: { Self → ℕ };
 
@@ -29,6 +34,7 @@ pub trait Reads {
     /// The youngest revision.
     fn youngest(&mut self) -> RevNum
         ensures youngest { IsYoungest (view self.new).reach result }
+        ensures fewer { MeetsNoMore (may_meet self.old) (may_meet self.new) }
         ensures later { Later (view self.old) (view self.new) }
         ensures faults { faults self.old ≤ faults self.new };
 
@@ -37,6 +43,16 @@ pub trait Reads {
     fn read(&mut self, name: &Name, offset: u64, buffer: &mut [u8]) -> Result<Option<usize>, Failed>
         ensures bound { IfOk result (λ found. IfSome found (λ n. n ≤ length buffer.new)) }
         ensures bytes { IfSome (view self.new).files (λ m. IfOk result (IsRead (get m name.now) offset buffer.old buffer.new)) }
+        ensures later { Later (view self.old) (view self.new) }
+        ensures cause { HasCause (faults self.old) (faults self.new) result };
+
+    /// Fills the buffer from the beginning of the property file of a revision, as far as the file goes, in one look at it, and
+    /// answers how many bytes that is: fewer than the buffer's length only where that is the whole file. `None`: there is no
+    /// such file.
+    fn read_props(&mut self, rev: RevNum, buffer: &mut [u8]) -> Result<Option<usize>, Failed>
+        ensures bound { IfOk result (λ found. IfSome found (λ n. n ≤ length buffer.new)) }
+        ensures met { IfOk result (Met (may_meet self.old rev) buffer.old buffer.new) }
+        ensures fewer { MeetsNoMore (may_meet self.old) (may_meet self.new) }
         ensures later { Later (view self.old) (view self.new) }
         ensures cause { HasCause (faults self.old) (faults self.new) result };
 

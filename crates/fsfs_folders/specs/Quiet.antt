@@ -2,7 +2,7 @@
 use Rattle.std.specs.Prelude.{◌≡◌, ℕ, List, ◌++◌, true, Option, Some, None}
 use Rattle.fsfs_folders.specs.System.CallRecord.{CallRecord, Create, MayMake, names_now}
 use Rattle.fsfs_folders.specs.Told.{trace_of}
-use Rattle.fsfs_folders.specs.Keeping.{keeps, is_newest, are_names_firm, are_folders_firm}
+use Rattle.fsfs_folders.specs.Keeping.{keeps, are_names_firm, are_folders_firm}
 
 -- the calls go on and keep to the rules, the names and what is told stay, and what was firm stays so
 pub record GoesOnQuietly (r s : CallRecord) : Type 0 where
@@ -22,11 +22,6 @@ abbrev pub IsSynced : List (List ℕ) → Option CallRecord → Option CallRecor
 IsSynced folders None new = Unit {0}
 IsSynced folders (Some r) None = ⊥
 IsSynced folders (Some r) (Some s) = (more : List (List ℕ)) → are_names_firm (folders ++ more) r.calls ≡ true → are_names_firm more s.calls ≡ true
-
--- this is the newest file
-abbrev pub IsNewestIn : Option CallRecord → ℕ → Type 0
-IsNewestIn None number = Unit {0}
-IsNewestIn (Some r) number = is_newest r.first r.calls number ≡ true
 
 -- a file was made, if it was, and then nothing changed of the repository
 abbrev pub MakesQuietly : List ℕ → Option CallRecord → Option CallRecord → Type 0

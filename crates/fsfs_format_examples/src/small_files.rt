@@ -1,8 +1,8 @@
 // Small files: their values, written again, and where they are refused.
 use fsfs_layout::{
-    Format, Layout, ManifestError, read_current, read_format, read_manifest, read_min_unpacked_rev,
-    read_next_ids, read_txn_current, read_uuid, write_current, write_manifest, write_next_ids,
-    write_txn_current, write_uuid,
+    Folders, Format, FormatFile, Layout, ManifestError, read_current, read_format, read_manifest,
+    read_min_unpacked_rev, read_next_ids, read_txn_current, read_uuid, write_current,
+    write_manifest, write_next_ids, write_txn_current, write_uuid,
 };
 use fsfs_memory::Transcript;
 use std::alloc::{AllocError, Global};
@@ -34,12 +34,14 @@ pub fn put_again(out: &mut Transcript, bytes: &[u8], again: Result<Vec<u8>, Allo
 /// `db/format`.
 pub fn put_format(out: &mut Transcript, bytes: &[u8]) {
     match read_format(bytes) {
-        Ok(Format::Linear) => out.say("linear"),
-        Ok(Format::Sharded(size)) => {
-            out.show(&size);
-            out.say(" in a shard");
-        }
-        Ok(Format::Other(number)) => out.tell("format ", &number),
+        Ok(FormatFile::Known(layout)) => match layout.folders() {
+            Folders::OneFolder => out.say("linear"),
+            Folders::Shards(size) => {
+                out.show(&size);
+                out.say(" in a shard");
+            }
+        },
+        Ok(FormatFile::Other(number)) => out.tell("format ", &number),
         Err(fault) => put_place(out, fault.at, bytes),
     }
 }
@@ -66,15 +68,21 @@ pub fn put_current(out: &mut Transcript, alloc: Global, bytes: &[u8]) {
     }
 }
 
-// Shards of so many revisions; of two where that is no number of them.
+// Shards of so many revisions, of two where that is no number of them; `linear` is one folder, and `three` format 3 in shards of two.
 fn layout_of(word: &str) -> Layout {
+    if word == "linear" {
+        return Layout::new(Format::Four, Folders::OneFolder);
+    }
+    if word == "three" {
+        return Layout::new(Format::Three, Folders::Shards(2));
+    }
     match word.parse::<u32>() {
         Ok(size) if 0 < size && size <= 2147483647 => Layout::sharded(size),
         _ => Layout::sharded(2),
     }
 }
 
-/// `db/min-unpacked-rev`, where a shard has so many revisions.
+/// `db/min-unpacked-rev`, where a shard has so many revisions, in one folder, or of format 3.
 pub fn put_floor(out: &mut Transcript, size: &str, bytes: &[u8]) {
     match read_min_unpacked_rev(layout_of(size), bytes) {
         Ok(floor) => out.tell("r", &floor),

@@ -7,7 +7,7 @@ use crate::representations::{book_of, put_error};
 use fsfs_base::{FsPath, Kind, RevNum};
 use fsfs_dag::{DirEntry, Met, PlacedNode, TextError, entries, node_at, props, text_to};
 use fsfs_memory::{MemSink, Transcript};
-use fsfs_revision::{Book, MemBook, ReadError};
+use fsfs_revision::{Book, MemBook, ReadError, RevProps};
 use std::alloc::Global;
 
 fn put_names(out: &mut Transcript, entries: &[DirEntry]) {
@@ -100,7 +100,7 @@ pub fn put_youngest(out: &mut Transcript, alloc: Global, first: &[u8], second: &
     };
     out.tell("r", &youngest);
     let mut buffer = [0u8; 4];
-    match book.read_props(youngest, 0, &mut buffer) {
+    match book.read_props(youngest, &mut buffer) {
         Ok(count) => {
             out.say(" ");
             out.bytes(buffer.get(..count).unwrap_or(&[]));

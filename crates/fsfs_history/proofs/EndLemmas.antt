@@ -14,7 +14,7 @@ use Rattle.fsfs_revision.specs.Damage.Readings.{Answers}
 use Rattle.fsfs_revision.specs.Told.{RevisionBytes}
 use Rattle.fsfs_revision.specs.declared.trailer.Trailer.{Trailer}
 use Rattle.fsfs_revision.specs.Trailers.{IsTrailer, EndsWith}
-use Rattle.fsfs_look.proofs.RevpropsFileLemmas.{further_front, further_whole}
+use Rattle.fsfs_history.proofs.PiecesRead.{further_front, further_whole}
 use Rattle.fsfs_dag.specs.Told.{LengthOf, WindowAt}
 use Rattle.fsfs_dag.proofs.Windows.{one_bytes, tail_ends, tail_seen, window_end, window_part}
 use Rattle.fsfs_stands.specs.Items.{IsData, DataOf}

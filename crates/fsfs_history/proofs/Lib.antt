@@ -1,5 +1,6 @@
 pub mod HistoryLemmas
 pub mod HistoryTexts
+mod PiecesRead
 pub mod EndLemmas
 pub mod ItemLemmas
 pub mod TextKeys

@@ -14,8 +14,8 @@ use std::collections::BTreeMap;
 
 /// Items by the texts of their paths, in the order of the bytes of these.
 #[derive(Drop)]
-pub(crate) struct ItemsByText {
-    pub(crate) items: BTreeMap<Vec<u8>, ChangeItem>,
+pub struct ItemsByText {
+    pub items: BTreeMap<Vec<u8>, ChangeItem>,
 }
 
 /// The bytes of a path's text.
@@ -29,7 +29,7 @@ pub(crate) fn text_of(alloc: Global, path: &FsPath) -> Result<Vec<u8>, AllocErro
 
 impl ItemsByText {
     /// The items, each at the text of its path.
-    pub(crate) fn of(alloc: Global, items: Vec<ChangeItem>) -> Result<ItemsByText, AllocError>
+    pub fn of(alloc: Global, items: Vec<ChangeItem>) -> Result<ItemsByText, AllocError>
         ensures { IfOk result (λ found. by_text_value found ≡ by_text items.items) }
     {
         let mut found = ItemsByText {

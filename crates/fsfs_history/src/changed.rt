@@ -16,8 +16,8 @@ use fsfs_revision::{Book, Wrong};
 use fsfs_stands::LookFault;
 use std::alloc::Global;
 
-// How a text ends behind the lines of its items.
-fn ending(wrong: Option<Wrong>) -> Result<(), LookError>
+/// How a text ends behind what is written of its items.
+pub fn ending(wrong: Option<Wrong>) -> Result<(), LookError>
     ensures { EndsText wrong result }
 {
     match wrong {

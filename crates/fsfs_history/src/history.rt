@@ -29,14 +29,14 @@ use itoa::Buffer;
 use std::alloc::{AllocError, Global};
 
 /// The revision and path of a copy.
-#[derive(Debug, Drop)]
+#[derive(Drop)]
 pub(crate) struct CopyPlace {
     rev: RevNum,
     path: FsPath,
 }
 
 /// A point of a history: the path, the node that stood there, and the latest copy by which it came there.
-#[derive(Debug, Drop)]
+#[derive(Drop)]
 pub(crate) struct HistoryPoint {
     path: FsPath,
     found: PlacedNode,
@@ -44,7 +44,7 @@ pub(crate) struct HistoryPoint {
 }
 
 /// What stands at a path.
-#[derive(Debug, Drop)]
+#[derive(Drop)]
 pub(crate) enum Way {
     Point(HistoryPoint),
     /// So many names from the root lead to nothing.
@@ -54,7 +54,7 @@ pub(crate) enum Way {
 }
 
 /// Where a point leads.
-#[derive(Clone, Copy, Debug, PartialEq, Eq)]
+#[derive(Clone, Copy)]
 pub(crate) enum Leading {
     /// It was new there.
     Nowhere,

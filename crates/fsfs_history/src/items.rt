@@ -13,9 +13,9 @@ use std::alloc::Global;
 
 /// The items of a revision in the order of its data, and what is wrong behind them, where something is.
 #[derive(Drop)]
-pub(crate) struct ReadItems {
-    pub(crate) items: Vec<ChangeItem>,
-    pub(crate) wrong: Option<Wrong>,
+pub struct ReadItems {
+    pub items: Vec<ChangeItem>,
+    pub wrong: Option<Wrong>,
 }
 
 // The items before the one that is refused, which begins here.
@@ -56,11 +56,7 @@ fn items_in(alloc: Global, rev: RevNum, changes: &ChangesData) -> Result<ReadIte
 }
 
 /// The items of a revision. Where one is refused, those before it, and the damage at its place.
-pub(crate) fn items_of<B: Book>(
-    alloc: Global,
-    book: &mut B,
-    rev: RevNum,
-) -> Result<ReadItems, ReadError>
+pub fn items_of<B: Book>(alloc: Global, book: &mut B, rev: RevNum) -> Result<ReadItems, ReadError>
     ensures told { (look : RevisionBytes) → IsTold (B.told book.old) look rev → Answers (λ r. (r.items.items, r.wrong)) (ItemsOf look rev) result }
     ensures kept { Keeps (B.told book.old) (B.told book.new) }
     ensures cause { HasCause (B.faults book.old) (B.faults book.new) result }

@@ -31,8 +31,8 @@ pub(crate) fn kind_at<B: Book>(
     }
 }
 
-// Whether an id is of a node-revision that this revision could name: no transaction's, and of no later revision.
-fn is_nameable(rev: RevNum, id: &NodeId) -> bool
+/// Whether an id is of a node-revision that this revision could name: no transaction's, and of no later revision.
+pub fn is_nameable(rev: RevNum, id: &NodeId) -> bool
     ensures { result ≡ is_nameable rev id.now }
 {
     match id.place {
@@ -60,7 +60,7 @@ fn kind_unsaid<B: Book>(
 }
 
 /// The kind of what an item is about.
-pub(crate) fn kind_of<B: Book>(
+pub fn kind_of<B: Book>(
     alloc: Global,
     book: &mut B,
     rev: RevNum,

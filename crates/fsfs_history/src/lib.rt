@@ -17,5 +17,8 @@ mod kinds;
 mod lines;
 mod taken;
 
-pub use changed::changed_text;
+pub use by_text::ItemsByText;
+pub use changed::{changed_text, ending};
 pub use history::history_text;
+pub use items::{ReadItems, items_of};
+pub use kinds::{is_nameable, kind_of};

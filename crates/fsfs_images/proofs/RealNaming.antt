@@ -1,7 +1,7 @@
 -- The machine's files are told apart by their names.
 use Rattle.std.proofs.Common.{◌≡◌, ℕ, Bool, true, false, refl, sym, ap, ◌∙◌}
 use Rattle.std.proofs.lemmas.Bool.{eqb-true, eq-eqb}
-use Rattle.fsfs_layout.specs.FileNames.{file_name}
+use Rattle.fsfs_layout.specs.FileNames.{file_name, FitsFile}
 use Rattle.fsfs_layout.specs.declared.layout.Layout.{Layout}
 use Rattle.fsfs_layout.specs.declared.only_file.OnlyFile.TheVariants as only
 use Rattle.fsfs_layout.specs.declared.repository_file.RepositoryFile.{RepositoryFile}
@@ -11,6 +11,7 @@ use Rattle.fsfs_machine.specs.declared.contents.FileName.{FileName}
 use Rattle.fsfs_machine.specs.declared.contents.FileName.TheVariants.{Current, CurrentNext, Counter, CounterNext, Floor, Rev, Props}
 use Rattle.fsfs_machine.specs.Disk.{same_name}
 use Rattle.fsfs_images.specs.RealNames.{machine_file, AreMachineNames}
+use Rattle.fsfs_images.specs.Shown.{Fits}
 
 -- the machine's name of a file, for those that it has one of
 abbrev back : RepositoryFile → FileName
@@ -57,6 +58,16 @@ same_is a b e = sym (is_back a) ∙ ap back (same_files a b e) ∙ is_back b
 not_false : (b : Bool) → b ≡ true → b ≡ false → ⊥
 not_false true e f = cc
 not_false false e f = cc
+
+-- a file of the machine is one that a repository of any layout may have
+pub fits_in : (layout : Layout) (n : FileName) → Fits n → FitsFile layout (machine_file n)
+fits_in layout Current fits = tt
+fits_in layout CurrentNext fits = tt
+fits_in layout Counter fits = tt
+fits_in layout CounterNext fits = tt
+fits_in layout Floor fits = tt
+fits_in layout (Rev r) fits = fits
+fits_in layout (Props r) fits = fits
 
 pub machine_names_apart : (layout : Layout) → AreMachineNames layout
 machine_names_apart k = record {

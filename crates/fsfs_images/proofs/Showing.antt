@@ -8,9 +8,10 @@ use Rattle.fsfs_base.specs.Files.{Files, renamed}
 use Rattle.fsfs_base.proofs.FileLemmas.{get_new, get_kept, get_left}
 use Rattle.fsfs_layout.specs.declared.layout.Layout.{Layout}
 use Rattle.fsfs_layout.specs.declared.repository_file.RepositoryFile.TheVariants as real_file
-use Rattle.fsfs_layout.specs.Layouts.{shard_of, place_in_shard}
+use Rattle.fsfs_layout.specs.Layouts.{shard_size, shard_of, place_in_shard}
 use Rattle.fsfs_layout.specs.Names.{in_pack}
 use Rattle.fsfs_layout.proofs.Apart.{names_apart}
+use Rattle.fsfs_layout.proofs.Manifests.{size_some}
 use Rattle.fsfs_revision.specs.declared.wrong.Refusal.{Refusal}
 use Rattle.fsfs_revision.specs.RevBytes.{manifest_of, section_of, cut_from, packed_bytes}
 use Rattle.fsfs_disk.specs.Trace.{Operation, files_after, ImageAfter, TornBy}
@@ -23,11 +24,11 @@ use Rattle.fsfs_machine.specs.declared.contents.NameChange.TheVariants.{Put, Ren
 use Rattle.fsfs_machine.specs.Disk.{Disk, found, same_name, IsImage}
 use Rattle.fsfs_images.specs.RealNames.{machine_file, machine_name}
 use Rattle.fsfs_images.specs.Shown.{Fits, Reads, AtName, there_in, packed_in, file_in, IsOwn, MayChange, AreRead, IsBeside, IsNoPack, IsTraceOf, Start, Opening, Putting, Adopting, Renaming, Removing, Firming, Attempting, PuttingBeside, AdoptingBeside, RemovingBeside, KeepingLabel, DroppingLabel, ImagesAreShown}
-use Rattle.fsfs_images.proofs.RealNaming.{machine_names_apart, same_is}
+use Rattle.fsfs_images.proofs.RealNaming.{fits_in, machine_names_apart, same_is}
 
 module _ (layout : Layout) where
   apart : (a b : FileName) → Fits a → Fits b → same_name a b ≡ false → machine_name layout b ≡ machine_name layout a → ⊥
-  apart a b fa fb e = (machine_names_apart layout).apart a b fa fb e
+  apart a b fa fb e = (machine_names_apart layout).apart a b (fits_in layout a fa) (fits_in layout b fb) e
 
   named_same : (a b : FileName) → same_name a b ≡ true → machine_name layout a ≡ machine_name layout b
   named_same a b e = (machine_names_apart layout).same a b e
@@ -41,7 +42,7 @@ module _ (layout : Layout) where
   manifest_name r = in_pack (shard_of layout r) (codes "/manifest")
 
   shard_fits : (r : ℕ) → r < 2 ^ 32 → shard_of layout r < 2 ^ 32
-  shard_fits r fits = div_below r layout.shard_size (2 ^ 32) layout.some (omega (arith, fits, layout.some))
+  shard_fits r fits = div_below r (shard_size layout) (2 ^ 32) (size_some layout) (omega (arith, fits, size_some layout))
 
   no_pack : (n : FileName) (s : ℕ) → real_file.Pack s ≡ machine_file n → ⊥
   no_pack Current s e = cc
@@ -62,10 +63,10 @@ module _ (layout : Layout) where
   no_manifest (Props r) s e = cc
 
   not_pack : (r : ℕ) → r < 2 ^ 32 → (n : FileName) → Fits n → pack_name r ≡ machine_name layout n → ⊥
-  not_pack r fits n fn e = no_pack n (shard_of layout r) (names_apart layout (real_file.Pack (shard_of layout r)) (machine_file n) (shard_fits r fits) fn e)
+  not_pack r fits n fn e = no_pack n (shard_of layout r) (names_apart layout (real_file.Pack (shard_of layout r)) (machine_file n) (shard_fits r fits) (fits_in layout n fn) e)
 
   not_manifest : (r : ℕ) → r < 2 ^ 32 → (n : FileName) → Fits n → manifest_name r ≡ machine_name layout n → ⊥
-  not_manifest r fits n fn e = no_manifest n (shard_of layout r) (names_apart layout (real_file.Manifest (shard_of layout r)) (machine_file n) (shard_fits r fits) fn e)
+  not_manifest r fits n fn e = no_manifest n (shard_of layout r) (names_apart layout (real_file.Manifest (shard_of layout r)) (machine_file n) (shard_fits r fits) (fits_in layout n fn) e)
 
   -- the packed revisions stand where they stood
   record SamePacks (m new : Files) : Type 0 where

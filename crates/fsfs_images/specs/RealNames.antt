@@ -25,4 +25,4 @@ machine_name layout n = file_name layout (machine_file n)
 -- by these names the machine's files are told apart, as far as revisions are within their limit
 pub record AreMachineNames (layout : Layout) : Type 0 where
   pub same : (a b : FileName) → same_name a b ≡ true → machine_name layout a ≡ machine_name layout b
-  pub apart : (a b : FileName) → FitsFile (machine_file a) → FitsFile (machine_file b) → same_name a b ≡ false → machine_name layout b ≡ machine_name layout a → ⊥
+  pub apart : (a b : FileName) → FitsFile layout (machine_file a) → FitsFile layout (machine_file b) → same_name a b ≡ false → machine_name layout b ≡ machine_name layout a → ⊥

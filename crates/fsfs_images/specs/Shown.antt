@@ -2,11 +2,10 @@
 --
 -- A file is a thing of the machine where its bytes are in the grammar of its name. A revision file carries its bytes: that these show
 -- its tree is said elsewhere, of the bytes alone. Any bytes may be junk, and of junk nothing is claimed.
-use Rattle.std.specs.Prelude.{◌≡◌, ◌≤◌, ◌==◌, nat_lt, nat_eq, if◌then◌else◌, codes, ℕ, List, [], ◌∷◌, Bool, true, false, Option, Some, None, Result, Ok, Err}
+use Rattle.std.specs.Prelude.{◌≡◌, ◌≤◌, ◌<◌, ◌^◌, ◌==◌, nat_lt, nat_eq, if◌then◌else◌, codes, ℕ, List, [], ◌∷◌, Bool, true, false, Option, Some, None, Result, Ok, Err}
 use Rattle.std.specs.Cmp.Lexicographic.{pointwise}
 use Rattle.std.specs.FinMap as map
 use Rattle.fsfs_base.specs.Files.{Files}
-use Rattle.fsfs_layout.specs.FileNames.{FitsFile}
 use Rattle.fsfs_layout.specs.Names.{in_pack}
 use Rattle.fsfs_layout.specs.Small.{IsRevLine, IsBase36Line}
 use Rattle.fsfs_layout.specs.declared.layout.Layout.{Layout}
@@ -24,11 +23,13 @@ use Rattle.fsfs_machine.specs.declared.contents.Contents.TheVariants.{RevFile, P
 use Rattle.fsfs_machine.specs.declared.contents.NameChange.TheVariants.{Put, Rename, Remove, Firm}
 use Rattle.fsfs_machine.specs.Machine.{has_label, without, labels_left}
 use Rattle.fsfs_machine.specs.Disk.{Disk, found, IsImage}
-use Rattle.fsfs_images.specs.RealNames.{machine_file, machine_name}
+use Rattle.fsfs_images.specs.RealNames.{machine_name}
 
 -- a revision of 32 bits
 abbrev pub Fits : FileName → Type 0
-Fits n = FitsFile (machine_file n)
+Fits (Rev r) = r < 2 ^ 32
+Fits (Props r) = r < 2 ^ 32
+Fits n = Unit {0}
 
 -- the bytes of a file of this name are read so
 abbrev pub Reads : FileName → List ℕ → Contents → Type 0

@@ -114,7 +114,7 @@ unbegun_so knows rose moment base job why v u known all after told there moved w
   begin_counted job job.line why (StopsOver v.seen),
 )
 
--- or the machine has no reading of the number that stood in `db/txn-current`
+-- or no name comes behind the number that stood in `db/txn-current`
 module _ (line : ℕ) (job : CommitJob) where
   pub lacking_fails : (why : BeginFault) → LacksNumber why → Fails (jobs.Commit job) (Stopped line (fault_of_begin why))
   lacking_fails (begin.NoRev asked youngest) lacks = absurd lacks

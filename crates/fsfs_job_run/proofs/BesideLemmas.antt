@@ -1,5 +1,6 @@
 -- The lines of jobs that are done beside each other hold of the history, however it goes on.
-use Rattle.std.proofs.Common.{◌≡◌, ◌≤◌, ℕ, max, List, [], ◌∷◌, ◌++◌, suc, Bool, true, false, refl, sym, ap, ◌∙◌, append_assoc, append-nil, inl, inr, arith}
+use Rattle.std.proofs.Common.{◌≡◌, ◌≤◌, ◌<◌, ◌+◌, ℕ, max, take, length, subst, length-append, List, [], ◌∷◌, ◌++◌, suc, Bool, true, false, refl, sym, ap, ◌∙◌, append_assoc, append-nil, inl, inr, arith}
+use Rattle.std.proofs.lemmas.List.{map-append, take-append-le}
 use Rattle.std.specs.Prelude.{is_some}
 use Rattle.fsfs_tree.specs.Revisions.{Revision}
 use Rattle.fsfs_tree.specs.Dated.{last_of}
@@ -8,11 +9,15 @@ use Rattle.fsfs_machine.specs.Machine.{revisions}
 use Rattle.fsfs_turn.specs.Views.{View, Begins}
 use Rattle.fsfs_script.specs.declared.job_lines.job.Base.{Base}
 use Rattle.fsfs_script.specs.declared.job_lines.job.Base.TheVariants.{Youngest, Number}
+use Rattle.fsfs_script.specs.declared.job_lines.job.CommitJob.{CommitJob}
 use Rattle.fsfs_script.specs.declared.job_lines.job.Job.{Job}
+use Rattle.fsfs_cli.specs.declared.faults.fault.Fault.{Fault}
 use Rattle.fsfs_jobs.specs.Serial.{base_of, ReadsText as AloneReads, LacksRead as AloneLacksRead, LacksBase as AloneLacksBase, LacksName, Begins as AloneBegins}
 use Rattle.fsfs_jobs.specs.declared.answer.JobAnswer.{JobAnswer}
 use Rattle.fsfs_job_run.specs.Serial.Jobs.{own_of, own_of_all, tells_stuck}
-use Rattle.fsfs_job_run.specs.Workers.Beside.{IsBase, RunsBeside, ReadsText, LacksRead, LacksBase, DoesEdits, GoesOnFrom, shown_in}
+use Rattle.fsfs_job_run.specs.Serial.Counts.{StopsOver}
+use Rattle.fsfs_job_run.specs.Workers.Beside.{CountsIn, IsBase, RunsBeside, ReadsText, LacksRead, LacksBase, DoesEdits, GoesOnFrom, shown_in}
+use Rattle.fsfs_job_run.proofs.Counted.{counted_on}
 use Rattle.fsfs_job_run.specs.Workers.Passes.{last_known, IsOnward, End, More}
 use Rattle.fsfs_job_run.specs.Workers.Laws.{LinesStay, WorkersLinesStay, AloneIsBeside, WorkGoesOn, WorkersWorked}
 
@@ -31,6 +36,16 @@ runs_less g date k less _ _ _ few (LacksRead job n is above) = LacksRead job n i
 runs_less g date k less _ _ _ few (LacksBase job n is above) = LacksBase job n is above
 runs_less g date k less _ _ _ few (DoesEdits job answer now at b does) = DoesEdits job answer now at (based job.base k less (last_of g) at few b) does
 
+pub parts : (h later : List Recorded) → Begins later h → GoesOnFrom (revisions h) (revisions later)
+parts h later b = (revisions b.0, ap revisions b.1 ∙ map-append (λ (x : Recorded). x.revision) h b.0)
+
+counts_stay : (h later : List Recorded) (k less : ℕ) (job : CommitJob) (line : ℕ) (fault : Fault) → Begins later h → less ≤ k → CountsIn h k job line fault → CountsIn later less job line fault
+counts_stay h later k less job line fault on few c =
+    let short : c.0 + 1 ≤ length h = omega (arith, c.2) in
+    let same : take (c.0 + 1) later ≡ take (c.0 + 1) h = ap (λ (l : List Recorded). take (c.0 + 1) l) on.1 ∙ take-append-le (c.0 + 1) h on.0 short in
+    let long : length later ≡ length h + length on.0 = ap (λ (l : List Recorded). length l) on.1 ∙ length-append h on.0 in
+    (c.0, omega (arith, few, c.1), omega (arith, long, c.2), subst (λ (l : List Recorded). StopsOver l job line fault) (sym same) c.3)
+
 pub stay : LinesStay
 stay moment h later k less job answer on few (inl d) = inl (record {
   before = d.before;
@@ -39,9 +54,9 @@ stay moment h later k less job answer on few (inl d) = inl (record {
   date = d.date;
   dated = d.dated;
   runs = runs_less d.before d.date k less job answer d.behind few d.runs;
-  part = goes_on d.behind h later d.part on;
+  part = goes_on d.behind (revisions h) (revisions later) d.part (parts h later on);
 })
-stay moment h later k less job answer on few (inr fails) = inr fails
+stay moment h later k less job answer on few (inr fails) = inr (fails.0, counted_on job answer (CountsIn h k) (CountsIn later less) (λ j line fault. counts_stay h later k less j line fault on few) fails.1)
 
 pub all_stay : WorkersLinesStay
 all_stay moment h later k less [] [] on few l = tt
@@ -77,8 +92,8 @@ begins_on h m v a b = (b.0 ++ a.0, a.1 ∙ ap (λ (l : List Recorded). l ++ a.0)
 pub onward : (h : List Recorded) (m u : View) → Begins u.seen m.seen → last_known m ≤ last_known u → IsOnward u h → IsOnward m h
 onward h m u begins later on = record { begins = begins_on h u.seen m.seen on.begins begins; has = omega (arith, later, on.has) }
 
-pub goes_on_itself : (h : List Revision) → GoesOnFrom h h
-goes_on_itself h = ([], sym (append-nil h))
+pub begins_itself : (h : List Recorded) → Begins h h
+begins_itself h = ([], sym (append-nil h))
 
 not_so : (a b : Bool) → (a ≡ true → b ≡ true) → b ≡ false → a ≡ false
 not_so true b so none = let e : b ≡ true = so refl in absurd cc
@@ -100,7 +115,7 @@ worked moment _ _ _ _ (More job answer js answers v m u first rest) =
       each = ap suc w.each;
       lines = λ h on. (
         first.line h (onward h m u w.begins w.later on),
-        all_stay moment (revisions h) (revisions h) (last_known m) (max (last_known v) (shown_in answer)) js answers (goes_on_itself (revisions h)) (omega (arith, first.later, first.shown)) (w.lines h on),
+        all_stay moment h h (last_known m) (max (last_known v) (shown_in answer)) js answers (begins_itself h) (omega (arith, first.later, first.shown)) (w.lines h on),
       );
       begins = begins_on u.seen m.seen v.seen w.begins first.grows;
       later = omega (arith, first.later, w.later);

@@ -72,6 +72,32 @@ none_counted (jobs.Commit job) (answers.Stopped line (Outside why)) P none = tt
 none_counted (jobs.Commit job) (answers.Stopped line Memory) P none = tt
 none_counted (jobs.Commit job) (answers.Stopped line (Limit why)) P none = tt
 
+-- the fact may say less
+pub counted_on : (job : Job) (answer : JobAnswer) (P Q : CommitJob → ℕ → Fault → Type 0) → ((j : CommitJob) (line : ℕ) (fault : Fault) → P j line fault → Q j line fault) → IfCounted job answer P → IfCounted job answer Q
+counted_on (jobs.Read job) answer P Q f c = tt
+counted_on (jobs.Commit job) (answers.Committed rev) P Q f c = tt
+counted_on (jobs.Commit job) (answers.Read text) P Q f c = tt
+counted_on (jobs.Commit job) (answers.Conflict head path) P Q f c = tt
+counted_on (jobs.Commit job) (answers.Stopped line (Words why)) P Q f c = tt
+counted_on (jobs.Commit job) (answers.Stopped line (Request why)) P Q f c = asked why c
+  where
+    asked : (w : RequestFault) → IfCounted (jobs.Commit job) (answers.Stopped line (Request w)) P → IfCounted (jobs.Commit job) (answers.Stopped line (Request w)) Q
+    asked (requests.NotFound path) c = tt
+    asked (requests.NotDir path) c = tt
+    asked (requests.NotFile path) c = tt
+    asked (requests.NoRev n youngest) c = tt
+    asked (requests.NoTxn txn) c = tt
+    asked requests.AlreadyRepo c = tt
+    asked requests.NotRepo c = tt
+    asked (requests.Exists path) c = tt
+    asked requests.RootFixed c = tt
+    asked (requests.Mergeinfo path) c = f job line (Request (requests.Mergeinfo path)) c
+    asked (requests.BadScript bad) c = tt
+counted_on (jobs.Commit job) (answers.Stopped line (Repository why)) P Q f c = tt
+counted_on (jobs.Commit job) (answers.Stopped line (Outside why)) P Q f c = tt
+counted_on (jobs.Commit job) (answers.Stopped line Memory) P Q f c = tt
+counted_on (jobs.Commit job) (answers.Stopped line (Limit why)) P Q f c = tt
+
 pub refused_counted : (base : ℕ) (name : TxnName) (job : CommitJob) (line : ℕ) (fault : Fault) (h : List Recorded) → base ≡ base_of job.base (last_of (revisions h))
     → IfRefused fault (StopsAt (Bars (bytes_of h) (tree_of (revisions h)) (last_of (revisions h)) base name) (tree_of (revisions h)) (last_of (revisions h)) (tree_of (revisions h) base) [] job.steps line fault)
     → IfCounted (jobs.Commit job) (answers.Stopped line fault) (StopsOver h)

@@ -1,6 +1,6 @@
 -- A run of jobs over what a pass has seen is one over histories.
-use Rattle.std.proofs.Common.{◌≡◌, ◌⊎◌, ◌+◌, ℕ, List, [], ◌∷◌, length, true, refl, sym, ap, subst, ◌∙◌, length-append, inl, inr, arith}
-use Rattle.std.proofs.lemmas.List.{map-append, length-map}
+use Rattle.std.proofs.Common.{◌≡◌, ◌⊎◌, ◌+◌, ℕ, zero, suc, List, [], ◌∷◌, length, true, refl, sym, ap, subst, ◌∙◌, length-append, append-nil, take, inl, inr, arith}
+use Rattle.std.proofs.lemmas.List.{map-append, length-map, take_at}
 use Rattle.std.specs.Prelude.{Option, Some, None, IfSome, Result, Err}
 use Rattle.fsfs_base.specs.Failures.{Rose}
 use Rattle.fsfs_layout.specs.declared.layout.Layout.{Layout}
@@ -11,7 +11,8 @@ use Rattle.fsfs_base.specs.declared.places.open_fault.OpenFault.TheVariants.{Not
 use Rattle.fsfs_repo.specs.OpenFaults.{OpensBecause}
 use Rattle.fsfs_stands.specs.Files.{StandsFor}
 use Rattle.fsfs_repo.specs.Known.{HasSeenAll}
-use Rattle.fsfs_turn.specs.Opening.{LeftoversAgree}
+use Rattle.fsfs_turn.specs.Opening.{LeftoversAgree, given_before}
+use Rattle.fsfs_machine.specs.Kept.{IsIn}
 use Rattle.fsfs_script.specs.Errors.{IfReadFault}
 use Rattle.fsfs_script.specs.Whole.{ReadsScript}
 use Rattle.fsfs_script.specs.declared.script_error.ScriptError.{ScriptError}
@@ -23,7 +24,9 @@ use Rattle.fsfs_machine.specs.declared.machine.Recorded.{Recorded}
 use Rattle.fsfs_machine.specs.declared.machine.Coming.{Coming}
 use Rattle.fsfs_machine.specs.Machine.{recorded, revisions}
 use Rattle.fsfs_tree.specs.Revisions.{Revision}
-use Rattle.fsfs_turn.specs.Views.{View}
+use Rattle.fsfs_turn.specs.Views.{View, Begins}
+use Rattle.fsfs_turn.proofs.Reading.{begins_on}
+use Rattle.fsfs_job_run.specs.Serial.Counts.{IfCounted, StopsOver}
 use Rattle.fsfs_turn.specs.Alone.{are_harmless, KnowsAlone}
 use Rattle.fsfs_turn.specs.Past.{IsPart}
 use Rattle.fsfs_turn.specs.Whole.{NamesFrom}
@@ -33,12 +36,12 @@ use Rattle.fsfs_jobs.specs.declared.answer.JobAnswer.{JobAnswer}
 use Rattle.fsfs_job_run.specs.Serial.Jobs.{DoesJob, Fails, ByDisk, ByBench, ByStuck, ByMemory, ByNames, ByCounts, AddsBy, RunsJob, RunJobs, End, More, StuckBehindDoubt, bench_faults_in}
 use Rattle.fsfs_job_run.proofs.SerialJobLemmas.{runs_serial, grow}
 use Rattle.fsfs_job_run.proofs.ListedLemmas.{failed_on}
-use Rattle.fsfs_job_run.specs.Running.{DoAll}
+use Rattle.fsfs_job_run.specs.Running.{DoAll, HasGiven}
 use Rattle.fsfs_job_run.proofs.Unopened.{does_not_open}
 use Rattle.fsfs_job_run.specs.Openings.{OpensAs}
 use Rattle.fsfs_job_run.specs.Workers.Lines.{disk_faults_in, RoseBy}
 use Rattle.fsfs_job_run.specs.Histories.{EndsJob, EndJobs, DidScript}
-use Rattle.fsfs_job_run.specs.Runs.{AllStandFor, HoldsAll, IsPartOf, Ran, RanOver, RunScene, RunsScript, NotOpened, NotRead, NoRoom, Done}
+use Rattle.fsfs_job_run.specs.Runs.{AllStandFor, HoldsAll, IsNextName, IsPartOf, Ran, RanOver, RunScene, RunsScript, NotOpened, NotRead, NoRoom, Done}
 
 stays : (job : Job) (answer : JobAnswer) (h now : List Recorded) → Fails job answer → AddsBy answer h now → now ≡ h
 stays _ _ h now (ByDisk job line at) same = same
@@ -55,17 +58,27 @@ ends_job moment job answer v u r = by r.done
     by (inl does) = inl does
     by (inr fails) = inr (fails, ap revisions (stays job answer v.seen u.seen fails r.leaves.adds))
 
-ends_jobs : (moment : ℕ) (js : List Job) (answers : List JobAnswer) (v u : View) → RunJobs moment js answers v u → EndJobs moment (revisions v.seen) js answers (revisions u.seen)
-ends_jobs moment _ _ _ _ (End v) = refl
-ends_jobs moment _ _ _ _ (More job answer js answers v m u first rest) = (revisions m.seen, ends_job moment job answer v m first, ends_jobs moment js answers m u rest)
+-- what a pass had seen is the first part of what it has seen later
+first_of : (h g : List Recorded) → Begins g h → take (length (revisions h)) g ≡ h
+first_of h g b = ap (λ (l : List Recorded). take (length (revisions h)) l) b.1 ∙ take_at h b.0 (length (revisions h)) (sym (length-map h (λ (x : Recorded). x.revision)))
 
-pub did_script : (moment : ℕ) (js : List Job) (answers : List JobAnswer) (v u : View) → RunJobs moment js answers v u → DidScript moment js answers (revisions v.seen) (revisions u.seen)
+ends_jobs : (moment : ℕ) (seen : List Recorded) (js : List Job) (answers : List JobAnswer) (v u : View) → RunJobs moment js answers v u → Begins seen u.seen → EndJobs moment seen (revisions v.seen) js answers (revisions u.seen)
+ends_jobs moment seen _ _ _ _ (End v) part = refl
+ends_jobs moment seen _ _ _ _ (More job answer js answers v m u first counts rest) part =
+    let all : Begins seen v.seen = begins_on v.seen u.seen seen (grow moment (job ∷ js) (answer ∷ answers) v u (More job answer js answers v m u first counts rest)).begins part in (
+      revisions m.seen,
+      ends_job moment job answer v m first,
+      subst (λ (h : List Recorded). IfCounted job answer (StopsOver h)) (sym (first_of v.seen seen all)) counts,
+      ends_jobs moment seen js answers m u rest part,
+    )
+
+pub did_script : (moment : ℕ) (js : List Job) (answers : List JobAnswer) (v u : View) → RunJobs moment js answers v u → DidScript moment u.seen js answers (revisions v.seen) (revisions u.seen)
 did_script moment js answers v u runs =
     let grown = grow moment js answers v u runs in
     let more = grown.begins.0 in
     let all : length u.seen ≡ length v.seen + length more = ap (λ (l : List Recorded). length l) grown.begins.1 ∙ length-append v.seen more in
     record {
-      jobs = ends_jobs moment js answers v u runs;
+      jobs = ends_jobs moment u.seen js answers v u runs ([], sym (append-nil u.seen));
       more = revisions more;
       grew = ap revisions grown.begins.1 ∙ map-append (λ (x : Recorded). x.revision) v.seen more;
       by = length-map more (λ (x : Recorded). x.revision) ∙ omega (arith, all, grown.count);
@@ -79,21 +92,24 @@ a_part h g d (inl (more, is)) = inl (revisions more, ap revisions is ∙ map-app
 a_part h g d (inr (x, is, with)) = inr (x.revision, ap revisions with ∙ map-append (λ (r : Recorded). r.revision) h (recorded x ∷ []))
 
 -- `before` is how many revisions there were at the opening
-held_all : (before : List Revision) (layout : Layout) (told : Option Trace) (u : View) → u.opened ≡ length before → CrashesLeave layout told u → IfSome told (λ t. HoldsAll u.since t before (revisions u.seen))
+held_all : (before : List Revision) (layout : Layout) (told : Option Trace) (u : View) → u.opened ≡ length before → CrashesLeave layout told u → IfSome told (λ t. (all : HoldsAll u.since t before (revisions u.seen)) × (all.seen ≡ u.seen))
 held_all before layout None u opened leaves = tt
-held_all before layout (Some t) u opened leaves = record {
-  layout = layout;
-  seen = u.seen;
-  are = refl;
-  moments = λ m image. let w = leaves.moments m image in (w.1, w.4, a_part u.seen w.1 w.0 w.2, omega (arith, w.3, opened), w.5);
-  whole = leaves.whole;
-  stands = λ m image.
-      let w = leaves.stands m image in
-      let a : length (revisions u.seen) ≡ length u.seen = length-map u.seen (λ (x : Recorded). x.revision) in
-      let b : length (revisions w.1) ≡ length w.1 = length-map w.1 (λ (x : Recorded). x.revision) in
-      (revisions w.1, a_part u.seen w.1 w.0 w.2, omega (arith, a, b, w.3), w.4);
-  named = λ m image. subst (NamesFrom m) (sym (length-map u.seen (λ (x : Recorded). x.revision))) (leaves.named m image);
-}
+held_all before layout (Some t) u opened leaves = (holds, refl)
+  where
+    holds : HoldsAll u.since t before (revisions u.seen)
+    holds = record {
+      layout = layout;
+      seen = u.seen;
+      are = refl;
+      moments = λ m image. let w = leaves.moments m image in (w.1, w.4, a_part u.seen w.1 w.0 w.2, omega (arith, w.3, opened), w.5);
+      whole = leaves.whole;
+      stands = λ m image.
+          let w = leaves.stands m image in
+          let a : length (revisions u.seen) ≡ length u.seen = length-map u.seen (λ (x : Recorded). x.revision) in
+          let b : length (revisions w.1) ≡ length w.1 = length-map w.1 (λ (x : Recorded). x.revision) in
+          (revisions w.1, a_part u.seen w.1 w.0 w.2, omega (arith, a, b, w.3), w.4);
+      named = λ m image. subst (NamesFrom m) (sym (length-map u.seen (λ (x : Recorded). x.revision))) (leaves.named m image);
+    }
 
 -- where none of the pass's faults left a revision in doubt
 stands_all : (layout : Layout) (told : Option Trace) (u : View) → u.section ≡ None → are_harmless u.pass.faults ≡ true → CrashesLeave layout told u → IfSome told (λ t. AllStandFor t (revisions u.seen))
@@ -106,9 +122,11 @@ ran moment js answers youngest v u layout told opened few none stuck runs last l
     let grown = grow moment js answers v u runs in
     record {
       now = revisions u.seen;
+      seen = u.seen;
+      are = refl;
       did = did_script moment js answers v u runs;
       last = length-map u.seen (λ (x : Recorded). x.revision) ∙ last;
-      held = subst (λ n. IfSome told (λ t. HoldsAll n t (revisions v.seen) (revisions u.seen))) grown.since
+      held = subst (λ n. IfSome told (λ t. (all : HoldsAll n t (revisions v.seen) (revisions u.seen)) × (all.seen ≡ u.seen))) grown.since
           (held_all (revisions v.seen) layout told u (grown.opened ∙ (opened ∙ sym (length-map v.seen (λ (x : Recorded). x.revision)))) leaves);
       stuck = stuck;
       certain = λ calm. stands_all layout told u none (grown.doubtless calm few) leaves;
@@ -143,7 +161,7 @@ runs_weaker B C moment before after old new a b _ f g (NotOpened why because uno
 runs_weaker B C moment before after old new a b _ f g (NotRead o error opens read rose untouched) = NotRead o error opens read rose untouched
 runs_weaker B C moment before after old new a b _ f g (NoRoom o js opens read untouched) = NoRoom o js opens read untouched
 runs_weaker B C moment before after old new a b _ f g (Done o js answers youngest result opens read ends each failed quiet benches listed ran printed) =
-    Done o js answers youngest result opens read ends each (f (disk_faults_in answers) failed) (λ none. quiet (λ rose. none (f 1 rose))) (g (bench_faults_in answers) benches) (failed_on (f 1) listed) ran printed
+    Done o js answers youngest result opens read ends each (f (disk_faults_in answers) failed) (λ none. quiet (λ rose. none (f 1 rose))) (g (bench_faults_in answers) benches) (λ least next. failed_on (f 1) (listed least next)) ran printed
 
 -- ---- the ends of a run
 
@@ -159,7 +177,7 @@ not_read {B} moment before after a b o error fault is opens read rose firm writt
     subst (λ (f : Fault). RunsScript moment before after B a b (Err f)) (sym is) (NotRead o error opens read rose (record { disk = firm; output = written; output_faults = faults }))
 
 -- over what the opening told
-pub ran_over : (knows : View → Type 0) (moment : ℕ) (js : List Job) (answers : List JobAnswer) (youngest : ℕ) (old new : Option Trace) → IfSome old (λ t. (h : List Revision) (stands : StandsFor (files_now t) h) → LeftoversAgree stands → HasSeenAll knows t stands.opened.min_unpacked_rev h)
+pub ran_over : (knows : View → Type 0) (moment : ℕ) (js : List Job) (answers : List JobAnswer) (youngest : ℕ) (old new : Option Trace) → IfSome old (λ t. (h : List Revision) (stands : StandsFor (files_now t) h) → LeftoversAgree stands → HasSeenAll knows t stands.opened.min_unpacked_rev stands.opened.next_txn.number h)
     → ((v : View) → knows v → v.section ≡ None → v.opened ≡ length v.seen → are_harmless v.pass.faults ≡ true → Ran moment v.since js answers youngest (revisions v.seen) new) → RanOver moment js answers youngest old new
 ran_over knows moment js answers youngest None new opened does = tt
 ran_over knows moment js answers youngest (Some t) new opened does = λ h stands agreeing.
@@ -167,3 +185,13 @@ ran_over knows moment js answers youngest (Some t) new opened does = λ h stands
     let v = s.0 in
     let before : v.opened ≡ length v.seen = s.6 ∙ (ap (λ (l : List Revision). length l) (sym s.4) ∙ length-map v.seen (λ (x : Recorded). x.revision)) in
     subst (λ g. Ran moment (length t.operations + 1) js answers youngest g new) s.4 (subst (λ n. Ran moment n js answers youngest (revisions v.seen) new) s.5 (does v s.1 s.2 before (ap (λ p. are_harmless p.faults) s.3)))
+
+-- so it has the names below the number in `txn-current`
+pub opened_given : (knows : View → Type 0) (old : Option Trace) (least : ℕ) → IfSome old (λ t. (h : List Revision) (stands : StandsFor (files_now t) h) → LeftoversAgree stands → HasSeenAll knows t stands.opened.min_unpacked_rev stands.opened.next_txn.number h)
+    → IsNextName old least → HasGiven knows least
+opened_given knows old zero opened next = tt
+opened_given knows old (suc k) opened next =
+    let at = subst (λ o. IfSome o (λ t. (h : List Revision) (stands : StandsFor (files_now t) h) → LeftoversAgree stands → HasSeenAll knows t stands.opened.min_unpacked_rev stands.opened.next_txn.number h)) next.1 opened in
+    let s = at next.2 next.3 next.4 in
+    let given : s.0.given ≡ k ∷ [] = s.7 ∙ ap given_before next.5 in
+    (s.0, s.1, s.2, subst (λ (l : List ℕ). IsIn k l) (sym given) (inl refl))

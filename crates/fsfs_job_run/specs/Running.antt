@@ -1,11 +1,8 @@
 -- What a job does over a repository that runs.
-use Rattle.std.specs.Prelude.{◌≡◌, ◌<◌, ◌++◌, ℕ, List, [], true, None, Some}
-use Rattle.fsfs_base.specs.declared.fields.txn_name.TxnName.{TxnName}
-use Rattle.fsfs_tree.specs.Revisions.{tree_of}
+use Rattle.std.specs.Prelude.{◌≡◌, ◌<◌, ◌++◌, ℕ, zero, suc, List, [], true, None, Some}
 use Rattle.fsfs_tree.specs.Dated.{last_of}
-use Rattle.fsfs_machine.specs.declared.machine.Recorded.{Recorded}
 use Rattle.fsfs_machine.specs.Machine.{revisions}
-use Rattle.fsfs_turn.specs.Bytes.{bytes_of}
+use Rattle.fsfs_machine.specs.Kept.{IsIn}
 use Rattle.fsfs_turn.specs.Alone.{BringsNoDoubt, are_harmless}
 use Rattle.fsfs_turn.specs.Views.{View}
 use Rattle.fsfs_script.specs.declared.job_lines.job.Base.{Base}
@@ -15,13 +12,11 @@ use Rattle.fsfs_script.specs.declared.job_lines.job.Job.{Job}
 use Rattle.fsfs_script.specs.declared.job_lines.job.Job.TheVariants as jobs
 use Rattle.fsfs_cli.specs.declared.faults.fault.Fault.{Fault}
 use Rattle.fsfs_cli.specs.declared.faults.fault.Fault.TheVariants.{Request, Outside}
-use Rattle.fsfs_cli.specs.declared.faults.request_fault.RequestFault.TheVariants.{NoRev, Mergeinfo}
+use Rattle.fsfs_cli.specs.declared.faults.request_fault.RequestFault.TheVariants.{NoRev}
 use Rattle.fsfs_cli.specs.declared.faults.outside_fault.OutsideFault.TheVariants as outside
-use Rattle.fsfs_jobs.specs.Edits.{StopsAt}
-use Rattle.fsfs_jobs.specs.Serial.{base_of}
 use Rattle.fsfs_jobs.specs.declared.answer.JobAnswer.{JobAnswer}
 use Rattle.fsfs_jobs.specs.declared.answer.JobAnswer.TheVariants.{Stopped}
-use Rattle.fsfs_jobs.specs.JobEdits.Editing.{Bars}
+pub use Rattle.fsfs_job_run.specs.Serial.Counts.{StopsOver, IfCounted}
 use Rattle.fsfs_job_run.specs.Serial.Jobs.{RunsJob, RunJobs, StuckBehindDoubt}
 
 -- Why the outside is told to have failed: the count rose, or the lock is stuck there. The failures of benches are counted apart.
@@ -45,17 +40,6 @@ DoAll knows moment js answers v = (u : View) × knows u × (u.section ≡ None) 
 
 -- ---- counts of mergeinfo
 
--- the first edit that is not done stands on this line, and is refused for this: by the flat model, or for counts of mergeinfo in the bytes
-abbrev pub StopsOver : List Recorded → CommitJob → ℕ → Fault → Type 0
-StopsOver h job line fault =
-    (name : TxnName) × StopsAt (Bars (bytes_of h) (tree_of (revisions h)) (last_of (revisions h)) (base_of job.base (last_of (revisions h))) name) (tree_of (revisions h)) (last_of (revisions h))
-    (tree_of (revisions h) (base_of job.base (last_of (revisions h)))) [] job.steps line fault
-
--- a fact of a job that was refused for mergeinfo
-abbrev pub IfCounted : Job → JobAnswer → (CommitJob → ℕ → Fault → Type 0) → Type 0
-IfCounted (jobs.Commit job) (Stopped line (Request (Mergeinfo path))) P = P job line (Request (Mergeinfo path))
-IfCounted job answer P = Unit {0}
-
 -- a job that commits is done so, and tells why where it is refused for mergeinfo
 abbrev pub CommitsSo : (View → Type 0) → Type 0 → ℕ → CommitJob → JobAnswer → View → Type 0
 CommitsSo knows rose moment job answer v = DoesSo knows rose moment (jobs.Commit job) answer v × IfCounted (jobs.Commit job) answer (StopsOver v.seen)
@@ -64,6 +48,13 @@ CommitsSo knows rose moment job answer v = DoesSo knows rose moment (jobs.Commit
 abbrev pub IsNoRequest : JobAnswer → Type 0
 IsNoRequest (Stopped line (Request why)) = ⊥
 IsNoRequest answer = Unit {0}
+
+-- ---- names
+
+-- The pass knows the name before this number to be given, in no section. Of number 0 nothing is asked.
+abbrev pub HasGiven : (View → Type 0) → ℕ → Type 0
+HasGiven knows zero = Unit {0}
+HasGiven knows (suc k) = (v : View) × knows v × (v.section ≡ None) × IsIn k v.given
 
 -- ---- the base of a job
 

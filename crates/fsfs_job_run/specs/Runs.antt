@@ -1,5 +1,5 @@
 -- What a run of a script does to a disk, its input and its output.
-use Rattle.std.specs.Prelude.{◌≡◌, ◌⊎◌, ◌≤◌, ◌+◌, ◌++◌, ◌∷◌, [], ℕ, List, length, Option, Some, IfSome, option_map, Result, Ok, Err, slice_get}
+use Rattle.std.specs.Prelude.{◌≡◌, ◌⊎◌, ◌≤◌, ◌+◌, ◌++◌, ◌∷◌, [], ℕ, zero, suc, List, length, Option, Some, IfSome, option_map, Result, Ok, Err, slice_get}
 use Rattle.fsfs_base.specs.Failures.{Rose}
 use Rattle.fsfs_base.specs.Files.{Files}
 use Rattle.fsfs_layout.specs.declared.layout.Layout.{Layout}
@@ -72,9 +72,13 @@ pub record AllStandFor (t : Trace) (h : List Revision) : Type 0 where
 -- the jobs were done over the history, the last line names the youngest revision of what they came to, and the disk holds it
 pub record Ran (moment since : ℕ) (js : List Job) (answers : List JobAnswer) (youngest : ℕ) (h : List Revision) (told : Option Trace) : Type 0 where
   pub now : List Revision
-  pub did : DidScript moment js answers h now
+  -- the same revisions, with the bytes beside each
+  pub seen : List Recorded
+  pub are : revisions seen ≡ now
+  pub did : DidScript moment seen js answers h now
   pub last : length now ≡ youngest + 1
-  pub held : IfSome told (λ t. HoldsAll since t h now)
+  -- these are the bytes that it holds
+  pub held : IfSome told (λ t. (all : HoldsAll since t h now) × (all.seen ≡ seen))
   -- the lock is told to be stuck only behind a line that tells of a fault as `current` was renamed or made firm
   pub stuck : StuckBehindDoubt answers
   -- nothing is in doubt where no line tells of a fault as `current` was renamed or made firm
@@ -97,6 +101,11 @@ abbrev pub PrintsRun : List JobAnswer → ℕ → Option (List ℕ) → Option (
 PrintsRun answers youngest old new before now (Ok status) = (status ≡ greatest_status answers) × Adds old new (run_text answers youngest)
 PrintsRun answers youngest old new before now (Err fault) = (fault ≡ Outside Write) × Rose before now × AddsFront old new (run_text answers youngest)
 
+-- This number stands in `txn-current`, where the files stand for a history as `RanOver` has it. Of number 0 nothing is asked.
+abbrev pub IsNextName : Option Trace → ℕ → Type 0
+IsNextName told zero = Unit {0}
+IsNextName told (suc k) = (t : Trace) × (told ≡ Some t) × (h : List Revision) × (stands : StandsFor (files_now t) h) × LeftoversAgree stands × (stands.opened.next_txn.number ≡ suc k)
+
 -- A RUN OF A SCRIPT, by its status or its fault. The disk's count of faults went from `before` to `after`, and `benches` says that so many calls of
 -- benches failed at least. The repository is opened first; so what was read, and what was done, is told only where the small files open.
 pub data RunsScript (moment before after : ℕ) (benches : ℕ → Type 0) (a b : RunScene) : Result ℕ Fault → Type 0 where
@@ -108,7 +117,8 @@ pub data RunsScript (moment before after : ℕ) (benches : ℕ → Type 0) (a b 
   NoRoom : (o : Opened) (js : List Job) → OpensAs a.trace o → ReadsScript a.remaining (Ok js) → IsUntouched a b → RunsScript moment before after benches a b (Err Memory)
   -- It was opened, the input was read to its end, and its jobs were done. As many calls of the disk failed as lines tell of, and as many of benches;
   -- so where no call of the disk did, no line tells of a fault that leaves a revision in doubt. Nor does a job leave its transaction listed then,
-  -- whatever its line tells.
+  -- whatever its line tells; and none goes from the list but such as have the number that stood in `txn-current` as the run began, or a greater one.
   Done : (o : Opened) (js : List Job) (answers : List JobAnswer) (youngest : ℕ) (result : Result ℕ Fault) → OpensAs a.trace o → ReadsScript a.remaining (Ok js) → EndsSource a.remaining b.remaining → length answers ≡ length js
-      → RoseBy (disk_faults_in answers) before after → ((Rose before after → ⊥) → TellNoDoubt answers) → benches (bench_faults_in answers) → LeavesListed (length js) (labels_in a) (labels_in b) ⊎ Rose before after
+      → RoseBy (disk_faults_in answers) before after → ((Rose before after → ⊥) → TellNoDoubt answers) → benches (bench_faults_in answers)
+      → ((least : ℕ) → IsNextName a.trace least → LeavesListed least (length js) (labels_in a) (labels_in b) ⊎ Rose before after)
       → RanOver moment js answers youngest a.trace b.trace → PrintsRun answers youngest a.written b.written a.write_faults b.write_faults result → RunsScript moment before after benches a b result

@@ -1,5 +1,5 @@
 //! One job over a repository.
-ghost use Rattle.std.specs.Prelude.{◌≡◌, ◌⊎◌, ◌≤◌, None};
+ghost use Rattle.std.specs.Prelude.{◌≡◌, ◌⊎◌, ◌≤◌, ℕ, None};
 ghost use Rattle.fsfs_base.specs.Failures.{Rose};
 ghost use Rattle.fsfs_turn.specs.Mountings.{RoseBy};
 ghost use Rattle.fsfs_turn.specs.Views.{View};
@@ -7,7 +7,7 @@ ghost use Rattle.fsfs_repo.specs.Owned.Crashes.{CrashesLeave};
 ghost use Rattle.fsfs_job_run.specs.TextReads.{IfAnswerFails};
 ghost use Rattle.fsfs_job_run.specs.Serial.Jobs.{bench_told};
 ghost use Rattle.fsfs_job_run.specs.Serial.Listed.{LeavesListed};
-ghost use Rattle.fsfs_job_run.specs.Running.{DoesSo, IfCounted, StopsOver};
+ghost use Rattle.fsfs_job_run.specs.Running.{DoesSo, HasGiven, IfCounted, StopsOver};
 
 use crate::commit_job::commit_job;
 use crate::reads::base_text::read_text;
@@ -41,7 +41,8 @@ pub fn do_job<D: Disk, R, G: Gate>(
     // Whatever the disk tells: it is told to have failed only where the count of failed calls rose in this job.
     ensures cause { IfAnswerFails result.1 (Rose (⟦<Owned<D> as Turns<R>>⟧.faults repo.turns) (⟦<Owned<D> as Turns<R>>⟧.faults result.0.turns)) }
     // Whatever is known and whatever it answers: no transaction that it began stays listed, and all others do, unless a call of the disk failed in it.
-    ensures listed { LeavesListed 1 (⟦<Owned<D> as Turns<R>>⟧.labels repo.turns) (⟦<Owned<D> as Turns<R>>⟧.labels result.0.turns) ⊎ Rose (⟦<Owned<D> as Turns<R>>⟧.faults repo.turns) (⟦<Owned<D> as Turns<R>>⟧.faults result.0.turns) }
+    // Where a name is known to be given, the one that it begins has a greater number.
+    ensures listed { (least : ℕ) → HasGiven (⟦<Owned<D> as Turns<R>>⟧.knows repo.turns) least → LeavesListed least 1 (⟦<Owned<D> as Turns<R>>⟧.labels repo.turns) (⟦<Owned<D> as Turns<R>>⟧.labels result.0.turns) ⊎ Rose (⟦<Owned<D> as Turns<R>>⟧.faults repo.turns) (⟦<Owned<D> as Turns<R>>⟧.faults result.0.turns) }
     ensures mounted { D.mount_path result.0.turns.disk ≡ D.mount_path repo.turns.disk }
     // Nor is a bench told to have failed, but where the count of those rose.
     ensures benches { RoseBy (bench_told result.1) (D.bench_faults repo.turns.disk) (D.bench_faults result.0.turns.disk) }

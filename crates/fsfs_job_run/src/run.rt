@@ -1,5 +1,5 @@
 //! The jobs of a script one after another.
-ghost use Rattle.std.specs.Prelude.{◌≡◌, ◌⊎◌, ◌≤◌, None, length, IfOk, OnErr};
+ghost use Rattle.std.specs.Prelude.{◌≡◌, ◌⊎◌, ◌≤◌, ℕ, None, length, IfOk, OnErr};
 ghost use Rattle.fsfs_base.specs.Failures.{Rose};
 ghost use Rattle.fsfs_turn.specs.Mountings.{RoseBy};
 ghost use Rattle.fsfs_turn.specs.Views.{View};
@@ -7,7 +7,7 @@ ghost use Rattle.fsfs_repo.specs.Owned.Crashes.{CrashesLeave};
 ghost use Rattle.fsfs_job_run.specs.Serial.Jobs.{bench_faults_in};
 ghost use Rattle.fsfs_job_run.specs.Serial.Listed.{LeavesListed};
 ghost use Rattle.fsfs_job_run.specs.Workers.Lines.{disk_faults_in};
-ghost use Rattle.fsfs_job_run.specs.Running.{DoAll};
+ghost use Rattle.fsfs_job_run.specs.Running.{DoAll, HasGiven};
 
 use crate::JobGate;
 use crate::job::do_job;
@@ -38,8 +38,9 @@ pub fn run_jobs<D: Disk, R, G: Gate>(
     ensures crashes { (u : View) → ⟦<Owned<D> as Turns<R>>⟧.knows result.0.turns u → CrashesLeave result.0.turns.layout (D.trace result.0.turns.disk) u }
     // Whatever the disk tells: as many calls of it failed in this run as answers tell of, or more.
     ensures cause { IfOk result.1 (λ answers. RoseBy (disk_faults_in answers.items) (⟦<Owned<D> as Turns<R>>⟧.faults repo.turns) (⟦<Owned<D> as Turns<R>>⟧.faults result.0.turns)) }
-    // No transaction that they began stays listed, and all others do, unless a call of the disk failed in this run.
-    ensures listed { LeavesListed (length jobs.now) (⟦<Owned<D> as Turns<R>>⟧.labels repo.turns) (⟦<Owned<D> as Turns<R>>⟧.labels result.0.turns) ⊎ Rose (⟦<Owned<D> as Turns<R>>⟧.faults repo.turns) (⟦<Owned<D> as Turns<R>>⟧.faults result.0.turns) }
+    // No transaction that they began stays listed, and all others do, unless a call of the disk failed in this run. Where a name is known to be given,
+    // those that they begin have greater numbers.
+    ensures listed { (least : ℕ) → HasGiven (⟦<Owned<D> as Turns<R>>⟧.knows repo.turns) least → LeavesListed least (length jobs.now) (⟦<Owned<D> as Turns<R>>⟧.labels repo.turns) (⟦<Owned<D> as Turns<R>>⟧.labels result.0.turns) ⊎ Rose (⟦<Owned<D> as Turns<R>>⟧.faults repo.turns) (⟦<Owned<D> as Turns<R>>⟧.faults result.0.turns) }
     ensures mounted { D.mount_path result.0.turns.disk ≡ D.mount_path repo.turns.disk }
     // As many calls of benches failed as answers tell of one, or more.
     ensures benches { IfOk result.1 (λ answers. RoseBy (bench_faults_in answers.items) (D.bench_faults repo.turns.disk) (D.bench_faults result.0.turns.disk)) }

@@ -1,5 +1,5 @@
 //! A script is run.
-ghost use Rattle.std.specs.Prelude.{◌≡◌, ◌⊎◌, ◌≤◌, length, true, None, option_map, IfOk, OnErr, IsTrue};
+ghost use Rattle.std.specs.Prelude.{◌≡◌, ◌⊎◌, ◌≤◌, ℕ, length, true, None, option_map, IfOk, OnErr, IsTrue};
 ghost use Rattle.fsfs_base.specs.Failures.{Rose};
 ghost use Rattle.fsfs_disk.specs.Trace.{labels_now};
 ghost use Rattle.fsfs_machine.specs.Machine.{revisions};
@@ -9,6 +9,7 @@ ghost use Rattle.fsfs_turn.specs.Views.{View};
 ghost use Rattle.fsfs_job_run.specs.Serial.Jobs.{bench_faults_in};
 ghost use Rattle.fsfs_job_run.specs.Serial.Listed.{LeavesListed};
 ghost use Rattle.fsfs_job_run.specs.Workers.Lines.{disk_faults_in};
+ghost use Rattle.fsfs_job_run.specs.Running.{HasGiven};
 ghost use Rattle.fsfs_job_run.specs.Runs.{run_scene, PrintsRun, Ran, RunsScript};
 
 use crate::run_jobs;
@@ -45,7 +46,7 @@ fn do_jobs<D: Disk, G: Gate>(
     ensures each { IfOk result.1 (λ done. length done.answers.items ≡ length jobs.now) }
     ensures none { OnErr result.1 (D.trace result.0 ≡ D.trace repo.turns.disk) }
     // No transaction of theirs stays listed, unless a call of the disk failed.
-    ensures listed { LeavesListed (length jobs.now) (option_map labels_now (D.trace repo.turns.disk)) (option_map labels_now (D.trace result.0)) ⊎ Rose (D.faults repo.turns.disk) (D.faults result.0) }
+    ensures listed { (least : ℕ) → HasGiven (⟦<Owned<D> as Turns<()>>⟧.knows repo.turns) least → LeavesListed least (length jobs.now) (option_map labels_now (D.trace repo.turns.disk)) (option_map labels_now (D.trace result.0)) ⊎ Rose (D.faults repo.turns.disk) (D.faults result.0) }
     // As many calls of the disk failed as answers tell of, and as many of benches.
     ensures cause { IfOk result.1 (λ done. RoseBy (disk_faults_in done.answers.items) (D.faults repo.turns.disk) (D.faults result.0)) }
     ensures benches { IfOk result.1 (λ done. RoseBy (bench_faults_in done.answers.items) (D.bench_faults repo.turns.disk) (D.bench_faults result.0)) }

@@ -1,4 +1,4 @@
--- What a script does to a history: its jobs one by one, each over what the one before left.
+-- What a job of a script does to a history.
 use Rattle.std.specs.Prelude.{◌≡◌, ℕ, ◌+◌, ◌-◌, ◌^◌, ◌<◌, ◌≤◌, List, [], ◌∷◌, ◌++◌, length, Option, Some, None}
 use Rattle.std.specs.FinMap.{get}
 use Rattle.md5.specs.Md5.{md5}
@@ -80,11 +80,3 @@ pub data Runs (h : List Revision) (date : List ℕ) (t : ℕ) : Job → JobAnswe
   LacksName : (job : CommitJob) → base_of job.base (last_of h) ≤ last_of h → last_name ≤ t → Runs h date t (jobs.Commit job) (Stopped job.line (Limit NamesFull)) h t
   Begins : (job : CommitJob) (answer : JobAnswer) (now : List Revision) → base_of job.base (last_of h) ≤ last_of h → t < last_name
       → Transacts h date job (base_of job.base (last_of h)) answer now → Runs h date t (jobs.Commit job) answer now (t + 1)
-
--- jobs one after another
-abbrev pub IsSerial : List ℕ → List Revision → ℕ → List Job → List JobAnswer → List Revision → ℕ → Type 0
-IsSerial date h t [] [] now named = (now ≡ h) × (named ≡ t)
-IsSerial date h t [] (answer ∷ answers) now named = ⊥
-IsSerial date h t (job ∷ jobs) [] now named = ⊥
-IsSerial date h t (job ∷ jobs) (answer ∷ answers) now named =
-    (between : List Revision) × (drawn : ℕ) × Runs h date t job answer between drawn × IsSerial date between drawn jobs answers now named

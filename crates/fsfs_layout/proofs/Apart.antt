@@ -1,7 +1,6 @@
 -- No two files have one name.
-use Rattle.std.proofs.Common.{◌≡◌, ℕ, suc, ◌/◌, ◌<◌, ◌≤◌, ◌^◌, Bool, true, false, cond, eqb, List, [], ◌∷◌, ◌++◌, length, refl, sym, ap, subst, ◌∙◌, append_assoc, arith}
+use Rattle.std.proofs.Common.{◌≡◌, ℕ, ◌/◌, ◌<◌, ◌≤◌, ◌^◌, Bool, true, false, cond, eqb, List, [], ◌∷◌, ◌++◌, length, refl, sym, ap, ◌∙◌, append_assoc, arith}
 use Rattle.std.specs.Prelude.{codes}
-use Rattle.std.specs.List.{AllByRecursion}
 use Rattle.std.specs.Str.{bytes_eq}
 use Rattle.std.specs.Fmt.{decimal}
 use Rattle.std.proofs.lemmas.List.{append_cancel_left, append-nil}
@@ -11,8 +10,10 @@ use Rattle.fsfs_base.specs.Grammar.Base36.{base36}
 use Rattle.fsfs_base.proofs.Unique.{AreDigits, decimal_numeral, numeral_digits}
 use Rattle.fsfs_base.proofs.Base36Texts.{base36_numeral, b36_same}
 use Rattle.fsfs_base.specs.Fields.TxnNames.{txn_text}
-use Rattle.fsfs_layout.specs.Names.{in_shard, in_pack, with_txn}
-use Rattle.fsfs_layout.specs.Layouts.{shard_of}
+use Rattle.fsfs_layout.specs.Names.{in_pack, with_txn}
+use Rattle.fsfs_layout.specs.Folders.{AreShards, shard_folder}
+use Rattle.fsfs_layout.specs.declared.folders.Folders.{Folders}
+use Rattle.fsfs_layout.specs.declared.folders.Folders.TheVariants.{Shards, OneFolder}
 use Rattle.fsfs_base.specs.declared.fields.txn_name.TxnName.{TxnName}
 use Rattle.fsfs_layout.specs.FileNames.{only_name, file_name as name_of, FitsTxn, FitsFile as Fits, NamesAreApart}
 use Rattle.fsfs_layout.specs.declared.repository_file.RepositoryFile.{RepositoryFile}
@@ -58,41 +59,45 @@ data File : Type 0 where
   OfTxn : TxnName → TxnFile → File
   OfProto : TxnName → ProtoFile → File
 
-abbrev revs_name : Layout → RevsFile → List ℕ
-revs_name layout (Shard n) = codes "db/revs/" ++ decimal n
-revs_name layout (Revision rev) = in_shard (codes "db/revs") layout rev
-revs_name layout (PackFolder n) = codes "db/revs/" ++ decimal n ++ codes ".pack"
-revs_name layout (Pack n) = in_pack n (codes "/pack")
-revs_name layout (Manifest n) = in_pack n (codes "/manifest")
+-- a revision's name in its folder
+abbrev rev_in : List ℕ → Folders → ℕ → List ℕ
+rev_in folder k rev = folder ++ shard_folder k rev ++ 47 ∷ decimal rev
 
-abbrev props_name : Layout → PropsFile → List ℕ
-props_name layout (PropsShard n) = codes "db/revprops/" ++ decimal n
-props_name layout (Props rev) = in_shard (codes "db/revprops") layout rev
+abbrev revs_name : Folders → RevsFile → List ℕ
+revs_name k (Shard n) = codes "db/revs/" ++ decimal n
+revs_name k (Revision rev) = rev_in (codes "db/revs") k rev
+revs_name k (PackFolder n) = codes "db/revs/" ++ decimal n ++ codes ".pack"
+revs_name k (Pack n) = in_pack n (codes "/pack")
+revs_name k (Manifest n) = in_pack n (codes "/manifest")
 
-abbrev file_name : Layout → File → List ℕ
-file_name layout (Only f) = only_name f
-file_name layout (InRevs f) = revs_name layout f
-file_name layout (InProps f) = props_name layout f
-file_name layout (OfTxn txn f) = with_txn (codes "db/transactions/") txn (txn_file_end f)
-file_name layout (OfProto txn f) = with_txn (codes "db/txn-protorevs/") txn (proto_file_end f)
+abbrev props_name : Folders → PropsFile → List ℕ
+props_name k (PropsShard n) = codes "db/revprops/" ++ decimal n
+props_name k (Props rev) = rev_in (codes "db/revprops") k rev
 
-abbrev FitsRevs : RevsFile → Type 0
-FitsRevs (Shard n) = n < 2 ^ 32
-FitsRevs (Revision rev) = rev < 2 ^ 32
-FitsRevs (PackFolder n) = n < 2 ^ 32
-FitsRevs (Pack n) = n < 2 ^ 32
-FitsRevs (Manifest n) = n < 2 ^ 32
+abbrev file_name : Folders → File → List ℕ
+file_name k (Only f) = only_name f
+file_name k (InRevs f) = revs_name k f
+file_name k (InProps f) = props_name k f
+file_name k (OfTxn txn f) = with_txn (codes "db/transactions/") txn (txn_file_end f)
+file_name k (OfProto txn f) = with_txn (codes "db/txn-protorevs/") txn (proto_file_end f)
 
-abbrev FitsProps : PropsFile → Type 0
-FitsProps (PropsShard n) = n < 2 ^ 32
-FitsProps (Props rev) = rev < 2 ^ 32
+abbrev FitsRevs : Folders → RevsFile → Type 0
+FitsRevs k (Shard n) = AreShards k × (n < 2 ^ 32)
+FitsRevs k (Revision rev) = rev < 2 ^ 32
+FitsRevs k (PackFolder n) = n < 2 ^ 32
+FitsRevs k (Pack n) = n < 2 ^ 32
+FitsRevs k (Manifest n) = n < 2 ^ 32
 
-abbrev FitsFile : File → Type 0
-FitsFile (Only f) = Unit {0}
-FitsFile (InRevs f) = FitsRevs f
-FitsFile (InProps f) = FitsProps f
-FitsFile (OfTxn txn f) = FitsTxn txn
-FitsFile (OfProto txn f) = FitsTxn txn
+abbrev FitsProps : Folders → PropsFile → Type 0
+FitsProps k (PropsShard n) = AreShards k × (n < 2 ^ 32)
+FitsProps k (Props rev) = rev < 2 ^ 32
+
+abbrev FitsFile : Folders → File → Type 0
+FitsFile k (Only f) = Unit {0}
+FitsFile k (InRevs f) = FitsRevs k f
+FitsFile k (InProps f) = FitsProps k f
+FitsFile k (OfTxn txn f) = FitsTxn txn
+FitsFile k (OfProto txn f) = FitsTxn txn
 
 -- ---- numbers in names
 
@@ -188,17 +193,19 @@ only_group RevisionProps = refl
 only_group Transactions = refl
 only_group ProtoRevisions = refl
 
-name_group : (layout : Layout) (f : File) → group (file_name layout f) ≡ group_of f
-name_group layout (Only f) = only_group f
-name_group layout (InRevs (Shard n)) = refl
-name_group layout (InRevs (Revision rev)) = refl
-name_group layout (InRevs (PackFolder n)) = refl
-name_group layout (InRevs (Pack n)) = refl
-name_group layout (InRevs (Manifest n)) = refl
-name_group layout (InProps (PropsShard n)) = refl
-name_group layout (InProps (Props rev)) = refl
-name_group layout (OfTxn txn f) = refl
-name_group layout (OfProto txn f) = refl
+name_group : (k : Folders) (f : File) → group (file_name k f) ≡ group_of f
+name_group k (Only f) = only_group f
+name_group k (InRevs (Shard n)) = refl
+name_group (Shards size) (InRevs (Revision rev)) = refl
+name_group OneFolder (InRevs (Revision rev)) = refl
+name_group k (InRevs (PackFolder n)) = refl
+name_group k (InRevs (Pack n)) = refl
+name_group k (InRevs (Manifest n)) = refl
+name_group k (InProps (PropsShard n)) = refl
+name_group (Shards size) (InProps (Props rev)) = refl
+name_group OneFolder (InProps (Props rev)) = refl
+name_group k (OfTxn txn f) = refl
+name_group k (OfProto txn f) = refl
 
 -- ---- within a folder
 
@@ -231,43 +238,63 @@ only_back Transactions = refl
 only_back ProtoRevisions = refl
 
 -- a number and what stands behind it
-abbrev revs_number : Layout → RevsFile → ℕ
-revs_number layout (Shard n) = n
-revs_number layout (Revision rev) = shard_of layout rev
-revs_number layout (PackFolder n) = n
-revs_number layout (Pack n) = n
-revs_number layout (Manifest n) = n
+abbrev rev_number : Folders → ℕ → ℕ
+rev_number (Shards size) rev = rev / size
+rev_number OneFolder rev = rev
 
-abbrev revs_end : RevsFile → List ℕ
-revs_end (Shard n) = []
-revs_end (Revision rev) = 47 ∷ decimal rev
-revs_end (PackFolder n) = codes ".pack"
-revs_end (Pack n) = codes ".pack/pack"
-revs_end (Manifest n) = codes ".pack/manifest"
+abbrev rev_end : Folders → ℕ → List ℕ
+rev_end (Shards size) rev = 47 ∷ decimal rev
+rev_end OneFolder rev = []
 
-revs_parts : (layout : Layout) (f : RevsFile) → revs_name layout f ≡ codes "db/revs/" ++ (decimal (revs_number layout f) ++ revs_end f)
-revs_parts layout (Shard n) = ap (λ (t : List ℕ). codes "db/revs/" ++ t) (sym (append-nil (decimal n)))
-revs_parts layout (Revision rev) = simp append_assoc
-revs_parts layout (PackFolder n) = simp append_assoc
-revs_parts layout (Pack n) = simp append_assoc
-revs_parts layout (Manifest n) = simp append_assoc
+abbrev revs_number : Folders → RevsFile → ℕ
+revs_number k (Shard n) = n
+revs_number k (Revision rev) = rev_number k rev
+revs_number k (PackFolder n) = n
+revs_number k (Pack n) = n
+revs_number k (Manifest n) = n
 
-revs_no_digit : (f : RevsFile) → NoDigit 10 (revs_end f)
-revs_no_digit (Shard n) = tt
-revs_no_digit (Revision rev) = omega arith
-revs_no_digit (PackFolder n) = omega arith
-revs_no_digit (Pack n) = omega arith
-revs_no_digit (Manifest n) = omega arith
+abbrev revs_end : Folders → RevsFile → List ℕ
+revs_end k (Shard n) = []
+revs_end k (Revision rev) = rev_end k rev
+revs_end k (PackFolder n) = codes ".pack"
+revs_end k (Pack n) = codes ".pack/pack"
+revs_end k (Manifest n) = codes ".pack/manifest"
+
+rev_parts : (folder : List ℕ) (k : Folders) (rev : ℕ) → rev_in folder k rev ≡ folder ++ 47 ∷ (decimal (rev_number k rev) ++ rev_end k rev)
+rev_parts folder (Shards size) rev = simp append_assoc
+rev_parts folder OneFolder rev = ap (λ (t : List ℕ). t ++ 47 ∷ decimal rev) (append-nil folder) ∙ ap (λ (t : List ℕ). folder ++ 47 ∷ t) (sym (append-nil (decimal rev)))
+
+revs_parts : (k : Folders) (f : RevsFile) → revs_name k f ≡ codes "db/revs/" ++ (decimal (revs_number k f) ++ revs_end k f)
+revs_parts k (Shard n) = ap (λ (t : List ℕ). codes "db/revs/" ++ t) (sym (append-nil (decimal n)))
+revs_parts k (Revision rev) = rev_parts (codes "db/revs") k rev
+revs_parts k (PackFolder n) = simp append_assoc
+revs_parts k (Pack n) = simp append_assoc
+revs_parts k (Manifest n) = simp append_assoc
+
+rev_no_digit : (k : Folders) (rev : ℕ) → NoDigit 10 (rev_end k rev)
+rev_no_digit (Shards size) rev = omega arith
+rev_no_digit OneFolder rev = tt
+
+revs_no_digit : (k : Folders) (f : RevsFile) → NoDigit 10 (revs_end k f)
+revs_no_digit k (Shard n) = tt
+revs_no_digit k (Revision rev) = rev_no_digit k rev
+revs_no_digit k (PackFolder n) = omega arith
+revs_no_digit k (Pack n) = omega arith
+revs_no_digit k (Manifest n) = omega arith
 
 div_fits : (n k : ℕ) → n < 2 ^ 32 → n / k < 2 ^ 64
 div_fits n k fits = omega (arith, fits, div-le_self n k)
 
-revs_fits : (layout : Layout) (f : RevsFile) → FitsRevs f → revs_number layout f < 2 ^ 64
-revs_fits layout (Shard n) fits = omega arith
-revs_fits layout (Revision rev) fits = div_fits rev layout.shard_size fits
-revs_fits layout (PackFolder n) fits = omega arith
-revs_fits layout (Pack n) fits = omega arith
-revs_fits layout (Manifest n) fits = omega arith
+rev_fits : (k : Folders) (rev : ℕ) → rev < 2 ^ 32 → rev_number k rev < 2 ^ 64
+rev_fits (Shards size) rev fits = div_fits rev size fits
+rev_fits OneFolder rev fits = omega arith
+
+revs_fits : (k : Folders) (f : RevsFile) → FitsRevs k f → revs_number k f < 2 ^ 64
+revs_fits k (Shard n) fits = omega (arith, fits.1)
+revs_fits k (Revision rev) fits = rev_fits k rev fits
+revs_fits k (PackFolder n) fits = omega arith
+revs_fits k (Pack n) fits = omega arith
+revs_fits k (Manifest n) fits = omega arith
 
 rev_ends : (r s : ℕ) → r < 2 ^ 32 → s < 2 ^ 32 → (47 ∷ decimal r) ≡ (47 ∷ decimal s) → r ≡ s
 rev_ends r s fr fs e =
@@ -280,69 +307,98 @@ not_nil c cs e = cc
 heads : (c d : ℕ) (cs ds : List ℕ) → (c ∷ cs) ≡ (d ∷ ds) → c ≡ d
 heads c d cs ds e = cc
 
-revs_same : (layout : Layout) (a b : RevsFile) → FitsRevs a → FitsRevs b → revs_number layout a ≡ revs_number layout b → revs_end a ≡ revs_end b → a ≡ b
-revs_same k (Shard n) (Shard m) fa fb e t = ap (λ (x : ℕ). Shard x) e
-revs_same k (Shard n) (Revision m) fa fb e t = absurd (not_nil 47 (decimal m) (sym t))
-revs_same k (Shard n) (PackFolder m) fa fb e t = absurd (not_nil 46 (codes "pack") (sym t))
-revs_same k (Shard n) (Pack m) fa fb e t = absurd (not_nil 46 (codes "pack/pack") (sym t))
-revs_same k (Shard n) (Manifest m) fa fb e t = absurd (not_nil 46 (codes "pack/manifest") (sym t))
-revs_same k (Revision n) (Shard m) fa fb e t = absurd (not_nil 47 (decimal n) t)
-revs_same k (Revision n) (Revision m) fa fb e t = ap (λ (x : ℕ). Revision x) (rev_ends n m fa fb t)
-revs_same k (Revision n) (PackFolder m) fa fb e t = absurd (omega (arith, heads 47 46 (decimal n) (codes "pack") t))
-revs_same k (Revision n) (Pack m) fa fb e t = absurd (omega (arith, heads 47 46 (decimal n) (codes "pack/pack") t))
-revs_same k (Revision n) (Manifest m) fa fb e t = absurd (omega (arith, heads 47 46 (decimal n) (codes "pack/manifest") t))
-revs_same k (PackFolder n) (Shard m) fa fb e t = absurd (not_nil 46 (codes "pack") t)
-revs_same k (PackFolder n) (Revision m) fa fb e t = absurd (omega (arith, heads 46 47 (codes "pack") (decimal m) t))
-revs_same k (PackFolder n) (PackFolder m) fa fb e t = ap (λ (x : ℕ). PackFolder x) e
-revs_same k (PackFolder n) (Pack m) fa fb e t = let d : 5 ≡ 10 = ap length t in absurd (omega (arith, d))
-revs_same k (PackFolder n) (Manifest m) fa fb e t = let d : 5 ≡ 14 = ap length t in absurd (omega (arith, d))
-revs_same k (Pack n) (Shard m) fa fb e t = absurd (not_nil 46 (codes "pack/pack") t)
-revs_same k (Pack n) (Revision m) fa fb e t = absurd (omega (arith, heads 46 47 (codes "pack/pack") (decimal m) t))
-revs_same k (Pack n) (PackFolder m) fa fb e t = let d : 10 ≡ 5 = ap length t in absurd (omega (arith, d))
-revs_same k (Pack n) (Pack m) fa fb e t = ap (λ (x : ℕ). Pack x) e
-revs_same k (Pack n) (Manifest m) fa fb e t = let d : 10 ≡ 14 = ap length t in absurd (omega (arith, d))
-revs_same k (Manifest n) (Shard m) fa fb e t = absurd (not_nil 46 (codes "pack/manifest") t)
-revs_same k (Manifest n) (Revision m) fa fb e t = absurd (omega (arith, heads 46 47 (codes "pack/manifest") (decimal m) t))
-revs_same k (Manifest n) (PackFolder m) fa fb e t = let d : 14 ≡ 5 = ap length t in absurd (omega (arith, d))
-revs_same k (Manifest n) (Pack m) fa fb e t = let d : 14 ≡ 10 = ap length t in absurd (omega (arith, d))
-revs_same k (Manifest n) (Manifest m) fa fb e t = ap (λ (x : ℕ). Manifest x) e
+-- two files of which the number and what stands behind it are the same, in shards
+in_shards : (size : ℕ) (a b : RevsFile) → FitsRevs (Shards size) a → FitsRevs (Shards size) b → revs_number (Shards size) a ≡ revs_number (Shards size) b → revs_end (Shards size) a ≡ revs_end (Shards size) b → a ≡ b
+in_shards size (Shard n) (Shard m) fa fb e t = ap (λ (x : ℕ). Shard x) e
+in_shards size (Shard n) (Revision m) fa fb e t = absurd (not_nil 47 (decimal m) (sym t))
+in_shards size (Shard n) (PackFolder m) fa fb e t = absurd (not_nil 46 (codes "pack") (sym t))
+in_shards size (Shard n) (Pack m) fa fb e t = absurd (not_nil 46 (codes "pack/pack") (sym t))
+in_shards size (Shard n) (Manifest m) fa fb e t = absurd (not_nil 46 (codes "pack/manifest") (sym t))
+in_shards size (Revision n) (Shard m) fa fb e t = absurd (not_nil 47 (decimal n) t)
+in_shards size (Revision n) (Revision m) fa fb e t = ap (λ (x : ℕ). Revision x) (rev_ends n m fa fb t)
+in_shards size (Revision n) (PackFolder m) fa fb e t = absurd (omega (arith, heads 47 46 (decimal n) (codes "pack") t))
+in_shards size (Revision n) (Pack m) fa fb e t = absurd (omega (arith, heads 47 46 (decimal n) (codes "pack/pack") t))
+in_shards size (Revision n) (Manifest m) fa fb e t = absurd (omega (arith, heads 47 46 (decimal n) (codes "pack/manifest") t))
+in_shards size (PackFolder n) (Shard m) fa fb e t = absurd (not_nil 46 (codes "pack") t)
+in_shards size (PackFolder n) (Revision m) fa fb e t = absurd (omega (arith, heads 46 47 (codes "pack") (decimal m) t))
+in_shards size (PackFolder n) (PackFolder m) fa fb e t = ap (λ (x : ℕ). PackFolder x) e
+in_shards size (PackFolder n) (Pack m) fa fb e t = let d : 5 ≡ 10 = ap length t in absurd (omega (arith, d))
+in_shards size (PackFolder n) (Manifest m) fa fb e t = let d : 5 ≡ 14 = ap length t in absurd (omega (arith, d))
+in_shards size (Pack n) (Shard m) fa fb e t = absurd (not_nil 46 (codes "pack/pack") t)
+in_shards size (Pack n) (Revision m) fa fb e t = absurd (omega (arith, heads 46 47 (codes "pack/pack") (decimal m) t))
+in_shards size (Pack n) (PackFolder m) fa fb e t = let d : 10 ≡ 5 = ap length t in absurd (omega (arith, d))
+in_shards size (Pack n) (Pack m) fa fb e t = ap (λ (x : ℕ). Pack x) e
+in_shards size (Pack n) (Manifest m) fa fb e t = let d : 10 ≡ 14 = ap length t in absurd (omega (arith, d))
+in_shards size (Manifest n) (Shard m) fa fb e t = absurd (not_nil 46 (codes "pack/manifest") t)
+in_shards size (Manifest n) (Revision m) fa fb e t = absurd (omega (arith, heads 46 47 (codes "pack/manifest") (decimal m) t))
+in_shards size (Manifest n) (PackFolder m) fa fb e t = let d : 14 ≡ 5 = ap length t in absurd (omega (arith, d))
+in_shards size (Manifest n) (Pack m) fa fb e t = let d : 14 ≡ 10 = ap length t in absurd (omega (arith, d))
+in_shards size (Manifest n) (Manifest m) fa fb e t = ap (λ (x : ℕ). Manifest x) e
 
-revs_apart : (layout : Layout) (a b : RevsFile) → FitsRevs a → FitsRevs b → revs_name layout a ≡ revs_name layout b → a ≡ b
+-- and in one folder, where there is no folder of a shard
+in_one : (a b : RevsFile) → FitsRevs OneFolder a → FitsRevs OneFolder b → revs_number OneFolder a ≡ revs_number OneFolder b → revs_end OneFolder a ≡ revs_end OneFolder b → a ≡ b
+in_one (Shard n) b fa fb e t = absurd fa.0
+in_one a (Shard m) fa fb e t = absurd fb.0
+in_one (Revision n) (Revision m) fa fb e t = ap (λ (x : ℕ). Revision x) e
+in_one (Revision n) (PackFolder m) fa fb e t = absurd (not_nil 46 (codes "pack") (sym t))
+in_one (Revision n) (Pack m) fa fb e t = absurd (not_nil 46 (codes "pack/pack") (sym t))
+in_one (Revision n) (Manifest m) fa fb e t = absurd (not_nil 46 (codes "pack/manifest") (sym t))
+in_one (PackFolder n) (Revision m) fa fb e t = absurd (not_nil 46 (codes "pack") t)
+in_one (PackFolder n) (PackFolder m) fa fb e t = ap (λ (x : ℕ). PackFolder x) e
+in_one (PackFolder n) (Pack m) fa fb e t = let d : 5 ≡ 10 = ap length t in absurd (omega (arith, d))
+in_one (PackFolder n) (Manifest m) fa fb e t = let d : 5 ≡ 14 = ap length t in absurd (omega (arith, d))
+in_one (Pack n) (Revision m) fa fb e t = absurd (not_nil 46 (codes "pack/pack") t)
+in_one (Pack n) (PackFolder m) fa fb e t = let d : 10 ≡ 5 = ap length t in absurd (omega (arith, d))
+in_one (Pack n) (Pack m) fa fb e t = ap (λ (x : ℕ). Pack x) e
+in_one (Pack n) (Manifest m) fa fb e t = let d : 10 ≡ 14 = ap length t in absurd (omega (arith, d))
+in_one (Manifest n) (Revision m) fa fb e t = absurd (not_nil 46 (codes "pack/manifest") t)
+in_one (Manifest n) (PackFolder m) fa fb e t = let d : 14 ≡ 5 = ap length t in absurd (omega (arith, d))
+in_one (Manifest n) (Pack m) fa fb e t = let d : 14 ≡ 10 = ap length t in absurd (omega (arith, d))
+in_one (Manifest n) (Manifest m) fa fb e t = ap (λ (x : ℕ). Manifest x) e
+
+revs_same : (k : Folders) (a b : RevsFile) → FitsRevs k a → FitsRevs k b → revs_number k a ≡ revs_number k b → revs_end k a ≡ revs_end k b → a ≡ b
+revs_same (Shards size) a b fa fb e t = in_shards size a b fa fb e t
+revs_same OneFolder a b fa fb e t = in_one a b fa fb e t
+
+revs_apart : (k : Folders) (a b : RevsFile) → FitsRevs k a → FitsRevs k b → revs_name k a ≡ revs_name k b → a ≡ b
 revs_apart k a b fa fb e =
-    let one = append_cancel_left (codes "db/revs/") (decimal (revs_number k a) ++ revs_end a) (decimal (revs_number k b) ++ revs_end b) (sym (revs_parts k a) ∙ e ∙ revs_parts k b) in
-    let two = same_decimal (revs_number k a) (revs_number k b) (revs_end a) (revs_end b) (revs_fits k a fa) (revs_fits k b fb) (revs_no_digit a) (revs_no_digit b) one in
+    let one = append_cancel_left (codes "db/revs/") (decimal (revs_number k a) ++ revs_end k a) (decimal (revs_number k b) ++ revs_end k b) (sym (revs_parts k a) ∙ e ∙ revs_parts k b) in
+    let two = same_decimal (revs_number k a) (revs_number k b) (revs_end k a) (revs_end k b) (revs_fits k a fa) (revs_fits k b fb) (revs_no_digit k a) (revs_no_digit k b) one in
     revs_same k a b fa fb two.0 two.1
 
-abbrev props_number : Layout → PropsFile → ℕ
-props_number layout (PropsShard n) = n
-props_number layout (Props rev) = shard_of layout rev
+abbrev props_number : Folders → PropsFile → ℕ
+props_number k (PropsShard n) = n
+props_number k (Props rev) = rev_number k rev
 
-abbrev props_end : PropsFile → List ℕ
-props_end (PropsShard n) = []
-props_end (Props rev) = 47 ∷ decimal rev
+abbrev props_end : Folders → PropsFile → List ℕ
+props_end k (PropsShard n) = []
+props_end k (Props rev) = rev_end k rev
 
-props_parts : (layout : Layout) (f : PropsFile) → props_name layout f ≡ codes "db/revprops/" ++ (decimal (props_number layout f) ++ props_end f)
-props_parts layout (PropsShard n) = ap (λ (t : List ℕ). codes "db/revprops/" ++ t) (sym (append-nil (decimal n)))
-props_parts layout (Props rev) = simp append_assoc
+props_parts : (k : Folders) (f : PropsFile) → props_name k f ≡ codes "db/revprops/" ++ (decimal (props_number k f) ++ props_end k f)
+props_parts k (PropsShard n) = ap (λ (t : List ℕ). codes "db/revprops/" ++ t) (sym (append-nil (decimal n)))
+props_parts k (Props rev) = rev_parts (codes "db/revprops") k rev
 
-props_no_digit : (f : PropsFile) → NoDigit 10 (props_end f)
-props_no_digit (PropsShard n) = tt
-props_no_digit (Props rev) = omega arith
+props_no_digit : (k : Folders) (f : PropsFile) → NoDigit 10 (props_end k f)
+props_no_digit k (PropsShard n) = tt
+props_no_digit k (Props rev) = rev_no_digit k rev
 
-props_fits : (layout : Layout) (f : PropsFile) → FitsProps f → props_number layout f < 2 ^ 64
-props_fits layout (PropsShard n) fits = omega arith
-props_fits layout (Props rev) fits = div_fits rev layout.shard_size fits
+props_fits : (k : Folders) (f : PropsFile) → FitsProps k f → props_number k f < 2 ^ 64
+props_fits k (PropsShard n) fits = omega (arith, fits.1)
+props_fits k (Props rev) fits = rev_fits k rev fits
 
-props_same : (layout : Layout) (a b : PropsFile) → FitsProps a → FitsProps b → props_number layout a ≡ props_number layout b → props_end a ≡ props_end b → a ≡ b
-props_same k (PropsShard n) (PropsShard m) fa fb e t = ap (λ (x : ℕ). PropsShard x) e
-props_same k (PropsShard n) (Props m) fa fb e t = absurd (not_nil 47 (decimal m) (sym t))
-props_same k (Props n) (PropsShard m) fa fb e t = absurd (not_nil 47 (decimal n) t)
-props_same k (Props n) (Props m) fa fb e t = ap (λ (x : ℕ). Props x) (rev_ends n m fa fb t)
+props_same : (k : Folders) (a b : PropsFile) → FitsProps k a → FitsProps k b → props_number k a ≡ props_number k b → props_end k a ≡ props_end k b → a ≡ b
+props_same (Shards size) (PropsShard n) (PropsShard m) fa fb e t = ap (λ (x : ℕ). PropsShard x) e
+props_same (Shards size) (PropsShard n) (Props m) fa fb e t = absurd (not_nil 47 (decimal m) (sym t))
+props_same (Shards size) (Props n) (PropsShard m) fa fb e t = absurd (not_nil 47 (decimal n) t)
+props_same (Shards size) (Props n) (Props m) fa fb e t = ap (λ (x : ℕ). Props x) (rev_ends n m fa fb t)
+props_same OneFolder (PropsShard n) b fa fb e t = absurd fa.0
+props_same OneFolder a (PropsShard m) fa fb e t = absurd fb.0
+props_same OneFolder (Props n) (Props m) fa fb e t = ap (λ (x : ℕ). Props x) e
 
-props_apart : (layout : Layout) (a b : PropsFile) → FitsProps a → FitsProps b → props_name layout a ≡ props_name layout b → a ≡ b
+props_apart : (k : Folders) (a b : PropsFile) → FitsProps k a → FitsProps k b → props_name k a ≡ props_name k b → a ≡ b
 props_apart k a b fa fb e =
-    let one = append_cancel_left (codes "db/revprops/") (decimal (props_number k a) ++ props_end a) (decimal (props_number k b) ++ props_end b) (sym (props_parts k a) ∙ e ∙ props_parts k b) in
-    let two = same_decimal (props_number k a) (props_number k b) (props_end a) (props_end b) (props_fits k a fa) (props_fits k b fb) (props_no_digit a) (props_no_digit b) one in
+    let one = append_cancel_left (codes "db/revprops/") (decimal (props_number k a) ++ props_end k a) (decimal (props_number k b) ++ props_end k b) (sym (props_parts k a) ∙ e ∙ props_parts k b) in
+    let two = same_decimal (props_number k a) (props_number k b) (props_end k a) (props_end k b) (props_fits k a fa) (props_fits k b fb) (props_no_digit k a) (props_no_digit k b) one in
     props_same k a b fa fb two.0 two.1
 
 txn_no_digit : (f : TxnFile) → NoDigit 36 (txn_file_end f)
@@ -367,10 +423,10 @@ proto_ends Lock Lock e = refl
 
 -- ---- all names
 
-nested_apart : (layout : Layout) (a b : File) → FitsFile a → FitsFile b → file_name layout a ≡ file_name layout b → a ≡ b
+nested_apart : (k : Folders) (a b : File) → FitsFile k a → FitsFile k b → file_name k a ≡ file_name k b → a ≡ b
 nested_apart k a b fa fb e = go a b fa fb e (sym (name_group k a) ∙ ap group e ∙ name_group k b)
   where
-    go : (a b : File) → FitsFile a → FitsFile b → file_name k a ≡ file_name k b → group_of a ≡ group_of b → a ≡ b
+    go : (a b : File) → FitsFile k a → FitsFile k b → file_name k a ≡ file_name k b → group_of a ≡ group_of b → a ≡ b
     go (Only f) (Only g) fa fb e same = ap (λ (x : OnlyFile). Only x) (sym (only_back f) ∙ ap only_of e ∙ only_back g)
     go (InRevs f) (InRevs g) fa fb e same = ap (λ (x : RevsFile). InRevs x) (revs_apart k f g fa fb e)
     go (InProps f) (InProps g) fa fb e same = ap (λ (x : PropsFile). InProps x) (props_apart k f g fa fb e)
@@ -445,7 +501,7 @@ flat_nested (file.OfTxn txn (part.Part name)) = refl
 flat_nested (file.OfTxn txn part.ProtoRevision) = refl
 flat_nested (file.OfTxn txn part.ProtoRevisionLock) = refl
 
-nested_name : (k : Layout) (f : RepositoryFile) → file_name k (nested f) ≡ name_of k f
+nested_name : (k : Layout) (f : RepositoryFile) → file_name k.folders (nested f) ≡ name_of k f
 nested_name k (file.Only f) = refl
 nested_name k (file.Shard n) = refl
 nested_name k (file.Revision rev) = refl
@@ -459,21 +515,21 @@ nested_name k (file.OfTxn txn (part.Part name)) = refl
 nested_name k (file.OfTxn txn part.ProtoRevision) = refl
 nested_name k (file.OfTxn txn part.ProtoRevisionLock) = refl
 
-nested_fits : (f : RepositoryFile) → Fits f → FitsFile (nested f)
-nested_fits (file.Only f) fits = fits
-nested_fits (file.Shard n) fits = fits
-nested_fits (file.Revision rev) fits = fits
-nested_fits (file.PackFolder n) fits = fits
-nested_fits (file.Pack n) fits = fits
-nested_fits (file.Manifest n) fits = fits
-nested_fits (file.PropsShard n) fits = fits
-nested_fits (file.Props rev) fits = fits
-nested_fits (file.OfTxn txn part.Folder) fits = fits
-nested_fits (file.OfTxn txn (part.Part name)) fits = fits
-nested_fits (file.OfTxn txn part.ProtoRevision) fits = fits
-nested_fits (file.OfTxn txn part.ProtoRevisionLock) fits = fits
+nested_fits : (k : Layout) (f : RepositoryFile) → Fits k f → FitsFile k.folders (nested f)
+nested_fits k (file.Only f) fits = fits
+nested_fits k (file.Shard n) fits = fits
+nested_fits k (file.Revision rev) fits = fits
+nested_fits k (file.PackFolder n) fits = fits
+nested_fits k (file.Pack n) fits = fits
+nested_fits k (file.Manifest n) fits = fits
+nested_fits k (file.PropsShard n) fits = fits
+nested_fits k (file.Props rev) fits = fits
+nested_fits k (file.OfTxn txn part.Folder) fits = fits
+nested_fits k (file.OfTxn txn (part.Part name)) fits = fits
+nested_fits k (file.OfTxn txn part.ProtoRevision) fits = fits
+nested_fits k (file.OfTxn txn part.ProtoRevisionLock) fits = fits
 
 pub names_apart : (layout : Layout) → NamesAreApart layout
 names_apart k a b fa fb e =
-    let same = nested_apart k (nested a) (nested b) (nested_fits a fa) (nested_fits b fb) (nested_name k a ∙ e ∙ sym (nested_name k b)) in
+    let same = nested_apart k.folders (nested a) (nested b) (nested_fits k a fa) (nested_fits k b fb) (nested_name k a ∙ e ∙ sym (nested_name k b)) in
     sym (flat_nested a) ∙ ap flat same ∙ flat_nested b

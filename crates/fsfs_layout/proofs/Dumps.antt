@@ -1,7 +1,7 @@
 -- A dump is read exactly.
-use Rattle.std.proofs.Common.{◌≡◌, ℕ, suc, ◌-◌, ◌<◌, ◌≤◌, true, false, eqb, List, [], ◌∷◌, length, Result, Ok, Err, refl, sym, ◌∙◌, arith}
-use Rattle.fsfs_base.specs.Grammar.Relations.{IsFaultAt, IsText, begins}
-use Rattle.fsfs_base.proofs.Readers.{Reads, ReadsAll, next_reads, mapped_reads, until_reads, from_steps, whole_reads, text_reads, bytes_reads, all_exact, ok_is}
+use Rattle.std.proofs.Common.{◌≡◌, ℕ, suc, true, false, eqb, List, [], ◌∷◌, length, Result, Ok, Err, refl, sym, ◌∙◌, arith}
+use Rattle.fsfs_base.specs.Grammar.Relations.{IsText, begins}
+use Rattle.fsfs_base.proofs.Readers.{Reads, ReadsAll, next_reads, mapped_reads, until_reads, from_steps, whole_reads, text_reads, bytes_reads, ok_is}
 use Rattle.fsfs_base.proofs.Numerals.{number_reads}
 use Rattle.fsfs_layout.specs.Hash.Dump.{Entries, Field, Pair, IsDump, put_all}
 use Rattle.fsfs_layout.specs.Hash.Reading.{entries_at, field_at, entry_at, dump_at}

@@ -12,6 +12,11 @@ use Rattle.fsfs_base.proofs.Readers.{Reads, ReadsAll, next_reads, mapped_reads, 
 use Rattle.fsfs_base.proofs.Numerals.{numeral_one}
 use Rattle.fsfs_base.proofs.Unique.{numeral_decimal}
 use Rattle.fsfs_base.proofs.Loops.{with_front}
+use Rattle.fsfs_layout.specs.Folders.{AreSized, size_of}
+use Rattle.fsfs_layout.specs.Layouts.{shard_size}
+use Rattle.fsfs_layout.specs.declared.folders.Folders.{Folders}
+use Rattle.fsfs_layout.specs.declared.folders.Folders.TheVariants.{Shards, OneFolder}
+use Rattle.fsfs_layout.specs.declared.layout.Layout.{Layout}
 use Rattle.fsfs_layout.specs.Manifest.{offset_line, DontFall, IsManifest}
 use Rattle.fsfs_layout.specs.ManifestReading.{offset_at, offsets_at, lines_at, manifest_at}
 use Rattle.fsfs_layout.proofs.Offsets.{LowNumber, decimal_line, offset_reads}
@@ -167,6 +172,17 @@ from_manifest shard_size some t xs w = go xs w.count w.first w.rising w.fit w.li
 
 pub manifest_reads : (shard_size : ℕ) → 0 < shard_size → (n : ℕ) → ReadsAll n (IsManifest shard_size) (manifest_at shard_size)
 manifest_reads shard_size some n = same_all (IsManifest shard_size) (to_manifest shard_size some) (from_manifest shard_size some) (whole_reads (lines_reads shard_size) n)
+
+-- a shard has revisions
+pub size_some : (layout : Layout) → 0 < shard_size layout
+size_some layout = some layout.folders layout.sized
+  where
+    some : (f : Folders) → AreSized f → 0 < size_of f
+    some (Shards n) sized = sized.0
+    some OneFolder sized = omega arith
+
+pub layout_manifest : (layout : Layout) (n : ℕ) → ReadsAll n (IsManifest (shard_size layout)) (manifest_at (shard_size layout))
+layout_manifest layout = manifest_reads (shard_size layout) (size_some layout)
 
 -- ---- the loop
 

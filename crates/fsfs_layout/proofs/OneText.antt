@@ -16,7 +16,7 @@ field_one letter text bytes w =
     let behind : w.second ≡ (decimal (length bytes) ++ 10 ∷ []) ++ (bytes ++ 10 ∷ []) = u.parts ∙ (λ i. number i ++ rest i) in
     w.parts ∙ (λ i. w.first_is i ++ behind i)
 
-pair_one : (text : List ℕ) (pair : List ℕ × List ℕ) → Pair text pair → text ≡ pair_text pair
+pub pair_one : (text : List ℕ) (pair : List ℕ × List ℕ) → Pair text pair → text ≡ pair_text pair
 pair_one text pair w =
     w.parts
     ∙ (λ i. field_one 75 w.first w.between w.first_is i ++ field_one 86 w.second w.second_is.inner w.second_is.inner_is i)

@@ -1,10 +1,11 @@
 -- The names of all the files and folders of a repository, and that no two of them have one name.
-use Rattle.std.specs.Prelude.{◌≡◌, ◌<◌, ◌≤◌, ◌^◌, ℕ, List, ◌++◌, codes}
+use Rattle.std.specs.Prelude.{◌≡◌, ◌<◌, ◌^◌, ℕ, List, ◌++◌, codes}
 use Rattle.std.specs.Fmt.{decimal}
 use Rattle.fsfs_base.specs.declared.fields.txn_name.TxnName.{TxnName}
 use Rattle.fsfs_base.specs.declared.small_fault.SmallFile.{SmallFile}
 use Rattle.fsfs_base.specs.declared.small_fault.SmallFile.TheVariants as small
-use Rattle.fsfs_layout.specs.Names.{in_shard, in_pack, with_txn}
+use Rattle.fsfs_layout.specs.Names.{in_folder, in_pack, with_txn}
+use Rattle.fsfs_layout.specs.Layouts.{IsSharded}
 use Rattle.fsfs_layout.specs.declared.layout.Layout.{Layout}
 use Rattle.fsfs_layout.specs.declared.only_file.OnlyFile.{OnlyFile}
 use Rattle.fsfs_layout.specs.declared.only_file.OnlyFile.TheVariants.{RepositoryFormat, Format, FormatNext, FsType, Uuid, Current, CurrentNext, MinUnpackedRev, MinUnpackedRevNext, TxnCurrent, TxnCurrentNext, TxnCurrentLock, WriteLock, Revisions, RevisionProps, Transactions, ProtoRevisions}
@@ -44,12 +45,12 @@ txn_file_name txn ProtoRevisionLock = with_txn (codes "db/txn-protorevs/") txn (
 abbrev pub file_name : Layout → RepositoryFile → List ℕ
 file_name layout (Only file) = only_name file
 file_name layout (Shard n) = codes "db/revs/" ++ decimal n
-file_name layout (Revision rev) = in_shard (codes "db/revs") layout rev
+file_name layout (Revision rev) = in_folder (codes "db/revs") layout rev
 file_name layout (PackFolder n) = codes "db/revs/" ++ decimal n ++ codes ".pack"
 file_name layout (Pack n) = in_pack n (codes "/pack")
 file_name layout (Manifest n) = in_pack n (codes "/manifest")
 file_name layout (PropsShard n) = codes "db/revprops/" ++ decimal n
-file_name layout (Props rev) = in_shard (codes "db/revprops") layout rev
+file_name layout (Props rev) = in_folder (codes "db/revprops") layout rev
 file_name layout (OfTxn txn file) = txn_file_name txn file
 
 -- the name of a small file that can be damaged; of a transaction's `next-ids` the last part
@@ -62,21 +63,23 @@ small_name small.TxnCurrent = only_name TxnCurrent
 small_name small.NextIds = codes "next-ids"
 small_name (small.Manifest shard) = in_pack shard (codes "/manifest")
 
--- shards and revisions of 32 bits, transactions within their limits
+-- transactions within their limits
 abbrev pub FitsTxn : TxnName → Type 0
 FitsTxn txn = (txn.base < 2 ^ 32) × (txn.number.number < 170581728179578208256)
 
-abbrev pub FitsFile : RepositoryFile → Type 0
-FitsFile (Only file) = Unit {0}
-FitsFile (Shard n) = n < 2 ^ 32
-FitsFile (Revision rev) = rev < 2 ^ 32
-FitsFile (PackFolder n) = n < 2 ^ 32
-FitsFile (Pack n) = n < 2 ^ 32
-FitsFile (Manifest n) = n < 2 ^ 32
-FitsFile (PropsShard n) = n < 2 ^ 32
-FitsFile (Props rev) = rev < 2 ^ 32
-FitsFile (OfTxn txn file) = FitsTxn txn
+-- A file that a repository of this layout may have: shards and revisions of 32 bits, and no folder of a shard where there is one folder,
+-- in which a revision's file would have its name.
+abbrev pub FitsFile : Layout → RepositoryFile → Type 0
+FitsFile layout (Only file) = Unit {0}
+FitsFile layout (Shard n) = IsSharded layout × (n < 2 ^ 32)
+FitsFile layout (Revision rev) = rev < 2 ^ 32
+FitsFile layout (PackFolder n) = n < 2 ^ 32
+FitsFile layout (Pack n) = n < 2 ^ 32
+FitsFile layout (Manifest n) = n < 2 ^ 32
+FitsFile layout (PropsShard n) = IsSharded layout × (n < 2 ^ 32)
+FitsFile layout (Props rev) = rev < 2 ^ 32
+FitsFile layout (OfTxn txn file) = FitsTxn txn
 
 -- files with one name are the same file
 abbrev pub NamesAreApart : Layout → Type 0
-NamesAreApart layout = (a b : RepositoryFile) → FitsFile a → FitsFile b → file_name layout a ≡ file_name layout b → a ≡ b
+NamesAreApart layout = (a b : RepositoryFile) → FitsFile layout a → FitsFile layout b → file_name layout a ≡ file_name layout b → a ≡ b

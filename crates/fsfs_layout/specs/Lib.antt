@@ -1,3 +1,4 @@
+pub mod Folders
 pub mod Formats
 pub mod Layouts
 pub mod Small

@@ -3,12 +3,12 @@ use Rattle.std.specs.Prelude.{ℕ, List, ◌∷◌, ◌++◌, codes}
 use Rattle.std.specs.Fmt.{decimal}
 use Rattle.fsfs_base.specs.Fields.TxnNames.{txn_text}
 use Rattle.fsfs_base.specs.declared.fields.txn_name.TxnName.{TxnName}
-use Rattle.fsfs_layout.specs.Layouts.{shard_of}
+use Rattle.fsfs_layout.specs.Folders.{shard_folder}
 use Rattle.fsfs_layout.specs.declared.layout.Layout.{Layout}
 
--- `<folder>/<shard>/<revision>`
-abbrev pub in_shard : List ℕ → Layout → ℕ → List ℕ
-in_shard folder layout rev = folder ++ 47 ∷ decimal (shard_of layout rev) ++ 47 ∷ decimal rev
+-- `<folder>/<shard>/<revision>`, or `<folder>/<revision>` in one folder
+abbrev pub in_folder : List ℕ → Layout → ℕ → List ℕ
+in_folder folder layout rev = folder ++ shard_folder layout.folders rev ++ 47 ∷ decimal rev
 
 -- `db/revs/<shard>.pack<rest>`
 abbrev pub in_pack : ℕ → List ℕ → List ℕ

@@ -9,8 +9,10 @@ use Rattle.fsfs_layout.specs.FileNames.{only_name}
 use Rattle.fsfs_layout.specs.declared.only_file.OnlyFile.TheVariants as only
 use Rattle.fsfs_layout.specs.Formats.{IsFormat, IsOurFormat}
 use Rattle.fsfs_layout.specs.Small.{IsUuid, IsRevLine, IsMinUnpackedRev, IsBase36Line, IsFaultOf, IsRefusedFile, IsMinUnpackedFault}
-use Rattle.fsfs_layout.specs.declared.small_files.format_file.Format.{Format}
-use Rattle.fsfs_layout.specs.declared.small_files.format_file.Format.TheVariants.{Linear, Sharded, Other}
+use Rattle.fsfs_layout.specs.Layouts.{Packs}
+use Rattle.fsfs_layout.specs.declared.folders.Folders.TheVariants.{OneFolder}
+use Rattle.fsfs_layout.specs.declared.small_files.format_file.FormatFile.{FormatFile}
+use Rattle.fsfs_layout.specs.declared.small_files.format_file.FormatFile.TheVariants.{Known, Other}
 use Rattle.fsfs_layout.specs.declared.layout.Layout.{Layout}
 use Rattle.fsfs_layout.specs.declared.opened.Opened.{Opened}
 
@@ -46,6 +48,10 @@ pub record IsFsfs (s : SmallTexts) (format : List ℕ) : Type 0 where
 abbrev pub IsNone : SmallTexts → Type 0
 IsNone s = (s.format ≡ None) ⊎ (s.fs_type ≢ codes "fsfs\n")
 
+-- a repository of this type of filesystem, and this is what its db/format says
+abbrev pub SaysFormat : SmallTexts → FormatFile → Type 0
+SaysFormat s format = (text : List ℕ) × IsFsfs s text × IsFormat text format
+
 -- what the files behind `db/format` say, in this layout
 pub record IsOpenedBehind (s : SmallTexts) (o : Opened) : Type 0 where
   pub uuid : IsUuid s.uuid o.uuid
@@ -54,18 +60,20 @@ pub record IsOpenedBehind (s : SmallTexts) (o : Opened) : Type 0 where
   pub within : o.min_unpacked_rev ≤ o.youngest + 1
   pub next_txn : IsBase36Line s.txn_current o.next_txn.number
 
--- what the small files of a sharded repository of format 4 say
+-- what the small files of a repository say
 pub record IsOpened (s : SmallTexts) (o : Opened) : Type 0 where
-  pub format : (text : List ℕ) × IsFsfs s text × IsFormat text (Sharded o.layout.shard_size)
+  pub format : SaysFormat s (Known o.layout)
+  -- only repositories whose shards can be packed are opened
+  pub packs : Packs o.layout
   pub behind : IsOpenedBehind s o
 
 -- it has this other format
 abbrev pub HasFormat : SmallTexts → ℕ → Type 0
-HasFormat s number = (text : List ℕ) × IsFsfs s text × IsFormat text (Other number)
+HasFormat s number = SaysFormat s (Other number)
 
--- it is not sharded
+-- all revisions are in one folder
 abbrev pub IsLinear : SmallTexts → Type 0
-IsLinear s = (text : List ℕ) × IsFsfs s text × IsFormat text Linear
+IsLinear s = (layout : Layout) × SaysFormat s (Known layout) × (layout.folders ≡ OneFolder)
 
 -- min-unpacked-rev is past the revision that follows the youngest: refused at its beginning
 pub record IsPastYoungest (layout : Layout) (s : SmallTexts) (fault : SmallFault) : Type 0 where
@@ -79,7 +87,7 @@ pub record IsPastYoungest (layout : Layout) (s : SmallTexts) (fault : SmallFault
 
 -- db/format is in no format, and the fault is at the first byte after which no text of ours goes on
 abbrev pub IsRefusedFormat : List ℕ → SmallFault → Type 0
-IsRefusedFormat text fault = ((format : Format) → IsFormat text format → ⊥) × IsFaultOf file.Format IsOurFormat text fault
+IsRefusedFormat text fault = ((format : FormatFile) → IsFormat text format → ⊥) × IsFaultOf file.Format IsOurFormat text fault
 
 -- the first of the four files behind db/format that is refused, those before it being in their formats
 abbrev pub IsRefusedBehind : Layout → SmallTexts → SmallFault → Type 0
@@ -93,4 +101,4 @@ IsRefusedBehind layout s fault =
 -- a small file is refused: db/format, or the first of the others
 abbrev pub IsRefused : SmallTexts → SmallFault → Type 0
 IsRefused s fault = (text : List ℕ) × IsFsfs s text
-    × (IsRefusedFormat text fault ⊎ ((layout : Layout) × IsFormat text (Sharded layout.shard_size) × IsRefusedBehind layout s fault))
+    × (IsRefusedFormat text fault ⊎ ((layout : Layout) × IsFormat text (Known layout) × Packs layout × IsRefusedBehind layout s fault))

@@ -8,15 +8,22 @@ use Rattle.fsfs_base.specs.declared.small_fault.SmallFile.TheVariants.{MinUnpack
 use Rattle.fsfs_base.specs.declared.small_fault.SmallFault.{SmallFault}
 use Rattle.fsfs_base.specs.Grammar.Cuts.{Lacks}
 use Rattle.fsfs_layout.specs.Layouts.{place_in_shard}
+use Rattle.fsfs_layout.specs.declared.format.Format.{Format}
+use Rattle.fsfs_layout.specs.declared.format.Format.TheVariants.{Three, Four}
 use Rattle.fsfs_layout.specs.declared.layout.Layout.{Layout}
 
 -- `<revision>\n`
 abbrev pub IsRevLine : List ℕ → ℕ → Type 0
 IsRevLine = IsRevEnded 10
 
--- `<revision>\n` of the first revision of a shard
+-- the oldest revision that isn't packed: in format 4 `<revision>\n` of the first one of a shard; format 3 has none that is packed, and
+-- no such file
+abbrev pub IsMinUnpackedRevIn : Format → Layout → List ℕ → ℕ → Type 0
+IsMinUnpackedRevIn Three layout text n = n ≡ 0
+IsMinUnpackedRevIn Four layout text n = IsRevLine text n × (place_in_shard layout n ≡ 0)
+
 abbrev pub IsMinUnpackedRev : Layout → List ℕ → ℕ → Type 0
-IsMinUnpackedRev layout text n = IsRevLine text n × (place_in_shard layout n ≡ 0)
+IsMinUnpackedRev layout = IsMinUnpackedRevIn layout.format layout
 
 -- `<base36>\n`
 abbrev pub IsBase36Line : List ℕ → ℕ → Type 0
@@ -51,6 +58,10 @@ pub record IsInsideShard (layout : Layout) (bytes : List ℕ) (fault : SmallFaul
   pub names : fault.file ≡ MinUnpackedRev
   pub place : fault.at ≡ 0
 
--- no revision's line, or one of a revision inside a shard
+-- in format 4 no revision's line, or one of a revision inside a shard
+abbrev pub IsMinUnpackedFaultIn : Format → Layout → List ℕ → SmallFault → Type 0
+IsMinUnpackedFaultIn Three layout bytes fault = ⊥
+IsMinUnpackedFaultIn Four layout bytes fault = IsRefusedFile MinUnpackedRev IsRevLine bytes fault ⊎ IsInsideShard layout bytes fault
+
 abbrev pub IsMinUnpackedFault : Layout → List ℕ → SmallFault → Type 0
-IsMinUnpackedFault layout bytes fault = IsRefusedFile MinUnpackedRev IsRevLine bytes fault ⊎ IsInsideShard layout bytes fault
+IsMinUnpackedFault layout = IsMinUnpackedFaultIn layout.format layout

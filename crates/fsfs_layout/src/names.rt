@@ -2,8 +2,9 @@
 ghost use Rattle.std.specs.Prelude.{◌≡◌, ◌≤◌, ◌+◌, ◌++◌, codes, length};
 ghost use Rattle.std.specs.Fmt.{decimal};
 ghost use Rattle.fsfs_base.specs.Fields.TxnNames.{txn_text};
-ghost use Rattle.fsfs_layout.specs.Names.{in_shard, in_pack, with_txn};
+ghost use Rattle.fsfs_layout.specs.Names.{in_folder, in_pack, with_txn};
 
+use crate::folders::Folders;
 use crate::layout::Layout;
 use crate::part_name::PartName;
 use fsfs_base::{Name, RevNum, TxnName, push_base36};
@@ -31,9 +32,12 @@ pub(crate) fn props_shard(shard: u32) -> Name
 
 // A revision's file, before it is packed.
 pub(crate) fn revision(layout: Layout, rev: RevNum) -> Name
-    ensures { result ≡ in_shard (codes "db/revs") layout rev }
+    ensures { result ≡ in_folder (codes "db/revs") layout rev }
 {
-    let mut name = shard(layout.shard_of(rev));
+    let mut name = match layout.folders() {
+        Folders::Shards(_) => shard(layout.shard_of(rev)),
+        Folders::OneFolder => Name::new("db/revs"),
+    };
     name.push('/');
     name.push_str(Buffer::new().format(rev.get()));
     name
@@ -41,9 +45,12 @@ pub(crate) fn revision(layout: Layout, rev: RevNum) -> Name
 
 // The file of a revision's properties.
 pub(crate) fn props(layout: Layout, rev: RevNum) -> Name
-    ensures { result ≡ in_shard (codes "db/revprops") layout rev }
+    ensures { result ≡ in_folder (codes "db/revprops") layout rev }
 {
-    let mut name = props_shard(layout.shard_of(rev));
+    let mut name = match layout.folders() {
+        Folders::Shards(_) => props_shard(layout.shard_of(rev)),
+        Folders::OneFolder => Name::new("db/revprops"),
+    };
     name.push('/');
     name.push_str(Buffer::new().format(rev.get()));
     name

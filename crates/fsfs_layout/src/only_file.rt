@@ -6,7 +6,7 @@ ghost use Rattle.fsfs_layout.specs.FileNames.{only_name};
 use fsfs_base::Name;
 
 /// A file or folder that a repository has once.
-#[derive(Clone, Copy, Debug, PartialEq, Eq)]
+#[derive(Clone, Copy)]
 pub enum OnlyFile {
     /// `format`: the file that says which version of the repository's own layout it has.
     RepositoryFormat,

@@ -6,7 +6,7 @@ use std::marker::Model;
 
 /// The name of a file in a transaction's folder, as `changes` or `node.0.0.props`: at most 80 bytes, kept by value.
 /// A contract sees its bytes.
-#[derive(Debug, Drop)]
+#[derive(Drop)]
 pub struct PartName {
     name: Name,
     ghost short: { length name ≤ 80 },

@@ -9,7 +9,7 @@ use crate::txn_file::TxnFile;
 use fsfs_base::{Name, RevNum, SmallFile, TxnName};
 
 /// A file or folder of a repository.
-#[derive(Debug, Drop)]
+#[derive(Drop)]
 pub enum RepositoryFile {
     /// One that a repository has once.
     Only(OnlyFile),

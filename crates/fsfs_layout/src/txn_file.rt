@@ -7,7 +7,7 @@ use crate::part_name::PartName;
 use fsfs_base::{Name, TxnName};
 
 /// A file or folder of a transaction.
-#[derive(Debug, Drop)]
+#[derive(Drop)]
 pub enum TxnFile {
     /// Its folder.
     Folder,

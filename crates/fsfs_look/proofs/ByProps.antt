@@ -8,6 +8,7 @@ use Rattle.fsfs_tree.specs.PropTexts.{date_line}
 use Rattle.fsfs_tree.specs.ShownDates.{printed_date, printed_numbers}
 use Rattle.fsfs_tree.specs.Dated.{date_name}
 use Rattle.fsfs_revision.specs.Told.{RevisionBytes}
+use Rattle.fsfs_revision.specs.RevProps.{only}
 use Rattle.fsfs_look.specs.Revprops.Files.{Pairs, RevPropsOf}
 use Rattle.fsfs_look.specs.Revprops.Dates.{shown_date}
 use Rattle.fsfs_stands.specs.Texts.{Whole}
@@ -31,7 +32,7 @@ line_is (Some text) line (dt, is, e) =
     e ∙ ap (λ (t : List ℕ). t ++ codes "\n") (year ∙ sym (ap printed_numbers numbers))
 
 module _ (files : RevisionBytes) (rev : ℕ) (pairs : Pairs) (shown : ShowsProps files rev pairs) where
-  read : RevPropsOf files rev (Ok pairs)
+  read : RevPropsOf (only files) rev (Ok pairs)
   read = (shown.file, shown.file_is, shown.dump)
 
   pub line : (line : List ℕ) × IsDateLine (value_of pairs date_name) line

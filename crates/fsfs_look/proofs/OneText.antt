@@ -12,6 +12,7 @@ use Rattle.fsfs_revision.specs.Damage.Checks.{AllPass}
 use Rattle.fsfs_revision.specs.Damage.Readings.{AndThen, HasOneAnswer}
 use Rattle.fsfs_revision.proofs.OneAnswer.{ok_same, ok_no_err, err_same, and_then_one, judged_one}
 use Rattle.fsfs_revision.specs.Told.{RevisionBytes, BytesOf}
+use Rattle.fsfs_revision.specs.RevProps.{only}
 use Rattle.fsfs_revision.proofs.OneRep.{dump_one}
 use Rattle.fsfs_revision.proofs.OneStep.{bytes_one}
 use Rattle.fsfs_look.specs.Revprops.Files.{Pairs, file_checks, RevPropsIn, RevPropsOf}
@@ -48,12 +49,12 @@ date_line_one rev stored = judged_one (IsDateLine stored) (date_checks rev store
 rev_props_in_one : (rev : ℕ) (bytes : List ℕ) → HasOneAnswer (RevPropsIn rev bytes)
 rev_props_in_one rev bytes = judged_one (IsDump bytes) (file_checks rev bytes) (dump_one bytes) (λ pairs a. ((pairs, a), tt))
 
-rev_props_one : (files : RevisionBytes) (rev : ℕ) → HasOneAnswer (RevPropsOf files rev)
+pub rev_props_one : (files : RevisionBytes) (rev : ℕ) → HasOneAnswer (RevPropsOf (only files) rev)
 rev_props_one files rev = and_then_one (BytesOf files rev) (RevPropsIn rev) (bytes_one files rev) (rev_props_in_one rev)
 
 -- ---- texts
 
-read_text_one : (R : Result (List ℕ) Wrong → Type 0) → HasOneAnswer R → HasOneText (ReadText R)
+pub read_text_one : (R : Result (List ℕ) Wrong → Type 0) → HasOneAnswer R → HasOneText (ReadText R)
 read_text_one R one a b e f (inl none) h = stopped_first a b e f none
 read_text_one R one a b e f (inr g) (inl none) = stopped_second a b e f none
 read_text_one R one a b e f (inr (inl g)) (inr (inl h)) = inl (ok_same a b (one (Ok a) (Ok b) g.0 h.0), g.1 ∙ sym h.1)
@@ -63,7 +64,7 @@ read_text_one R one a b e f (inr (inr g)) (inr (inr h)) =
     inl (g.2.0 ∙ sym h.2.0, g.2.1 ∙ wrong_same g.0 h.0 (err_same g.0 h.0 (one (Err g.0) (Err h.0) g.1 h.1)) ∙ sym h.2.1)
 
 prop_text_one : (R : Pairs → Result (List ℕ) Wrong → Type 0) → ((pairs : Pairs) → HasOneAnswer (R pairs)) → HaveOneText (PropText R)
-prop_text_one R one files rev = read_text_one (AndThen (RevPropsOf files rev) R) (and_then_one (RevPropsOf files rev) R (rev_props_one files rev) one)
+prop_text_one R one files rev = read_text_one (AndThen (RevPropsOf (only files) rev) R) (and_then_one (RevPropsOf (only files) rev) R (rev_props_one files rev) one)
 
 pub authors_one : HaveOneText AuthorText
 authors_one = prop_text_one (λ pairs r. r ≡ Ok (value_line (value_of pairs author_name))) (λ pairs a b g h. g ∙ sym h)

@@ -98,8 +98,9 @@ fn check_again(rep: &Rep, digest: Md5) -> Result<(), LookError>
     Ok(())
 }
 
-// Writes the text of a representation that was checked.
-fn write_rep<B: Book, S: Sink>(
+/// Writes the text of a representation that was checked, a piece of this size at a time. Where it has another MD5 by now, that is told
+/// behind it.
+pub fn write_rep<B: Book, S: Sink>(
     book: &mut B,
     rep: &Rep,
     piece: &mut [u8],

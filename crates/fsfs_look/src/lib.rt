@@ -16,11 +16,12 @@ mod piece;
 mod revprops;
 mod tree;
 
-pub use file::{cat, check_rep};
+pub use file::{cat, check_rep, write_rep};
 pub use lines::put_spaces;
 pub use look_error::LookError;
 pub use path::found_at;
-pub use piece::{write_full, write_last};
+pub use piece::{write_full, write_last, write_piece};
 pub use revprops::laws::{prop_texts_are_by_the_properties, prop_texts_are_one};
 pub use revprops::looks::{author, date, info, log};
+pub use revprops::reading::rev_props;
 pub use tree::tree_text;

@@ -36,7 +36,7 @@ use Rattle.fsfs_machine.specs.declared.machine.Outcome.TheVariants as outcome
 use Rattle.fsfs_machine.specs.declared.machine.Step.{Step}
 use Rattle.fsfs_machine.specs.declared.machine.Step.TheVariants as step
 use Rattle.fsfs_machine.specs.Disk.{Disk, found, shown}
-use Rattle.fsfs_machine.specs.Machine.{World, Did, did, barred, either, answer, learns, labelled, unlabelled, begun_txn, is_outside, made, purged, purged_spent, listed, label_dropped, due, gives as gives_name, called_by, called, recorded, revisions, with_next, at_place, is_up, is_due, file_of, inside, held_by, is_begun, has_begun_by, number_of, count_read, counted, drawn, entry_of, IsComing, adopted, AdoptsTxn, Adopts, without_place, edited, EditsIf, Edits, merged, MergesIf, Merges, let_go, stuck_at, reveals, revealed, taken, looked, is_known, range_of, turned, has_read, properties_in, has_read_props, raised, sees_floor, floor_read, ends, named, split_off, joined, join_with, is_there, Happens}
+use Rattle.fsfs_machine.specs.Machine.{World, Did, did, barred, either, answer, learns, labelled, unlabelled, begun_txn, is_outside, made, purged, purged_spent, listed, label_dropped, due, gives as gives_name, called_by, called, recorded, revisions, with_next, at_place, is_up, is_due, file_of, inside, held_by, is_begun, has_begun_by, number_of, count_read, last_name, counted, drawn, entry_of, IsComing, adopted, AdoptsTxn, Adopts, without_place, edited, EditsIf, Edits, merged, MergesIf, Merges, let_go, stuck_at, reveals, revealed, taken, looked, is_known, range_of, turned, has_read, properties_in, has_read_props, raised, sees_floor, floor_read, ends, named, split_off, joined, join_with, is_there, Happens}
 use Rattle.fsfs_machine.specs.Kept.{StandsFor, StandsIn, AllBelow, Follows, IsSeen, AreSeen, AreTransactions, Whose, IsHolder, Kept, Names, IsIn, AllGiven, AreNamed, AreApart, HaveLabels, StepsKeep}
 use Rattle.fsfs_machine.proofs.Ends.{next_is_history, ends_keeps, crash_keeps, open_down_keeps}
 use Rattle.fsfs_machine.proofs.KeptParts.{no_less, seen_at, Steady, steady, keeps_lock, keeps_passes, keeps_txns, keeps_turn}
@@ -110,7 +110,7 @@ count_keeps w p b went k is less at = by_end went
 counted_keeps : (w : World) (p b : ℕ) (went : Went) (o : Option Contents) → found w.disk Counter ≡ o → Kept w → Kept (record w { lock = Held p Begun }) → Moves w (counted w p b went (number_of o)).world
 counted_keeps w p b went None is k at = stays w k
 counted_keeps w p b went (Some (Number n)) is k at =
-    elim (nat_lt b (length w.history) && nat_lt n (2 ^ 64 - 1)) as (λ t. (nat_lt b (length w.history) && nat_lt n (2 ^ 64 - 1)) ≡ t → Moves w (cond t (did (count_read w p b went n) (answer went)) (barred w)).world) [
+    elim (nat_lt b (length w.history) && nat_lt n last_name) as (λ t. (nat_lt b (length w.history) && nat_lt n last_name) ≡ t → Moves w (cond t (did (count_read w p b went n) (answer went)) (barred w)).world) [
       | true ↦ λ e. let f : nat_lt b (length w.history) ≡ true = (and_parts _ _ e).0 in let less : b < length w.history = grind (arith, f) in
           moved w (count_read w p b went n) (count_keeps w p b went n is less at) refl refl
       | false ↦ λ e. stays w k

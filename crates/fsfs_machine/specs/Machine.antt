@@ -243,9 +243,13 @@ count_read w p b went k =
       passes = at_place w.passes p (learns (length w.history) (Begin begin.Read) went);
     }
 
+-- The last number that a transaction's name has digits for: thirteen in base 36. Behind it no number could come, so no name has it.
+abbrev pub last_name : ℕ
+last_name = 36 ^ 13 - 1
+
 abbrev pub counted : World → ℕ → ℕ → Went → Option ℕ → Did
 counted w p b went None = barred w
-counted w p b went (Some k) = if nat_lt b (length w.history) && nat_lt k (2 ^ 64 - 1) then did (count_read w p b went k) (answer went) else barred w
+counted w p b went (Some k) = if nat_lt b (length w.history) && nat_lt k last_name then did (count_read w p b went k) (answer went) else barred w
 
 abbrev pub drawn : World → ℕ → ℕ → Went → Section → Did
 drawn w p b went Begun = counted w p b went (number_of (found w.disk Counter))

@@ -90,7 +90,8 @@ pub enum Contents {
     RevFile(Tree, ChangeMap, Bytes),
     /// A revision's properties.
     PropsFile(Pairs),
-    Number(u64),
+    /// A number: of a revision, or of the name of a transaction.
+    Number(u128),
     /// Anything else; nothing is claimed of it.
     Junk,
 }

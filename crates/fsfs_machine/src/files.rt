@@ -53,7 +53,7 @@ pub fn find<'a>(disk: &'a VecDeque<NameChange>, name: &FileName) -> Option<&'a C
 }
 
 /// The number in a file.
-pub fn find_number(disk: &VecDeque<NameChange>, name: &FileName) -> Option<u64>
+pub fn find_number(disk: &VecDeque<NameChange>, name: &FileName) -> Option<u128>
     ensures { result ≡ number_of (found disk.now.items name.now) }
 {
     match find(disk, name) {

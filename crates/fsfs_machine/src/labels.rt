@@ -15,7 +15,7 @@ fn is_effective(went: &Went) -> bool
 }
 
 /// The label is made, as far as the call went.
-pub fn put_label(labels: &mut VecDeque<u64>, name: u64, went: &Went) -> Result<(), AllocError>
+pub fn put_label(labels: &mut VecDeque<u128>, name: u128, went: &Went) -> Result<(), AllocError>
     ensures { OnOk result (labels.new.items ≡ labelled went.now name labels.old.items) }
 {
     if is_effective(went) {
@@ -27,10 +27,10 @@ pub fn put_label(labels: &mut VecDeque<u64>, name: u64, went: &Went) -> Result<(
 /// The label is dropped, as far as the call went.
 pub fn drop_label(
     alloc: Global,
-    labels: VecDeque<u64>,
-    name: u64,
+    labels: VecDeque<u128>,
+    name: u128,
     went: &Went,
-) -> Result<VecDeque<u64>, AllocError>
+) -> Result<VecDeque<u128>, AllocError>
     ensures { IfOk result (λ o. o.items ≡ unlabelled went.now name labels.items) }
 {
     if is_effective(went) {
@@ -42,9 +42,9 @@ pub fn drop_label(
 
 fn without_label(
     alloc: Global,
-    mut labels: VecDeque<u64>,
-    name: u64,
-) -> Result<VecDeque<u64>, AllocError>
+    mut labels: VecDeque<u128>,
+    name: u128,
+) -> Result<VecDeque<u128>, AllocError>
     ensures { IfOk result (λ o. o.items ≡ without name labels.items) }
 {
     let mut out = VecDeque::new(alloc);
@@ -54,7 +54,7 @@ fn without_label(
     Ok(out)
 }
 
-fn keep_label(out: &mut VecDeque<u64>, label: u64, kept: bool) -> Result<(), AllocError>
+fn keep_label(out: &mut VecDeque<u128>, label: u128, kept: bool) -> Result<(), AllocError>
     ensures { OnOk result (out.new.items ≡ out.old.items ++ label_where kept label []) }
 {
     if kept {
@@ -64,7 +64,7 @@ fn keep_label(out: &mut VecDeque<u64>, label: u64, kept: bool) -> Result<(), All
 }
 
 /// Whether there is the label.
-pub fn is_labelled(labels: &VecDeque<u64>, name: u64) -> bool
+pub fn is_labelled(labels: &VecDeque<u128>, name: u128) -> bool
     ensures { result ≡ has_label name labels.now.items }
 {
     for label in labels {
@@ -78,9 +78,9 @@ pub fn is_labelled(labels: &VecDeque<u64>, name: u64) -> bool
 /// What a crash leaves of the labels: those that are picked.
 pub fn pick_labels(
     alloc: Global,
-    mut labels: VecDeque<u64>,
+    mut labels: VecDeque<u128>,
     picks: &[bool],
-) -> Result<VecDeque<u64>, AllocError>
+) -> Result<VecDeque<u128>, AllocError>
     ensures { IfOk result (λ o. o.items ≡ labels_left picks.now labels.items) }
 {
     let mut out = VecDeque::new(alloc);

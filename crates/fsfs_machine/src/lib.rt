@@ -15,8 +15,8 @@ mod theorem;
 pub use contents::{Bytes, Contents, FileName, NameChange};
 pub use line::Line;
 pub use machine::{
-    Coming, Drawn, Entry, Lock, Marks, Numbers, Outcome, Pass, Picks, Places, Recorded, Section,
-    Step, Txn, Went,
+    Coming, Drawn, Entry, Lock, Marks, Names, Numbers, Outcome, Pass, Picks, Places, Recorded,
+    Section, Step, Txn, Went,
 };
 pub use marks::{set_edited, set_merged};
 pub use theorem::every_run_keeps_one_history;

@@ -50,7 +50,7 @@ impl Model for Marks {
 
 /// A transaction: its name, the revision that it stands on, its tree and marks, and how often it was merged.
 pub struct Txn {
-    pub name: u64,
+    pub name: u128,
     pub base: RevNum,
     pub tree: Tree,
     pub marks: Marks,
@@ -115,8 +115,8 @@ impl Model for Entry {
 /// A name on its way to be given, the number that comes after it, and the base of the transaction.
 #[derive(Drop)]
 pub struct Drawn {
-    pub name: u64,
-    pub next: u64,
+    pub name: u128,
+    pub next: u128,
     pub base: RevNum,
 }
 
@@ -198,7 +198,7 @@ impl Model for Places {
     ghost view = { λ a. a.places.items };
 }
 
-/// Numbers of revisions, or of the names of transactions.
+/// Numbers of revisions.
 #[derive(Drop)]
 pub struct Numbers {
     pub numbers: Vec<u64>,
@@ -212,6 +212,20 @@ impl Model for Numbers {
     ghost view = { λ a. a.numbers.items };
 }
 
+/// Numbers of the names of transactions.
+#[derive(Drop)]
+pub struct Names {
+    pub names: Vec<u128>,
+}
+
+impl Model for Names {
+    ghost use Rattle.std.specs.Prelude.{List, ℕ};
+
+    ghost Value = { List ℕ };
+
+    ghost view = { λ a. a.names.items };
+}
+
 /// What one pass knows. Its number is its place among the passes.
 #[derive(Drop)]
 pub struct Pass {
@@ -222,7 +236,7 @@ pub struct Pass {
     /// Its own revisions: those since the opening whose entry carries its number.
     pub mine: Numbers,
     /// The greatest `min-unpacked-rev` that it has read.
-    pub floor: u64,
+    pub floor: u128,
     /// The places of its failed turns, in order.
     pub faults: Places,
     /// Where it found the lock stuck.
@@ -341,7 +355,7 @@ pub enum Step {
     },
     /// Drops the label of the transaction with that name while no object has the disk.
     DropLabel {
-        name: u64,
+        name: u128,
         went: Went,
     },
     Close,
@@ -386,9 +400,9 @@ pub enum Outcome {
     /// The properties that a property file shows.
     Properties(Pairs),
     /// The number that `min-unpacked-rev` shows.
-    Floor(u64),
+    Floor(u128),
     /// The names of the transactions that have a label.
-    Names(Numbers),
+    Names(Names),
     /// No such file, or another than was asked for.
     Missing,
     /// The merge would clash here first: the transaction is as before.

@@ -3,7 +3,7 @@ ghost use Rattle.std.specs.Prelude.{◌≡◌, ◌+◌, ◌++◌, ◌∷◌, [],
 ghost use Rattle.fsfs_machine.specs.Machine.{at_place, learns, reveals, joined, either_place, sees_floor, raised, is_known, first_pass};
 
 use crate::files::is_fine;
-use crate::machine::{Numbers, Pass, Places, Went};
+use crate::machine::{Names, Numbers, Pass, Places, Went};
 use fsfs_base::DiskPlace;
 use std::alloc::{AllocError, Global};
 use std::collections::VecDeque;
@@ -55,22 +55,24 @@ impl Numbers {
         self.numbers.push(number)?;
         Ok(())
     }
+}
 
+impl Names {
     /// The same numbers.
-    pub fn of(alloc: Global, numbers: &VecDeque<u64>) -> Result<Numbers, AllocError>
+    pub fn of(alloc: Global, numbers: &VecDeque<u128>) -> Result<Names, AllocError>
         ensures { IfOk result (λ o. o ≡ numbers.now.items) }
     {
-        let mut out = Numbers::new(alloc);
+        let mut names = Vec::new(alloc);
         for number in numbers {
-            out.push(*number)?;
+            names.push(*number)?;
         }
-        Ok(out)
+        Ok(Names { names })
     }
 }
 
 impl Pass {
     /// The pass of an opening, which has seen so many revisions.
-    pub fn first(alloc: Global, seen: u64, floor: u64) -> Pass
+    pub fn first(alloc: Global, seen: u64, floor: u128) -> Pass
         ensures { result ≡ first_pass seen floor }
     {
         Pass {
@@ -125,7 +127,7 @@ impl Pass {
     }
 
     // A turn that read the number in `min-unpacked-rev`.
-    fn read_floor(&mut self, seen: u64, found: Option<u64>, went: &Went) -> Result<(), AllocError>
+    fn read_floor(&mut self, seen: u64, found: Option<u128>, went: &Went) -> Result<(), AllocError>
         ensures { OnOk result (self.new ≡ sees_floor seen went.now found self.old) }
     {
         self.seen = seen;
@@ -166,7 +168,7 @@ impl Pass {
     }
 }
 
-fn raised_floor(found: Option<u64>, floor: u64) -> u64
+fn raised_floor(found: Option<u128>, floor: u128) -> u128
     ensures { result ≡ raised found floor }
 {
     match found {
@@ -214,7 +216,7 @@ pub fn read_floor_by(
     passes: &mut Vec<Pass>,
     p: u64,
     seen: u64,
-    found: Option<u64>,
+    found: Option<u128>,
     went: &Went,
 ) -> Result<(), AllocError>
     ensures { OnOk result (passes.new.items ≡ at_place passes.old.items p (sees_floor seen went.now found)) }

@@ -74,7 +74,7 @@ pub fn next_section(section: Section, went: &Went) -> Section
 }
 
 /// Where the section is after the counter was read.
-pub fn drawn_section(name: u64, next: u64, base: RevNum, went: &Went) -> Section
+pub fn drawn_section(name: u128, next: u128, base: RevNum, went: &Went) -> Section
     ensures { result ≡ either went.now (Section.CountRead (record { name = name; next = next; base = base })) Section.Over }
 {
     if is_fine(went) {

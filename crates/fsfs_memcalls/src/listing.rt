@@ -16,7 +16,7 @@ use fsfs_folders::Path;
 use std::alloc::{AllocError, Global};
 
 /// What is listed.
-#[derive(Clone, Copy, Debug, PartialEq, Eq)]
+#[derive(Clone, Copy, PartialEq, Eq)]
 pub enum Kind {
     Folder,
     File,

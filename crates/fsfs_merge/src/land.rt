@@ -20,7 +20,7 @@ use fsfs_revision::Book;
 use std::alloc::Global;
 
 /// What became of a transaction over a later revision.
-#[derive(Debug, Drop)]
+#[derive(Drop)]
 pub enum Outcome {
     /// The two clash here first, and the transaction is as before.
     Clash(FsPath),

@@ -3,7 +3,7 @@ ghost use Rattle.std.specs.Prelude.{◌≡◌};
 ghost use Rattle.fsfs_merge.specs.Walks.{merges, is_stopped, stays};
 
 /// What a merge sees of an entry of three directories: the base's, the head's and the transaction's.
-#[derive(Clone, Copy, Debug, PartialEq, Eq)]
+#[derive(Clone, Copy)]
 pub struct Sight {
     pub in_base: bool,
     pub in_head: bool,

@@ -5,15 +5,12 @@ ghost use Rattle.fsfs_folders.specs.Standing.{told};
 use fsfs_base::{Name, RevNum};
 use fsfs_folders::{CallError, Calls, Folders, Modes, Path};
 use fsfs_layout::{
-    Format, Layout, OnlyFile, RepositoryFile, read_current, read_format, read_min_unpacked_rev,
+    FormatFile, Layout, OnlyFile, RepositoryFile, read_current, read_format, read_min_unpacked_rev,
 };
 use std::alloc::Global;
 
 // No text of a small file has so many bytes.
 const MOST: usize = 64;
-
-// No layout has larger shards.
-const MOST_IN_SHARD: u32 = 2_147_483_647;
 
 // The first bytes of a small file; none where it isn't there.
 fn read_small<C: Calls + Drop>(
@@ -30,7 +27,7 @@ fn read_small<C: Calls + Drop>(
     Ok(Vec::from_slice(alloc, &buffer[..count])?)
 }
 
-// The layout of the repository, if there is one in shards.
+// The layout of the repository, if there is one of format 4 in shards: no other is opened.
 fn read_layout<C: Calls + Drop>(
     alloc: Global,
     folders: &mut Folders<C>,
@@ -39,9 +36,7 @@ fn read_layout<C: Calls + Drop>(
 {
     let text = read_small(alloc, folders, OnlyFile::Format)?;
     match read_format(&text) {
-        Ok(Format::Sharded(size)) if 0 < size && size <= MOST_IN_SHARD => {
-            Ok(Some(Layout::sharded(size)))
-        }
+        Ok(FormatFile::Known(layout)) if layout.packs() => Ok(Some(layout)),
         _ => Ok(None),
     }
 }

@@ -8,7 +8,7 @@ use fsfs_folders::{CallError, Calls};
 use std::alloc::Global;
 
 /// What no two files or folders of a system have alike.
-#[derive(Clone, Copy, Debug, PartialEq, Eq)]
+#[derive(Clone, Copy, PartialEq, Eq)]
 pub struct FileId {
     pub device: u64,
     pub number: u64,

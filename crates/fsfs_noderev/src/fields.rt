@@ -35,7 +35,7 @@ pub struct Fields {
 }
 
 /// A line was refused, or memory ran out.
-#[derive(Clone, Copy, Debug, PartialEq, Eq)]
+#[derive(Clone, Copy)]
 pub(crate) enum LineError {
     OutOfMemory,
     Refused(Which),

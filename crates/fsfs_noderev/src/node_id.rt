@@ -10,7 +10,7 @@ use fsfs_base::{B36, RevNum, TxnName, plain_txn_name, put_txn_name};
 use std::alloc::{AllocError, Global};
 
 /// The node part or the copy part of an id.
-#[derive(Clone, Copy, Debug, PartialEq, Eq)]
+#[derive(Clone, Copy, Debug)]
 pub enum Part {
     /// `_<number>`: made in the transaction.
     New(B36),
@@ -21,7 +21,7 @@ pub enum Part {
 }
 
 /// Where a node-revision stands.
-#[derive(Clone, Copy, Debug, PartialEq, Eq)]
+#[derive(Clone, Copy, Debug)]
 pub enum Place {
     /// `r<revision>/<offset>`: the offset counts from the beginning of the revision's own bytes.
     At(RevNum, u64),
@@ -30,7 +30,7 @@ pub enum Place {
 }
 
 /// The id of a node-revision, `<node>.<copy>.<place>`.
-#[derive(Clone, Copy, Debug, PartialEq, Eq)]
+#[derive(Clone, Copy, Debug)]
 pub struct NodeId {
     pub node: Part,
     pub copy: Part,

@@ -93,7 +93,7 @@ pub enum Which {
 
 /// A node-revision's text is refused: what is wrong, and where the first refused line begins. For `NoEnd` and `Missing`
 /// it is how many bytes were read.
-#[derive(Clone, Copy, Debug, PartialEq, Eq)]
+#[derive(Clone, Copy)]
 pub struct NodeFault {
     pub at: usize,
     pub which: Which,

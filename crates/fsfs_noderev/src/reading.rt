@@ -18,7 +18,7 @@ use std::alloc::Global;
 pub const MAX_NODE_REV: usize = 65536;
 
 /// A node-revision was not read.
-#[derive(Clone, Copy, Debug, PartialEq, Eq)]
+#[derive(Clone, Copy)]
 pub enum NodeError {
     OutOfMemory,
     Fault(NodeFault),

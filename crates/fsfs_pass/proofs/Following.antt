@@ -7,6 +7,7 @@ use Rattle.fsfs_layout.specs.Layouts.{shard_of, place_in_shard}
 use Rattle.fsfs_layout.specs.declared.layout.Layout.{Layout}
 use Rattle.fsfs_revision.specs.declared.wrong.Refusal.{Refusal}
 use Rattle.fsfs_revision.specs.RevBytes.{rev_bytes, rev_file, by_floor, packed_bytes, or_missing, manifest_of, section_of, cut_from}
+use Rattle.fsfs_revision.proofs.Roots.{is_less}
 use Rattle.fsfs_fetch.specs.Views.{Grows, is_below, is_packed, Follows, FilesLater, Later}
 use Rattle.fsfs_disk.specs.Trace.{Trace, files_now}
 use Rattle.fsfs_base.specs.declared.places.place.DiskPlace.{DiskPlace}
@@ -23,12 +24,11 @@ use Rattle.fsfs_pass.specs.Seats.{view_of}
 use Rattle.fsfs_pass.specs.Met.{Lasts, Met, known_last, seat_store}
 
 pub lasts_same : (layout : Layout) (n : ℕ) (m : Files) → Lasts layout n m m
-lasts_same layout n m = record { own = λ r less fits. refl; props = λ r less fits. refl; floor = refl; manifest = λ r fits. refl; pack = λ r fits. refl }
+lasts_same layout n m = record { own = λ r less fits. refl; floor = refl; manifest = λ r fits. refl; pack = λ r fits. refl }
 
 pub lasts_then : (layout : Layout) (n k : ℕ) (a b c : Files) → n ≤ k → Lasts layout n a b → Lasts layout k b c → Lasts layout n a c
 lasts_then layout n k a b c le x y = record {
   own = λ r less fits. y.own r (omega (arith, less, le)) fits ∙ x.own r less fits;
-  props = λ r less fits. y.props r (omega (arith, less, le)) fits ∙ x.props r less fits;
   floor = y.floor ∙ x.floor;
   manifest = λ r fits. y.manifest r fits ∙ x.manifest r fits;
   pack = λ r fits. y.pack r fits ∙ x.pack r fits;
@@ -81,7 +81,7 @@ module _ (layout : Layout) (w : World) (now t : Trace) (v : SeatView) (m : Met l
   unfolding is_packed
   packed_within r packed =
       let below : nat_lt r m.world.floor ≡ true = sym (ap (λ f. is_below r f) (floor_now layout m.world.young (stuck_place m.world.lock) t m.world m.store)) ∙ packed in
-      let less : r < m.world.floor = grind (arith, below) in
+      let less : r < m.world.floor = is_less r m.world.floor below in
       omega (arith, less, m.store.kept.floor)
 
   abbrev part_by : ℕ → Option (List ℕ) → Option (List ℕ) → Result (List ℕ) Refusal
@@ -110,7 +110,6 @@ module _ (layout : Layout) (w : World) (now t : Trace) (v : SeatView) (m : Met l
     manifest = λ r packed. m.lasts.manifest r (fits r (packed_within r packed));
     pack = λ r packed. m.lasts.pack r (fits r (packed_within r packed));
     own = λ r known. let less : r < length m.world.history = omega (arith, known, within) in inl (m.lasts.own r less (fits r less));
-    props = λ r known. let less : r < length m.world.history = omega (arith, known, within) in m.lasts.props r less (fits r less);
   }
 
   last_within : v.told ≡ true → known_last v < length m.world.history

@@ -2,6 +2,7 @@
 use Rattle.std.proofs.Common.{◌≡◌, ◌≢◌, ◌⊎◌, inl, inr, ◌<◌, ◌≤◌, ◌+◌, ◌==◌, ℕ, suc, zero, List, [], ◌∷◌, ◌++◌, length, true, false, cond, ⊎_elim, refl, sym, ap, subst, ◌∙◌, arith, take, length-take}
 use Rattle.std.specs.Prelude.{◌-◌, Option, Some, None, is_some, slice_get, slice_index, slice_set, nat_le, max, min, not, ◌&&◌, if◌then◌else◌}
 use Rattle.std.proofs.lemmas.List.{map-append, map-set}
+use Rattle.std.proofs.lemmas.Bool.Decides.{nat_tests}
 use mathlib.Core.Option.{some, none, some-injective, some-ne-none}
 use mathlib.Core.Logic.{dite}
 use native.Mathlib.Decide.{ℕ_discrete}
@@ -45,6 +46,12 @@ use Rattle.fsfs_pass.proofs.Failures.{failed, bench_failed, sum_joined, later_as
 use Rattle.fsfs_pass.proofs.Others.{at_less, left_apart, placed_other, as_long, seated, replaced}
 use Rattle.fsfs_pass.proofs.Stores as stores
 use Rattle.fsfs_pass.proofs.Rules.{short_told, seat_stays, goes, trace_of}
+
+no_more : (a b : ℕ) → nat_le a b ≡ true → a ≤ b
+no_more a b e = grind (arith, nat_tests)
+
+is_more : (a b : ℕ) → nat_le a b ≡ false → b < a
+is_more a b e = grind (arith, nat_tests)
 
 -- ---- lists
 
@@ -185,13 +192,13 @@ module _ (first : SeatView) (views : List SeatView) (lock young : ℕ) (t : Trac
   met_so = elim (nat_le (last_of it) (last_of me)) as (λ b. nat_le (last_of it) (last_of me) ≡ b → (tr : Trace) × (cond b me.met it.met ≡ Some tr) × Met first.layout join_on t u tr) [
     | true ↦ λ e.
         let m = own.met.2 in
-        let le : it.pass.least + (length it.seen - 1 - it.pass.least) ≤ me.pass.least + (length me.seen - 1 - me.pass.least) = grind (arith, e) in
+        let le : it.pass.least + (length it.seen - 1 - it.pass.least) ≤ me.pass.least + (length me.seen - 1 - me.pass.least) = no_more (last_of it) (last_of me) e in
         let a : length me.seen ≤ length m.world.history = m.seen in
         let b : me.pass.least < length m.world.history = m.least in
         (own.met.0, own.met.1, met_by me own.met.0 m a (omega (arith, le, a, b)) b (omega (arith, le, a, b)))
     | false ↦ λ e.
         let m = its.met.2 in
-        let le : me.pass.least + (length me.seen - 1 - me.pass.least) < it.pass.least + (length it.seen - 1 - it.pass.least) = grind (arith, e) in
+        let le : me.pass.least + (length me.seen - 1 - me.pass.least) < it.pass.least + (length it.seen - 1 - it.pass.least) = is_more (last_of it) (last_of me) e in
         let a : length it.seen ≤ length m.world.history = m.seen in
         let b : it.pass.least < length m.world.history = m.least in
         (its.met.0, its.met.1, met_by it its.met.0 m (omega (arith, le, a, b)) a (omega (arith, le, a, b)) b)

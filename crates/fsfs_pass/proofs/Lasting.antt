@@ -6,12 +6,13 @@ use Rattle.std.proofs.lemmas.Nat.{div_below}
 use Rattle.fsfs_base.specs.Files.{Files, renamed}
 use Rattle.fsfs_base.proofs.FileLemmas.{get_kept, get_left}
 use Rattle.fsfs_layout.specs.FileNames.{file_name, FitsFile}
-use Rattle.fsfs_layout.specs.Layouts.{shard_of}
+use Rattle.fsfs_layout.specs.Layouts.{shard_size, shard_of}
 use Rattle.fsfs_layout.specs.declared.layout.Layout.{Layout}
 use Rattle.fsfs_layout.specs.declared.only_file.OnlyFile.TheVariants as only
 use Rattle.fsfs_layout.specs.declared.repository_file.RepositoryFile.{RepositoryFile}
 use Rattle.fsfs_layout.specs.declared.repository_file.RepositoryFile.TheVariants as file
 use Rattle.fsfs_layout.proofs.Apart.{names_apart}
+use Rattle.fsfs_layout.proofs.Manifests.{size_some}
 use Rattle.fsfs_revision.specs.RevBytes.{floor_of, floor_in}
 use Rattle.fsfs_disk.specs.Trace.{Trace, NameChange, Put, Adopt, Rename, Remove, FirmNames, KeepLabel, DropLabel, changed, files_now, add_operation, Done, Attempted, Performs, Attempts, FailsAt, FailsToPut}
 use Rattle.fsfs_base.specs.declared.places.place.DiskPlace.{DiskPlace}
@@ -52,7 +53,7 @@ never_both n f lasting passing = absurd lasting
 
 -- the name is of such a file
 abbrev pub HasPassingName : Layout → ℕ → List ℕ → Type 0
-HasPassingName layout n name = (f : RepositoryFile) × FitsFile f × IsPassing n f × (name ≡ file_name layout f)
+HasPassingName layout n name = (f : RepositoryFile) × FitsFile layout f × IsPassing n f × (name ≡ file_name layout f)
 
 -- a change of such names alone
 abbrev pub IsPassingChange : Layout → ℕ → NameChange → Type 0
@@ -64,19 +65,18 @@ IsPassingChange layout n change = Unit {0}
 
 module _ (layout : Layout) (n : ℕ) where
   shard_fits : (r : ℕ) → r < 2 ^ 32 → shard_of layout r < 2 ^ 32
-  shard_fits r fits = div_below r layout.shard_size (2 ^ 32) layout.some (omega (arith, fits, layout.some))
+  shard_fits r fits = div_below r (shard_size layout) (2 ^ 32) (size_some layout) (omega (arith, fits, size_some layout))
 
-  lasts_by : (m new : Files) → ((f : RepositoryFile) → FitsFile f → IsLasting n f → get new (file_name layout f) ≡ get m (file_name layout f)) → Lasts layout n m new
+  lasts_by : (m new : Files) → ((f : RepositoryFile) → FitsFile layout f → IsLasting n f → get new (file_name layout f) ≡ get m (file_name layout f)) → Lasts layout n m new
   unfolding floor_in
   lasts_by m new same = record {
     own = λ r less fits. same (file.Revision r) fits less;
-    props = λ r less fits. same (file.Props r) fits less;
     floor = ap (λ o. floor_of layout (take 64 (unwrap_or o []))) (same (file.Only only.MinUnpackedRev) tt tt);
     manifest = λ r fits. same (file.Manifest (shard_of layout r)) (shard_fits r fits) tt;
     pack = λ r fits. same (file.Pack (shard_of layout r)) (shard_fits r fits) tt;
   }
 
-  away : (f g : RepositoryFile) → FitsFile f → IsPassing n f → FitsFile g → IsLasting n g → file_name layout g ≡ file_name layout f → ⊥
+  away : (f g : RepositoryFile) → FitsFile layout f → IsPassing n f → FitsFile layout g → IsLasting n g → file_name layout g ≡ file_name layout f → ⊥
   away f g ff passing fg lasting e = never_both n g lasting (subst (λ h. IsPassing n h) (sym (names_apart layout g f fg ff e)) passing)
 
   pub lasts_put : (m : Files) (name bytes : List ℕ) → HasPassingName layout n name → Lasts layout n m (insert m name bytes)

@@ -3,7 +3,7 @@ use Rattle.std.specs.Prelude.{◌≡◌, ◌+◌, ◌-◌, ◌<◌, ◌≤◌, �
 use Rattle.fsfs_base.specs.Files.{Files}
 use Rattle.fsfs_layout.specs.Layouts.{shard_of}
 use Rattle.fsfs_layout.specs.declared.layout.Layout.{Layout}
-use Rattle.fsfs_revision.specs.RevBytes.{rev_file, props_file, floor_in, manifest_file, pack_in}
+use Rattle.fsfs_revision.specs.RevBytes.{rev_file, floor_in, manifest_file, pack_in}
 use Rattle.fsfs_fetch.specs.Views.{View as StoreView, Grows}
 use Rattle.fsfs_disk.specs.Trace.{Trace, files_now, labels_now}
 use Rattle.fsfs_disk.specs.Labels.{Label}
@@ -15,7 +15,6 @@ use Rattle.fsfs_pass.specs.declared.seats.seat_view.SeatView.{SeatView}
 -- The files of the first n revisions, the floor and the packs stay as they are.
 pub record Lasts (layout : Layout) (n : ℕ) (old new : Files) : Type 0 where
   pub own : (r : ℕ) → r < n → r < 2 ^ 32 → rev_file layout new r ≡ rev_file layout old r
-  pub props : (r : ℕ) → r < n → r < 2 ^ 32 → props_file layout new r ≡ props_file layout old r
   pub floor : floor_in layout new ≡ floor_in layout old
   pub manifest : (r : ℕ) → r < 2 ^ 32 → manifest_file new (shard_of layout r) ≡ manifest_file old (shard_of layout r)
   pub pack : (r : ℕ) → r < 2 ^ 32 → pack_in new (shard_of layout r) ≡ pack_in old (shard_of layout r)

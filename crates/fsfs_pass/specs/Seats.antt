@@ -1,6 +1,5 @@
 -- What a seat at the table knows, as what a pass knows.
 use Rattle.std.specs.Prelude.{◌≡◌, ◌+◌, ◌-◌, ◌/◌, ◌^◌, ◌++◌, ℕ, List, [], ◌∷◌, length, nat_le, Bool, true, false, Option, Some, None, if◌then◌else◌}
-use Rattle.std.proofs.Common.{arith}
 use mathlib.Core.Option.{some}
 use lib.ListN.{get_elem?}
 use Rattle.fsfs_machine.specs.declared.machine.Recorded.{Recorded}
@@ -11,6 +10,8 @@ use Rattle.fsfs_machine.specs.declared.machine.Section.{Section}
 use Rattle.fsfs_machine.specs.declared.machine.Section.TheVariants.{Begun, CurrentFirm, Over}
 use Rattle.fsfs_machine.specs.Machine.{first_pass, reveals, with_next, joined}
 use Rattle.fsfs_turn.specs.Views.{View, is_held}
+use Rattle.fsfs_layout.specs.declared.folders.Folders.TheVariants.{OneFolder}
+use Rattle.fsfs_layout.specs.declared.format.Format.TheVariants.{Four}
 use Rattle.fsfs_pass.specs.declared.seats.seat_view.Before.{Before}
 use Rattle.fsfs_pass.specs.declared.seats.seat_view.Hand.TheVariants.{Empty}
 use Rattle.fsfs_pass.specs.declared.seats.seat_view.Kin.{Kin}
@@ -126,7 +127,7 @@ settled_view met v = record v { met = met; kin = record v.kin { stage = Sitting 
 -- what a seat that has left knows: nothing
 abbrev pub left_view : SeatView
 left_view = record {
-  layout = record { shard_size = 1; some = omega arith; most = omega arith };
+  layout = record { format = Four; folders = OneFolder; sized = tt };
   since = 0;
   opened = 0;
   number = 0;

@@ -82,6 +82,7 @@ begins_txn name root held v u h proto settled base all named folder = record {
   least = h.least;
   all = h.all;
   based = subst (λ b. b < length u.seen) named h.base;
+  above = h.above;
   stands = stands_as name root held u.seen h.base h.root (seen_shows u.seen all (omega (arith, h.base))) proto settled base named folder;
   grows = h.grows;
   steps = h.steps;
@@ -102,6 +103,7 @@ module _ (name : TxnName) (root : NodeRev) (held : Option Files) (v u : View) (h
     least = h.least;
     all = h.all;
     based = subst (λ b. b < length u.seen) named h.base;
+    above = h.above;
     stands = λ part begins less.
         let there : name.base < length part = subst (λ b. b < length part) (sym named) less in
         stands_as name root held part there (on_part part begins there) (part_shows u.seen part all begins (omega (arith, less))) proto settled base named folder;

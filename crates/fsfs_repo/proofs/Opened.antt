@@ -48,7 +48,7 @@ IsBegun layout young before now v = IsFirst layout young now v × SeesAllOf befo
 -- nobody holds the lock of such a store, and it isn't stuck
 begun : (layout : Layout) (young : ℕ) (stuck : Option DiskPlace) (before now : Option Trace) → Performs FirmNames before now
     → IfSome before (λ t. (h : List Revision) × (stands : StandsFor (files_now t) h) × LeftoversAgree stands)
-    → IfSome before (λ t. (h : List Revision) (stands : StandsFor (files_now t) h) → LeftoversAgree stands → HasSeenAll (λ v. KnowsAlone layout young stuck now v) t stands.opened.min_unpacked_rev h)
+    → IfSome before (λ t. (h : List Revision) (stands : StandsFor (files_now t) h) → LeftoversAgree stands → HasSeenAll (λ v. KnowsAlone layout young stuck now v) t stands.opened.min_unpacked_rev stands.opened.next_txn.number h)
     → (v : SeatView) × IsBegun layout young before now v
 begun layout young stuck None now firm stands known = (untold layout, (subst (λ o. IsFirst layout young o (untold layout)) (sym firm) (refl, refl, refl, refl, refl, refl, refl), tt))
 begun layout young stuck (Some t) now firm stands known =
@@ -71,7 +71,7 @@ begun layout young stuck (Some t) now firm stands known =
 -- as the small files said it is laid out
 pub begun_as : (layout at : Layout) (young last : ℕ) (stuck : Option DiskPlace) (before was now given : Option Trace) → layout ≡ at → young ≡ last → given ≡ now → was ≡ before → Performs FirmNames before now
     → IfSome before (λ t. (h : List Revision) × (stands : StandsFor (files_now t) h) × LeftoversAgree stands)
-    → IfSome before (λ t. (h : List Revision) (stands : StandsFor (files_now t) h) → LeftoversAgree stands → HasSeenAll (λ v. KnowsAlone layout young stuck now v) t stands.opened.min_unpacked_rev h)
+    → IfSome before (λ t. (h : List Revision) (stands : StandsFor (files_now t) h) → LeftoversAgree stands → HasSeenAll (λ v. KnowsAlone layout young stuck now v) t stands.opened.min_unpacked_rev stands.opened.next_txn.number h)
     → (v : SeatView) × IsBegun at last was given v
 begun_as layout at young last stuck before was now given laid is told first firm stands known =
     subst (λ o. (v : SeatView) × IsBegun at last o given v) (sym first) (subst (λ o. (v : SeatView) × IsBegun at last before o v) (sym told)

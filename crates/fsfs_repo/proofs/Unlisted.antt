@@ -21,9 +21,9 @@ pub relabelled : (bound : Bool) (f : List Label → List Label) (old new : Optio
 relabelled bound f old new free r = r.made ∙ ap (λ o. option_map f o) (r.is_met free)
 
 -- a transaction that was begun and forgotten again
-pub forgets : (base : ℕ) (name : TxnName) (P Q : Type 0) (old mid new : Option (List Label)) → name.base ≡ base → mid ≡ option_map (with_label (txn_label (pair_of name))) old → (P → Q) → IsUnlisted (txn_label (pair_of name)) P mid new → ListsNoMore base Q old new
-forgets base name P Q old mid new at came f w =
-    inr (name.number.number, subst (λ (b : ℕ). IsUnlisted (Txn b name.number.number) Q old new) at (⊎_elim (λ gone. inl (came_and_went (txn_label (pair_of name)) old mid new came gone)) (λ p. inr (f p)) w))
+pub forgets : (N : ℕ → Type 0) (base : ℕ) (name : TxnName) (P Q : Type 0) (old mid new : Option (List Label)) → N name.number.number → name.base ≡ base → mid ≡ option_map (with_label (txn_label (pair_of name))) old → (P → Q) → IsUnlisted (txn_label (pair_of name)) P mid new → ListsNoMore N base Q old new
+forgets N base name P Q old mid new named at came f w =
+    inr (name.number.number, named, subst (λ (b : ℕ). IsUnlisted (Txn b name.number.number) Q old new) at (⊎_elim (λ gone. inl (came_and_went (txn_label (pair_of name)) old mid new came gone)) (λ p. inr (f p)) w))
 
 -- ---- by what the calls before it left
 

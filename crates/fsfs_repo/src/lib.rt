@@ -7,7 +7,7 @@ mod owned;
 mod shared;
 mod txns;
 
-pub use fsfs_begin::{BeginFault, Numbers};
+pub use fsfs_begin::BeginFault;
 pub use fsfs_commit::Standing;
 pub use fsfs_txn::{Deleted, Made, PathOpened, TextSet, Txn, TxnError};
 pub use fsfs_txn_nodes::HeldNodes;

@@ -8,14 +8,16 @@ use Rattle.fsfs_base.proofs.Readers.{all_found, all_exact, chosen}
 use Rattle.fsfs_base.specs.declared.small_fault.SmallFile.TheVariants.{MinUnpackedRev, Manifest}
 use Rattle.fsfs_base.specs.declared.small_fault.SmallFault.{SmallFault}
 use Rattle.fsfs_layout.specs.Reading.{rev_line_at}
+use Rattle.fsfs_layout.specs.declared.format.Format.{Format}
+use Rattle.fsfs_layout.specs.declared.format.Format.TheVariants.{Three, Four}
 use Rattle.fsfs_layout.specs.declared.layout.Layout.{Layout}
-use Rattle.fsfs_layout.specs.Layouts.{place_in_shard}
-use Rattle.fsfs_layout.specs.Small.{IsRevLine, IsMinUnpackedRev, IsFaultOf, IsRefusedFile, IsInsideShard, IsMinUnpackedFault}
+use Rattle.fsfs_layout.specs.Layouts.{shard_size, place_in_shard}
+use Rattle.fsfs_layout.specs.Small.{IsRevLine, IsMinUnpackedRevIn, IsMinUnpackedRev, IsFaultOf, IsRefusedFile, IsInsideShard, IsMinUnpackedFaultIn, IsMinUnpackedFault}
 use Rattle.fsfs_layout.specs.Manifest.{IsManifest}
 use Rattle.fsfs_layout.specs.ManifestReading.{manifest_at}
 use Rattle.fsfs_layout.proofs.Files.{rev_line_reads, never}
-use Rattle.fsfs_layout.proofs.Manifests.{manifest_reads}
-use Rattle.fsfs_revision.specs.RevBytes.{placed, of_whole_shards, text_in, floor_of, floor_in, manifest_of}
+use Rattle.fsfs_layout.proofs.Manifests.{layout_manifest}
+use Rattle.fsfs_revision.specs.RevBytes.{placed, of_whole_shards, floor_where, text_in, floor_of, floor_in, manifest_of}
 use Rattle.fsfs_revision.specs.ByGrammar.{FloorsAreByGrammar, ManifestsAreByGrammar}
 use Rattle.fsfs_revision.proofs.ManifestLemmas.{fault_same, manifest_ok, manifest_err}
 use Rattle.fsfs_revision.proofs.FloorLemmas.{floor_ok, floor_err, line_is_short}
@@ -54,7 +56,7 @@ front_placed text (inr long) = long_placed text (rev_line_at (take 64 text)) (re
 
 floor_of_all : (n : Layout) (text : List ℕ) → floor_of n (take 64 text) ≡ floor_of n text
 unfolding floor_of
-floor_of_all n text = ap (of_whole_shards n) (front_placed text (cases_lt (length text) 64))
+floor_of_all n text = ap (λ r. floor_where n.format (of_whole_shards n r)) (front_placed text (cases_lt (length text) 64))
 
 -- ---- the floor
 
@@ -64,18 +66,22 @@ ok_same x y e = cc
 fault_eq : {A : Type 0} (x y : SmallFault) → ◌≡◌ {A = Result A SmallFault} (Err x) (Err y) → x ≡ y
 fault_eq x y e = cc
 
-said_by : (n : Layout) (rev : ℕ) (text : List ℕ) (r : Result ℕ ℕ) → rev_line_at text ≡ r → of_whole_shards n (placed MinUnpackedRev text r) ≡ Ok rev → IsMinUnpackedRev n text rev
+said_by : (n : Layout) (rev : ℕ) (text : List ℕ) (r : Result ℕ ℕ) → rev_line_at text ≡ r → of_whole_shards n (placed MinUnpackedRev text r) ≡ Ok rev → IsMinUnpackedRevIn Four n text rev
 said_by n rev text (Err left) read e = absurd cc
 said_by n rev text (Ok m) read e = elim (chosen (place_in_shard n m == 0) (Ok m) (Err (record { file = MinUnpackedRev; at = 0 })) (Ok rev) e) [
-  | inl w ↦ subst (IsMinUnpackedRev n text) (ok_same {B = SmallFault} m rev w.1) (all_found rev_line_reads text m read, eqb-true (place_in_shard n m) 0 w.0)
+  | inl w ↦ subst (IsMinUnpackedRevIn Four n text) (ok_same {B = SmallFault} m rev w.1) (all_found rev_line_reads text m read, eqb-true (place_in_shard n m) 0 w.0)
   | inr w ↦ absurd cc
 ]
 
 floor_said : (n : Layout) (rev : ℕ) (text : List ℕ) → floor_of n text ≡ Ok rev → IsMinUnpackedRev n text rev
 unfolding floor_of
-floor_said n rev text e = said_by n rev text (rev_line_at text) refl e
+floor_said n rev text e = go n.format e
+  where
+    go : (k : Format) → floor_where k (of_whole_shards n (placed MinUnpackedRev text (rev_line_at text))) ≡ Ok rev → IsMinUnpackedRevIn k n text rev
+    go Three is = sym (ok_same {B = SmallFault} 0 rev is)
+    go Four is = said_by n rev text (rev_line_at text) refl is
 
-refused_by : (n : Layout) (text : List ℕ) (fault : SmallFault) (r : Result ℕ ℕ) → rev_line_at text ≡ r → of_whole_shards n (placed MinUnpackedRev text r) ≡ Err fault → IsMinUnpackedFault n text fault
+refused_by : (n : Layout) (text : List ℕ) (fault : SmallFault) (r : Result ℕ ℕ) → rev_line_at text ≡ r → of_whole_shards n (placed MinUnpackedRev text r) ≡ Err fault → IsMinUnpackedFaultIn Four n text fault
 refused_by n text fault (Err left) read e =
     inl (λ k g. never rev_line_reads text k left g read, subst (IsFaultOf MinUnpackedRev IsRevLine text) (fault_eq {A = ℕ} _ fault e) (record { names = refl; place = (all_exact rev_line_reads text left read).1 }))
 refused_by n text fault (Ok m) read e = elim (chosen (place_in_shard n m == 0) (Ok m) (Err (record { file = MinUnpackedRev; at = 0 })) (Err fault) e) [
@@ -85,7 +91,11 @@ refused_by n text fault (Ok m) read e = elim (chosen (place_in_shard n m == 0) (
 
 floor_refused : (n : Layout) (text : List ℕ) (fault : SmallFault) → floor_of n text ≡ Err fault → IsMinUnpackedFault n text fault
 unfolding floor_of
-floor_refused n text fault e = refused_by n text fault (rev_line_at text) refl e
+floor_refused n text fault e = go n.format e
+  where
+    go : (k : Format) → floor_where k (of_whole_shards n (placed MinUnpackedRev text (rev_line_at text))) ≡ Err fault → IsMinUnpackedFaultIn k n text fault
+    go Three is = absurd cc
+    go Four is = refused_by n text fault (rev_line_at text) refl is
 
 pub floors_by_grammar : FloorsAreByGrammar
 unfolding floor_in
@@ -103,20 +113,20 @@ offsets_said : (shard : ℕ) (text offsets : List ℕ) (r : Result (List ℕ) �
 offsets_said shard text offsets (Ok found) e = ap (λ (xs : List ℕ). Ok xs) (ok_same {B = SmallFault} found offsets e)
 offsets_said shard text offsets (Err left) e = absurd cc
 
-manifest_said : (n : Layout) (shard : ℕ) → (text offsets : List ℕ) → manifest_of n shard text ≡ Ok offsets → IsManifest n.shard_size text offsets
+manifest_said : (n : Layout) (shard : ℕ) → (text offsets : List ℕ) → manifest_of n shard text ≡ Ok offsets → IsManifest (shard_size n) text offsets
 unfolding manifest_of
-manifest_said n shard text offsets e = all_found (manifest_reads n.shard_size n.some) text offsets (offsets_said shard text offsets (manifest_at n.shard_size text) e)
+manifest_said n shard text offsets e = all_found (layout_manifest n) text offsets (offsets_said shard text offsets (manifest_at (shard_size n) text) e)
 
-manifest_refused_by : (n : Layout) (shard : ℕ) → (text : List ℕ) (fault : SmallFault) (r : Result (List ℕ) ℕ) → manifest_at n.shard_size text ≡ r → placed (Manifest shard) text r ≡ Err fault → IsRefusedFile (Manifest shard) (IsManifest n.shard_size) text fault
+manifest_refused_by : (n : Layout) (shard : ℕ) → (text : List ℕ) (fault : SmallFault) (r : Result (List ℕ) ℕ) → manifest_at (shard_size n) text ≡ r → placed (Manifest shard) text r ≡ Err fault → IsRefusedFile (Manifest shard) (IsManifest (shard_size n)) text fault
 manifest_refused_by n shard text fault (Ok found) read e = absurd cc
 manifest_refused_by n shard text fault (Err left) read e = (
-  λ offsets g. never (manifest_reads n.shard_size n.some) text offsets left g read,
-  subst (IsFaultOf (Manifest shard) (IsManifest n.shard_size) text) (fault_eq {A = List ℕ} _ fault e) (record { names = refl; place = (all_exact (manifest_reads n.shard_size n.some) text left read).1 }),
+  λ offsets g. never (layout_manifest n) text offsets left g read,
+  subst (IsFaultOf (Manifest shard) (IsManifest (shard_size n)) text) (fault_eq {A = List ℕ} _ fault e) (record { names = refl; place = (all_exact (layout_manifest n) text left read).1 }),
 )
 
-manifest_refused : (n : Layout) (shard : ℕ) → (text : List ℕ) (fault : SmallFault) → manifest_of n shard text ≡ Err fault → IsRefusedFile (Manifest shard) (IsManifest n.shard_size) text fault
+manifest_refused : (n : Layout) (shard : ℕ) → (text : List ℕ) (fault : SmallFault) → manifest_of n shard text ≡ Err fault → IsRefusedFile (Manifest shard) (IsManifest (shard_size n)) text fault
 unfolding manifest_of
-manifest_refused n shard text fault e = manifest_refused_by n shard text fault (manifest_at n.shard_size text) refl e
+manifest_refused n shard text fault e = manifest_refused_by n shard text fault (manifest_at (shard_size n) text) refl e
 
 pub manifests_by_grammar : ManifestsAreByGrammar
 manifests_by_grammar n files shard =

@@ -9,10 +9,11 @@ use Rattle.fsfs_base.specs.declared.small_fault.SmallFault.{SmallFault}
 use Rattle.fsfs_base.specs.Grammar.Relations.{GoesOn, IsFaultAt}
 use Rattle.fsfs_base.proofs.Readers.{all_found, all_again, all_exact}
 use Rattle.fsfs_layout.specs.declared.layout.Layout.{Layout}
+use Rattle.fsfs_layout.specs.Layouts.{shard_size}
 use Rattle.fsfs_layout.specs.Small.{IsFaultOf}
 use Rattle.fsfs_layout.specs.Manifest.{IsManifest}
 use Rattle.fsfs_layout.specs.ManifestReading.{manifest_at}
-use Rattle.fsfs_layout.proofs.Manifests.{manifest_reads}
+use Rattle.fsfs_layout.proofs.Manifests.{layout_manifest}
 use Rattle.fsfs_revision.specs.RevBytes.{placed, manifest_of}
 
 -- a text goes wrong at one place
@@ -29,20 +30,20 @@ not_before G bytes a b v w lt = v.behind (omega (arith, w.within)) (front_goes_o
 pub fault_same : {X : Type 0} (G : List ℕ → X → Type 0) (bytes : List ℕ) (a b : ℕ) → IsFaultAt G bytes a → IsFaultAt G bytes b → a ≡ b
 fault_same G bytes a b v w = omega (arith, not_before G bytes a b v w, not_before G bytes b a w v)
 
-pub manifest_ok : (n : Layout) (shard : ℕ) (bytes offsets : List ℕ) → IsManifest n.shard_size bytes offsets → manifest_of n shard bytes ≡ Ok offsets
+pub manifest_ok : (n : Layout) (shard : ℕ) (bytes offsets : List ℕ) → IsManifest (shard_size n) bytes offsets → manifest_of n shard bytes ≡ Ok offsets
 unfolding manifest_of
-manifest_ok n shard bytes offsets is = ap (placed (Manifest shard) bytes) (all_again (manifest_reads n.shard_size n.some) bytes offsets is)
+manifest_ok n shard bytes offsets is = ap (placed (Manifest shard) bytes) (all_again (layout_manifest n) bytes offsets is)
 
 pub fault_is : (fault : SmallFault) (file : SmallFile) (at : ℕ) → fault.file ≡ file → fault.at ≡ at → (let f : SmallFault = record { file = file; at = at } in f) ≡ fault
 fault_is fault file at e f = λ i. record { file = sym e i; at = sym f i }
 
-placed_err : (n : Layout) (shard : ℕ) (bytes : List ℕ) (fault : SmallFault) → IsFaultOf (Manifest shard) (IsManifest n.shard_size) bytes fault → ((offsets : List ℕ) → IsManifest n.shard_size bytes offsets → ⊥) → (r : Result (List ℕ) ℕ) → manifest_at n.shard_size bytes ≡ r → placed (Manifest shard) bytes r ≡ Err fault
-placed_err n shard bytes fault is none (Ok offsets) e = absurd (none offsets (all_found (manifest_reads n.shard_size n.some) bytes offsets e))
+placed_err : (n : Layout) (shard : ℕ) (bytes : List ℕ) (fault : SmallFault) → IsFaultOf (Manifest shard) (IsManifest (shard_size n)) bytes fault → ((offsets : List ℕ) → IsManifest (shard_size n) bytes offsets → ⊥) → (r : Result (List ℕ) ℕ) → manifest_at (shard_size n) bytes ≡ r → placed (Manifest shard) bytes r ≡ Err fault
+placed_err n shard bytes fault is none (Ok offsets) e = absurd (none offsets (all_found (layout_manifest n) bytes offsets e))
 placed_err n shard bytes fault is none (Err left) e =
-    let w = all_exact (manifest_reads n.shard_size n.some) bytes left e in
-    let at : fault.at ≡ length bytes - left = fault_same (IsManifest n.shard_size) bytes fault.at (length bytes - left) is.place w.1 in
+    let w = all_exact (layout_manifest n) bytes left e in
+    let at : fault.at ≡ length bytes - left = fault_same (IsManifest (shard_size n)) bytes fault.at (length bytes - left) is.place w.1 in
     ap (λ (f : SmallFault). Err f) (fault_is fault (Manifest shard) (length bytes - left) is.names at)
 
-pub manifest_err : (n : Layout) (shard : ℕ) (bytes : List ℕ) (fault : SmallFault) → IsFaultOf (Manifest shard) (IsManifest n.shard_size) bytes fault → ((offsets : List ℕ) → IsManifest n.shard_size bytes offsets → ⊥) → manifest_of n shard bytes ≡ Err fault
+pub manifest_err : (n : Layout) (shard : ℕ) (bytes : List ℕ) (fault : SmallFault) → IsFaultOf (Manifest shard) (IsManifest (shard_size n)) bytes fault → ((offsets : List ℕ) → IsManifest (shard_size n) bytes offsets → ⊥) → manifest_of n shard bytes ≡ Err fault
 unfolding manifest_of
-manifest_err n shard bytes fault is none = placed_err n shard bytes fault is none (manifest_at n.shard_size bytes) refl
+manifest_err n shard bytes fault is none = placed_err n shard bytes fault is none (manifest_at (shard_size n) bytes) refl

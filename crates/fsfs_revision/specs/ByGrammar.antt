@@ -3,6 +3,7 @@ use Rattle.std.specs.Prelude.{◌≡◌, ◌↔◌, ℕ, List, Ok, Err}
 use Rattle.fsfs_base.specs.Files.{Files}
 use Rattle.fsfs_base.specs.declared.small_fault.SmallFile.TheVariants.{MinUnpackedRev, Manifest}
 use Rattle.fsfs_base.specs.declared.small_fault.SmallFault.{SmallFault}
+use Rattle.fsfs_layout.specs.Layouts.{shard_size}
 use Rattle.fsfs_layout.specs.declared.layout.Layout.{Layout}
 use Rattle.fsfs_layout.specs.Small.{IsMinUnpackedRev, IsRefusedFile, IsMinUnpackedFault}
 use Rattle.fsfs_layout.specs.Manifest.{IsManifest}
@@ -15,8 +16,8 @@ pub record FloorIsByGrammar (layout : Layout) (files : Files) : Type 0 where
 
 -- the offsets of a shard are those that its manifest says, and a fault is the one that its bytes have
 pub record ManifestIsByGrammar (layout : Layout) (files : Files) (shard : ℕ) : Type 0 where
-  pub said : (offsets : List ℕ) → (manifest_in layout files shard ≡ Ok offsets) ↔ IsManifest layout.shard_size (text_in files (Manifest shard)) offsets
-  pub refused : (fault : SmallFault) → (manifest_in layout files shard ≡ Err fault) ↔ IsRefusedFile (Manifest shard) (IsManifest layout.shard_size) (text_in files (Manifest shard)) fault
+  pub said : (offsets : List ℕ) → (manifest_in layout files shard ≡ Ok offsets) ↔ IsManifest (shard_size layout) (text_in files (Manifest shard)) offsets
+  pub refused : (fault : SmallFault) → (manifest_in layout files shard ≡ Err fault) ↔ IsRefusedFile (Manifest shard) (IsManifest (shard_size layout)) (text_in files (Manifest shard)) fault
 
 abbrev pub FloorsAreByGrammar : Type 0
 FloorsAreByGrammar = (layout : Layout) (files : Files) → FloorIsByGrammar layout files

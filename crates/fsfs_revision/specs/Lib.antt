@@ -1,5 +1,6 @@
 pub mod Damage
 pub mod Told
+pub mod RevProps
 pub mod MemBook
 pub mod MemBookLemmas
 pub mod RevBytes

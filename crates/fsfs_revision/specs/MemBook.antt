@@ -25,4 +25,4 @@ abbrev pub props_in : List MemRev → RevisionBytes
 props_in revs rev = found_by (λ r. r.props) rev (length revs) (slice_get revs rev)
 
 abbrev pub told_in : List MemRev → Telling (Unit {0})
-told_in revs = record { revs = λ rev. Some (bytes_in revs rev); props = λ rev. Some (props_in revs rev); youngest = Some (length revs - 1); below = tt }
+told_in revs = record { revs = λ rev. Some (bytes_in revs rev); youngest = Some (length revs - 1); below = tt }

@@ -6,9 +6,11 @@ use Rattle.fsfs_base.specs.declared.small_fault.SmallFile.{SmallFile}
 use Rattle.fsfs_base.specs.declared.small_fault.SmallFile.TheVariants.{MinUnpackedRev, Manifest}
 use Rattle.fsfs_base.specs.declared.small_fault.SmallFault.{SmallFault}
 use Rattle.fsfs_layout.specs.FileNames.{file_name, small_name}
+use Rattle.fsfs_layout.specs.declared.format.Format.{Format}
+use Rattle.fsfs_layout.specs.declared.format.Format.TheVariants.{Three, Four}
 use Rattle.fsfs_layout.specs.declared.layout.Layout.{Layout}
 use Rattle.fsfs_layout.specs.declared.repository_file.RepositoryFile.TheVariants as repository
-use Rattle.fsfs_layout.specs.Layouts.{shard_of, place_in_shard}
+use Rattle.fsfs_layout.specs.Layouts.{shard_size, shard_of, place_in_shard}
 use Rattle.fsfs_layout.specs.Names.{in_pack}
 use Rattle.fsfs_layout.specs.Opening.{text_at}
 use Rattle.fsfs_layout.specs.Reading.{rev_line_at}
@@ -31,16 +33,21 @@ abbrev pub of_whole_shards : Layout → Result ℕ SmallFault → Result ℕ Sma
 of_whole_shards layout (Err fault) = Err fault
 of_whole_shards layout (Ok rev) = if place_in_shard layout rev == 0 then Ok rev else Err (record { file = MinUnpackedRev; at = 0 })
 
+-- format 3 has no file for it, and nothing is packed
+abbrev pub floor_where : {E : Type 0} → Format → Result ℕ E → Result ℕ E
+floor_where Three read = Ok 0
+floor_where Four read = read
+
 -- the floor, the oldest revision that isn't packed; no text that names one is longer than 11 bytes, so the first 64 tell
 unfoldable pub floor_of : Layout → List ℕ → Result ℕ SmallFault
-floor_of layout text = of_whole_shards layout (placed MinUnpackedRev text (rev_line_at text))
+floor_of layout text = floor_where layout.format (of_whole_shards layout (placed MinUnpackedRev text (rev_line_at text)))
 
 unfoldable pub floor_in : Layout → Files → Result ℕ SmallFault
 floor_in layout files = floor_of layout (take 64 (text_in files MinUnpackedRev))
 
 -- where each revision of a packed shard begins in its pack
 unfoldable pub manifest_of : Layout → ℕ → List ℕ → Result (List ℕ) SmallFault
-manifest_of layout shard text = placed (Manifest shard) text (manifest_at layout.shard_size text)
+manifest_of layout shard text = placed (Manifest shard) text (manifest_at (shard_size layout) text)
 
 abbrev pub manifest_file : Files → ℕ → Option (List ℕ)
 manifest_file files shard = map.get files (small_name (Manifest shard))

@@ -16,11 +16,9 @@ RevisionBytes = ℕ → Result (List ℕ) Refusal
 abbrev pub Told : Type 0
 Told = ℕ → Option (Result (List ℕ) Refusal)
 
--- all that a book tells: the bytes of revisions, those of their property files, the youngest revision, and what is below
--- it, in a type of its own
+-- all that a book tells: the bytes of revisions, the youngest revision, and what is below it, in a type of its own
 pub record Telling (Below : Type 0) : Type 0 where
   pub revs : Told
-  pub props : Told
   pub youngest : Option ℕ
   pub below : Below
 
@@ -31,7 +29,6 @@ Knows told top look = (r : ℕ) → r ≤ top → told r ≡ Some (look r)
 -- what was told stays true, and reading leaves what is below as it is
 pub record Keeps {Below : Type 0} (old new : Telling Below) : Type 0 where
   pub revs : (r : ℕ) (read : Result (List ℕ) Refusal) → old.revs r ≡ Some read → new.revs r ≡ Some read
-  pub props : (r : ℕ) (read : Result (List ℕ) Refusal) → old.props r ≡ Some read → new.props r ≡ Some read
   pub youngest : (y : ℕ) → old.youngest ≡ Some y → new.youngest ≡ Some y
   pub below : new.below ≡ old.below
 

@@ -25,8 +25,7 @@ pub enum BookFault {
     OutOfMemory,
 }
 
-/// What gives the bytes of revisions, and the bytes of their property files. Offsets count from the beginning of a
-/// revision's own bytes.
+/// What gives the bytes of revisions. Offsets count from the beginning of a revision's own bytes.
 ///
 /// A book may tell, a revision at a time, what there is to read. What it has told stays true, and it may come to tell
 /// more. A book that tells nothing still names its refusals rightly and counts its faults.
@@ -34,8 +33,8 @@ pub trait Book {
     /// What can be said of what is below it, as a disk.
     ghost Below: { Type 0 };
 
-    /// What it tells: of each revision its bytes and the bytes of its property file, or why there are none; the youngest
-    /// revision, where that is known; and what is below it, which no call changes.
+    /// What it tells: of each revision its bytes, or why there are none; the youngest revision, where that is known; and
+    /// what is below it, which no call changes.
     ghost told: { Self → Telling Below };
 
     /// How often the disk below it has failed. The count stops at the last number of a u64.
@@ -60,19 +59,6 @@ pub trait Book {
     fn read_rev(&mut self, rev: RevNum, offset: u64, buffer: &mut [u8]) -> Result<usize, BookFault>
         ensures bound { IfOk result (λ n. n ≤ length buffer.new) }
         ensures told { (read : Result (List ℕ) Refusal) → (told self.old).revs rev ≡ Some read → Gives (λ n. take n buffer.new) result (part_read rev offset (length buffer.old) read) }
-        ensures about { IfErr result (IsAbout rev offset) }
-        ensures kept { Keeps (told self.old) (told self.new) }
-        ensures cause { HasCause (faults self.old) (faults self.new) result };
-
-    /// The same of a revision's property file.
-    fn read_props(
-        &mut self,
-        rev: RevNum,
-        offset: u64,
-        buffer: &mut [u8],
-    ) -> Result<usize, BookFault>
-        ensures bound { IfOk result (λ n. n ≤ length buffer.new) }
-        ensures told { (read : Result (List ℕ) Refusal) → (told self.old).props rev ≡ Some read → Gives (λ n. take n buffer.new) result (part_read rev offset (length buffer.old) read) }
         ensures about { IfErr result (IsAbout rev offset) }
         ensures kept { Keeps (told self.old) (told self.new) }
         ensures cause { HasCause (faults self.old) (faults self.new) result };

@@ -2,14 +2,14 @@
 use fsfs_base::{HexDigest, RevNum};
 
 /// A place in the bytes of a revision.
-#[derive(Clone, Copy, Debug, PartialEq, Eq)]
+#[derive(Clone, Copy, Debug)]
 pub struct RevOffset {
     pub rev: RevNum,
     pub offset: u64,
 }
 
 /// What is wrong with a representation.
-#[derive(Clone, Copy, Debug, PartialEq, Eq)]
+#[derive(Clone, Copy, Debug)]
 pub enum RepWhat {
     /// The line `PLAIN` isn't there, nor a delta's.
     Header,
@@ -39,7 +39,7 @@ pub enum RepWhat {
 }
 
 /// What is wrong with the bytes of a revision.
-#[derive(Clone, Copy, Debug, PartialEq, Eq)]
+#[derive(Clone, Copy, Debug)]
 pub enum DamageKind {
     /// No trailer ends the bytes; the offset is their length.
     Trailer,
@@ -61,10 +61,26 @@ pub enum DamageKind {
     BadDate,
     /// The file isn't there; the offset is 0.
     Missing,
+    /// An item of changed-path data says what the trees don't: what it adds, replaces or modifies isn't in the revision's
+    /// tree, what it deletes is, or another node-revision than its id's stands at its path; the offset is the item's. No
+    /// reading answers it: it will be told by the check of a whole repository, which is to come.
+    ChangePath,
+    /// The predecessor of the node-revision there has another node part or another type, or not one predecessor less. No
+    /// reading answers it: it will be told by the check of a whole repository, which is to come.
+    PredId,
+    /// The node-revision there breaks another of the rules by which node-revisions hang together. No reading answers it: it
+    /// will be told by the check of a whole repository, which is to come.
+    CopyId,
+    /// The node-revision there keeps another count of mergeinfo than that of the nodes at and below it. No reading answers
+    /// it: it will be told by the check of a whole repository, which is to come.
+    Minfo { kept: u64, found: u64 },
+    /// The count of mergeinfo that the node-revision there keeps would leave the numbers of 64 bits by an edit or a merge. No
+    /// reading answers it: it will be told by the edits that change such counts, which are to come.
+    MinfoRange,
 }
 
 /// Damage in a revision, and the place where it was met.
-#[derive(Clone, Copy, Debug, PartialEq, Eq)]
+#[derive(Clone, Copy, Debug)]
 pub struct Damage {
     pub at: RevOffset,
     pub what: DamageKind,

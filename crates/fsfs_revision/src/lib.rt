@@ -2,7 +2,7 @@
 //! answers.
 //!
 //! `specs` has what a reading is: a relation with one answer at most, and the checks that it makes, in their order.
-//! A book: what gives the bytes and the properties of revisions, wherever they are kept.
+//! A book: what gives the bytes of revisions, wherever they are kept; with `RevProps` also their property files.
 //!
 //! Code that reads revisions is written and proved once, over any `Book`. `MemBook` is a small one in memory.
 //! Where the bytes of a revision stand: in a file of their own, or, below the floor, in the pack of their shard.
@@ -23,7 +23,7 @@
 //! mean, are this project's profile.
 //! Where what stands at a path came from: what stood there one revision before, and the copy by which it came.
 //!
-//! These are laws about the definitions of `fsfs_shows`: where bytes show a tree for each revision and the rules of ids hold,
+//! These are laws about the definitions in `specs/Shows`: where bytes show a tree for each revision and the rules of ids hold,
 //! those trees are the trees of a history.
 #![tactic(auto)]
 
@@ -33,6 +33,7 @@ mod laws;
 mod mem_book;
 mod node;
 mod rep;
+mod rev_props;
 mod root;
 mod section;
 mod trailer;
@@ -56,6 +57,7 @@ pub use rep::place::bad_rep;
 pub use rep::rep_reader::RepReader;
 pub use rep::whole::read_rep_bytes;
 pub use rep::windows::window;
+pub use rev_props::{RevProps, StillProps};
 pub use root::{as_root, read_root};
 pub use section::Section;
 pub use trailer::{TRAILER_LIMIT, Trailer, put_trailer, read_tail, read_trailer};

@@ -5,10 +5,12 @@ ghost use Rattle.fsfs_base.specs.Faults.{fails_next};
 ghost use Rattle.fsfs_base.specs.Fields.RevNums.{last_rev};
 ghost use Rattle.fsfs_revision.specs.declared.book.BookFault.TheVariants.{Short, DiskFault};
 ghost use Rattle.fsfs_revision.specs.Told.{Gives, part_read, IsRefusalOf};
+ghost use Rattle.fsfs_revision.specs.RevProps.{IsLook};
 ghost use Rattle.fsfs_revision.specs.MemBook.{bytes_in, props_in, read_of};
 
 use crate::Refusal;
 use crate::book::{Book, BookFault};
+use crate::rev_props::RevProps;
 use fsfs_base::{Faults, RevNum, SmallFault};
 use std::alloc::Global;
 
@@ -75,6 +77,16 @@ fn props_of(revs: &[MemRev], youngest: RevNum, rev: RevNum) -> Result<&[u8], Ref
         }),
         Some(found) => read_kept(rev, &found.props),
     }
+}
+
+// The first bytes of a text, as many as fit.
+fn copy_front(text: &[u8], buffer: &mut [u8]) -> usize
+    ensures bound { result ≤ length buffer.new }
+    ensures look { IsLook text.now buffer.old buffer.new result }
+{
+    let count = text.len().min(buffer.len());
+    buffer[..count].copy_from_slice(&text[..count]);
+    count
 }
 
 // The bytes from an offset on, as many as fit.
@@ -182,18 +194,20 @@ impl Book for MemBook {
         }
     }
 
-    fn read_props(
-        &mut self,
-        rev: RevNum,
-        offset: u64,
-        buffer: &mut [u8],
-    ) -> Result<usize, BookFault> {
+    ghost fits = { λ book rev bytes told. length-bytes_in book.revs.items rev bytes told };
+}
+
+/// Of each property file it reads the one text that it was given.
+impl RevProps for MemBook {
+    ghost use Rattle.fsfs_revision.specs.RevProps.{only};
+
+    ghost may_read = { λ b. only (props_in b.revs.items) };
+
+    fn read_props(&mut self, rev: RevNum, buffer: &mut [u8]) -> Result<usize, BookFault> {
         self.call()?;
         match props_of(&self.revs, self.youngest, rev) {
-            Ok(bytes) => copy_part(bytes, rev, offset, buffer),
+            Ok(text) => Ok(copy_front(text, buffer)),
             Err(refusal) => Err(BookFault::Refused(refusal)),
         }
     }
-
-    ghost fits = { λ book rev bytes told. length-bytes_in book.revs.items rev bytes told };
 }

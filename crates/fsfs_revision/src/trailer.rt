@@ -13,7 +13,7 @@ use std::alloc::AllocError;
 pub const TRAILER_LIMIT: usize = 64;
 
 /// What the trailer of a revision says.
-#[derive(Clone, Copy, Debug, PartialEq, Eq)]
+#[derive(Clone, Copy, Debug)]
 pub struct Trailer {
     /// Where the root's node-revision begins.
     pub root: u64,

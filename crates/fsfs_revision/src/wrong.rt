@@ -23,7 +23,7 @@ pub enum Refusal {
 }
 
 /// What is wrong with the bytes of revisions, where a reading came to it.
-#[derive(Clone, Copy, Debug, PartialEq, Eq, Error)]
+#[derive(Clone, Copy, Debug, Error)]
 pub enum Wrong {
     /// There are no bytes of a revision: it is above the youngest, its file is absent, or the small file that says where
     /// it stands is damaged.
@@ -38,7 +38,7 @@ pub enum Wrong {
 }
 
 /// Why nothing was read: something is wrong with the bytes, or a failure, which says nothing of the bytes.
-#[derive(Clone, Copy, Debug, PartialEq, Eq, Error)]
+#[derive(Clone, Copy, Debug, Error)]
 pub enum ReadError {
     #[error("out of memory")]
     OutOfMemory,

@@ -13,7 +13,7 @@ use fsfs_base::{FsPath, PropName, Source};
 use std::alloc::Global;
 
 /// A command inside a job.
-#[derive(Debug, Drop)]
+#[derive(Drop)]
 pub(crate) enum Command {
     Author(Author),
     Log(Text),
@@ -21,7 +21,7 @@ pub(crate) enum Command {
 }
 
 /// What comes next in a job.
-#[derive(Debug, Drop)]
+#[derive(Drop)]
 pub(crate) enum Next {
     Command(Command),
     /// `commit`: the end of the job.

@@ -8,7 +8,7 @@ use std::alloc::AllocError;
 use thiserror::Error;
 
 /// Where a script is no list of jobs, and why.
-#[derive(Clone, Copy, Debug, PartialEq, Eq)]
+#[derive(Clone, Copy, Debug)]
 pub struct BadScript {
     /// The line on which the command began; the first is 1.
     pub line: u64,
@@ -16,7 +16,7 @@ pub struct BadScript {
 }
 
 /// Why no job was read.
-#[derive(Clone, Copy, Debug, PartialEq, Eq, Error)]
+#[derive(Clone, Copy, Debug, Error)]
 pub enum ScriptError {
     #[error("the script is no list of jobs")]
     BadScript(BadScript),

@@ -13,7 +13,7 @@ use std::alloc::{AllocError, Global};
 use std::marker::Model;
 
 /// The jobs of a script in their order. A contract sees their list.
-#[derive(Debug, Drop)]
+#[derive(Drop)]
 pub struct Jobs {
     jobs: Vec<Job>,
 }

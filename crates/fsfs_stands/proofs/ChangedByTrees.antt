@@ -106,7 +106,7 @@ module _ (look : RevisionBytes) (rev : ℕ) (tree : ℕ → TreeFunction) (shows
   unnameable true r e = absurd cc
   unnameable false r e = refl
 
-  item_kind : (item : ChangeItem) (kind : Kind) → IsKindOf look rev item kind → KindOf look rev item item.kind (Ok kind)
+  pub item_kind : (item : ChangeItem) (kind : Kind) → IsKindOf look rev item kind → KindOf look rev item item.kind (Ok kind)
   item_kind item kind (Said _ e) = subst (λ (o : Option Kind). KindOf look rev item o (Ok kind)) (sym e) refl
   item_kind item _ (Named u none id le of) =
       let is : is_nameable rev item.id ≡ true = nameable (is_revision_id item.id) (nat_le (offset_of item.id.place).rev rev) id (grind (arith, nat_tests)) in
@@ -131,13 +131,13 @@ nearest_same S S' p (suc k) h = λ i. below_source (h k i) (drop k p) (nearest_s
 -- ---- the items against the changes
 
 module _ (look : RevisionBytes) (rev : ℕ) (tree : ℕ → TreeFunction) (changes : FinMap path_cmp Change) (shown : ShowChanges look rev tree changes) where
-  abbrev all : AreChangesOf look rev shown.bytes changes
+  abbrev pub all : AreChangesOf look rev shown.bytes changes
   all = shown.changes_are
 
-  abbrev items : List ChangeItem
+  abbrev pub items : List ChangeItem
   items = all.items
 
-  abbrev found : ByText
+  abbrev pub found : ByText
   found = by_text items
 
   is_path : (item : ChangeItem) → Contains items item → IsPath item.path
@@ -146,7 +146,7 @@ module _ (look : RevisionBytes) (rev : ℕ) (tree : ℕ → TreeFunction) (chang
   abbrev sources : Path → Option (ℕ × Path)
   sources q = source_of_change (get changes q)
 
-  abbrev text_of : ChangeItem → List ℕ
+  abbrev pub text_of : ChangeItem → List ℕ
   text_of item = path_text item.path
 
   -- a change is an item's
@@ -199,13 +199,13 @@ module _ (look : RevisionBytes) (rev : ℕ) (tree : ℕ → TreeFunction) (chang
 
   -- ---- all of them, in one order
 
-  abbrev Pair : Type 0
+  abbrev pub Pair : Type 0
   Pair = Path × Change
 
-  abbrev flat : List (List ℕ × Pair)
+  abbrev pub flat : List (List ℕ × Pair)
   flat = put_by (λ (e : Pair). path_text e.0) [] (entries changes)
 
-  has : (e : Pair) → Contains (entries changes) e → get changes e.0 ≡ Some e.1
+  pub has : (e : Pair) → Contains (entries changes) e → get changes e.0 ≡ Some e.1
   has e c = in_got changes e.0 e.1 c
 
   paths_by : (q : List ℕ) (o : Option ChangeItem) → find text_cmp q found ≡ o → (g : Option Pair) → find text_cmp q flat ≡ g → option_map (λ (x : ChangeItem). x.path) o ≡ option_map (λ (e : Pair). e.0) g
@@ -231,7 +231,7 @@ module _ (look : RevisionBytes) (rev : ℕ) (tree : ℕ → TreeFunction) (chang
       let same = path_by_text item.path pair.0 (is_path item put.0) pair_path (put.1 ∙ sym put_flat.1) in
       ap (λ (p : Path). Some p) same
 
-  same_paths : valued (λ (x : ChangeItem). x.path) found ≡ valued (λ (e : Pair). e.0) flat
+  pub same_paths : valued (λ (x : ChangeItem). x.path) found ≡ valued (λ (e : Pair). e.0) flat
   same_paths =
       same_entries text_cmp nat_list_cmp_total exact_bytes (valued (λ (x : ChangeItem). x.path) found) (valued (λ (e : Pair). e.0) flat)
       (subst T (sym (sorted_valued (λ (x : ChangeItem). x.path) found)) (put_sorted text_of [] items tt))
@@ -268,7 +268,7 @@ module _ (look : RevisionBytes) (rev : ℕ) (tree : ℕ → TreeFunction) (chang
       zipped found flat same_paths (all_put text_of (Contains items) [] items tt (each_in (Contains items) items (λ x c. c)))
       (all_put (λ (e : Pair). path_text e.0) (λ (e : Pair). get changes e.0 ≡ Some e.1) [] (entries changes) tt (each_in (λ (e : Pair). get changes e.0 ≡ Some e.1) (entries changes) has))
 
-  read : ItemsOf look rev (Ok (items, None))
+  pub read : ItemsOf look rev (Ok (items, None))
   read =
       let h = all.items_are in
       ((h.trailer.changes, drop h.trailer.changes h.ends.front), (shown.bytes, shown.bytes_are, record { trailer = h.trailer; ends = h.ends; begins = refl; data_is = refl }), h.items_are)

@@ -32,7 +32,7 @@ kind_unsaid_one : (look : RevisionBytes) (rev : ℕ) (item : ChangeItem) (lastin
 kind_unsaid_one look rev item true = and_then_one (OfId look item.id) (λ u r. r ≡ Ok u.kind) (of_id_one look item.id) (λ u a b g h. g ∙ sym h)
 kind_unsaid_one look rev item false = kind_at_one look rev item.path File
 
-kind_of_one : (look : RevisionBytes) (rev : ℕ) (item : ChangeItem) (said : Option Kind) → HasOneAnswer (KindOf look rev item said)
+pub kind_of_one : (look : RevisionBytes) (rev : ℕ) (item : ChangeItem) (said : Option Kind) → HasOneAnswer (KindOf look rev item said)
 kind_of_one look rev item (Some kind) = λ a b g h. g ∙ sym h
 kind_of_one look rev item None = kind_unsaid_one look rev item (is_nameable rev item.id)
 

@@ -7,6 +7,7 @@ use Rattle.fsfs_base.specs.Files.{Files, NamedFile, lay_over}
 use Rattle.fsfs_layout.proofs.Identifiers.{identifier_length, identifier_lacks}
 use Rattle.fsfs_layout.proofs.NamedFiles.{lacks, get_laid, are_apart}
 use Rattle.fsfs_base.proofs.FileLemmas.{get_new}
+use Rattle.fsfs_layout.specs.Layouts.{shard_size}
 use Rattle.fsfs_layout.specs.CreatedFiles.{created_files, identifier_text, Holds}
 use Rattle.fsfs_stands.specs.NewRepository.{CreationsHoldNew}
 
@@ -20,12 +21,13 @@ holds_laid (file ∷ files) m h =
 -- ---- the files
 
 pub creations_hold_new : CreationsHoldNew
-creations_hold_new layout moment id date m dated = record {
+creations_hold_new layout moment id date m packs dated = record {
   layout = layout;
+  packs = packs;
   identifier = identifier_text id;
   moment = dated.0;
   characters = identifier_length id;
   one_line = identifier_lacks id;
   dated = dated.2;
-  new = holds_laid (created_files layout.shard_size (identifier_text id) date) (remove m (codes "db/format-next")) refl;
+  new = holds_laid (created_files (shard_size layout) (identifier_text id) date) (remove m (codes "db/format-next")) refl;
 }

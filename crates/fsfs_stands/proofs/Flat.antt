@@ -12,7 +12,7 @@ use Rattle.fsfs_stands.specs.ChangedLaws.{ShowChanges, ChangedPathsAreFlat}
 use Rattle.fsfs_stands.proofs.ChangedByTrees.{changed_by}
 
 -- what stands before an element is there
-earlier : {A : Type 0} (xs : List A) (n r : ℕ) (x : A) → r ≤ n → slice_get xs n ≡ Some x → (y : A) × (slice_get xs r ≡ Some y)
+pub earlier : {A : Type 0} (xs : List A) (n r : ℕ) (x : A) → r ≤ n → slice_get xs n ≡ Some x → (y : A) × (slice_get xs r ≡ Some y)
 earlier [] n r x le e = absurd cc
 earlier (y ∷ xs) n zero x le e = (y, refl)
 earlier (y ∷ xs) zero (suc r) x le e = absurd (omega (arith, le))

@@ -39,18 +39,18 @@ agree_behind line a b e f (inl same) = inl (ap (λ (t : List ℕ). line ++ t) sa
 agree_behind line a b e f (inr (inl front)) = inr (inl (front.0, front_behind line a b front.1))
 agree_behind line a b e f (inr (inr front)) = inr (inr (front.0, front_behind line b a front.1))
 
-wholes_same : (a b : List ℕ) → Agree a Whole b Whole → a ≡ b
+pub wholes_same : (a b : List ℕ) → Agree a Whole b Whole → a ≡ b
 wholes_same a b (inl same) = same.0
 wholes_same a b (inr (inl front)) = whole_not_stopped front.0
 wholes_same a b (inr (inr front)) = whole_not_stopped front.0
 
 -- what isn't whole against something whole and more
-agree_more : (a b rest : List ℕ) (e f : End) → e ≢ Whole → Agree a e b Whole → Agree a e (b ++ rest) f
+pub agree_more : (a b rest : List ℕ) (e f : End) → e ≢ Whole → Agree a e b Whole → Agree a e (b ++ rest) f
 agree_more a b rest e f more (inl same) = absurd (more same.1)
 agree_more a b rest e f more (inr (inl front)) = inr (inl (front.0, front_longer a b rest front.1))
 agree_more a b rest e f more (inr (inr front)) = whole_not_stopped front.0
 
-agree_less : (a rest b : List ℕ) (e f : End) → f ≢ Whole → Agree a Whole b f → Agree (a ++ rest) e b f
+pub agree_less : (a rest b : List ℕ) (e f : End) → f ≢ Whole → Agree a Whole b f → Agree (a ++ rest) e b f
 agree_less a rest b e f more (inl same) = absurd (more (sym same.1))
 agree_less a rest b e f more (inr (inl front)) = whole_not_stopped front.0
 agree_less a rest b e f more (inr (inr front)) = inr (inr (front.0, front_longer b a rest front.1))

@@ -3,7 +3,7 @@ use fsfs_revision::Wrong;
 use thiserror::Error;
 
 /// What the bytes of the revisions say against a look.
-#[derive(Clone, Copy, Debug, PartialEq, Eq, Error)]
+#[derive(Clone, Copy, Debug, Error)]
 pub enum LookFault {
     /// So many names of the path, from the root down, lead to nothing.
     #[error("there is no such node")]

@@ -4,7 +4,7 @@ use fsfs_disk::Disk;
 use fsfs_fetch::{Direct, OwnedReads, disk_of, over_disk};
 use fsfs_layout::Layout;
 use fsfs_memory::{FIRST_DIRECTORY, MemDisk, REVISION_0};
-use fsfs_revision::{Book, BookFault, Refusal};
+use fsfs_revision::{Book, BookFault, Refusal, RevProps};
 use std::alloc::Global;
 use std::test::Fail;
 
@@ -84,10 +84,13 @@ fn packed_and_not(rt: HostRuntime) -> Result<(), Fail> {
     ] {
         assert!(rt; book.rev_len(RevNum::from(rev)) == len, "of {rev}");
     }
-    let mut props = [0; 4];
-    assert!(rt; book.read_props(RevNum::from(1), 0, &mut props) == Ok(4));
-    assert!(rt; props == *b"END\n");
-    assert!(rt; book.read_props(second, 0, &mut props) == Err(missing(second)));
+    let mut props = [b'.'; 5];
+    assert!(rt; book.read_props(RevNum::from(1), &mut props) == Ok(4));
+    assert!(rt; props == *b"END\n.");
+    let mut front = [b'.'; 2];
+    assert!(rt; book.read_props(RevNum::from(1), &mut front) == Ok(2));
+    assert!(rt; front == *b"EN");
+    assert!(rt; book.read_props(second, &mut props) == Err(missing(second)));
     // The kept floor is 0 though the first shard is packed.
     let disk = disk_of(book);
     let before = disk.calls();

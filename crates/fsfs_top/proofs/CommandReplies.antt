@@ -114,7 +114,7 @@ module _ (tool : Tool) (ws : List (List ℕ)) (clock : Option ℕ) (dice : Optio
       let by_look = asks_task tool ws repos (Look look) asks in
       subst Given (none_of look shown)
       (given_none status tool a b err_old err_new repos t here fault ends look (refuses_look not_repo 1) (ap (λ (k : Tool). refuses (line_of k (Request NotRepo)) 1) (sym by_look)) absent looked.0)
-  none repos (RunJobs workers) t shown asks here absent = absurd absent
+  none repos (RunJobs run) t shown asks here absent = absurd absent
 
   at_revision : (repos : List ℕ) (look : RevisionLook) (t : Trace) (h : List Revision) (shown : Path → List ℕ) → Asks tool ws repos (Look (AtRevision look)) → a.host.disk_at repos ≡ Some t → (s : StandsFor (files_now t) h)
       → ShowsIds look.printed (rev_bytes s.opened.layout (files_now t)) (asked_revision look.revision h) shown → Given (of_revision look.revision h (revision_reply look.printed shown h (asked_revision look.revision h)))
@@ -141,7 +141,7 @@ module _ (tool : Tool) (ws : List (List ℕ)) (clock : Option ℕ) (dice : Optio
       given_youngest status tool a b err_old err_new repos t here fault ends o h is last (task_done clock dice a b fault tool ws repos (Look Youngest) did asks).0
   opened repos (Look Uuid) t o h shown names txns asks here small is last has = given_uuid status tool a b err_old err_new repos t here fault ends o is (task_done clock dice a b fault tool ws repos (Look Uuid) did asks).0
   opened repos (Look (AtRevision look)) t o h shown names txns asks here small is last has = absurd small
-  opened repos (RunJobs workers) t o h shown names txns asks here small is last has = absurd small
+  opened repos (RunJobs run) t o h shown names txns asks here small is last has = absurd small
 
   stands : (repos : List ℕ) (task : Task) (t : Trace) (h : List Revision) (shown : Path → List ℕ) (names : List (List ℕ)) (txns : List (ℕ × ℕ)) → Asks tool ws repos task → a.host.disk_at repos ≡ Some t → (s : StandsFor (files_now t) h)
       → AreIds task (rev_bytes s.opened.layout (files_now t)) h shown → HasTxns task (labels_now t) names txns → Given (answer_to task shown (Some (record { history = h; identifier = s.opened.uuid; names = names; txns = txns })))
@@ -155,7 +155,7 @@ module _ (tool : Tool) (ws : List (List ℕ)) (clock : Option ℕ) (dice : Optio
   stands repos (Look Youngest) t h shown names txns asks here s are has = opened repos (Look Youngest) t s.opened h shown names txns asks here tt s.small (last_is (files_now t) h s) tt
   stands repos (Look Uuid) t h shown names txns asks here s are has = opened repos (Look Uuid) t s.opened h shown names txns asks here tt s.small (last_is (files_now t) h s) tt
   stands repos (Look (AtRevision look)) t h shown names txns asks here s are has = subst Given (answer_at look.revision look.printed shown h) (at_revision repos look t h shown asks here s are)
-  stands repos (RunJobs workers) t h shown names txns asks here s are has = absurd are
+  stands repos (RunJobs run) t h shown names txns asks here s are has = absurd are
 
   pub replies : Replies tool ws a.host.disk_at Given
   replies = record { none = none; stands = stands; opened = opened }

@@ -11,12 +11,15 @@ use Rattle.fsfs_cli.specs.declared.faults.fault.Fault.{Fault}
 use Rattle.fsfs_cli.specs.declared.faults.fault.Fault.TheVariants.{Request, Memory}
 use Rattle.fsfs_cli.specs.declared.faults.request_fault.RequestFault.TheVariants.{NoRev}
 use Rattle.fsfs_layout.specs.declared.layout.Layout.{Layout}
-use Rattle.fsfs_layout.specs.declared.small_files.format_file.Format.TheVariants.{Linear, Sharded, Other}
-use Rattle.fsfs_layout.proofs.OpeningLemmas.{one_youngest, one_layout}
+use Rattle.fsfs_layout.specs.Folders.{AreShards}
+use Rattle.fsfs_layout.specs.declared.small_files.format_file.FormatFile.TheVariants.{Known, Other}
+use Rattle.fsfs_layout.proofs.Files.{one_format}
+use Rattle.fsfs_layout.proofs.OpeningLemmas.{one_youngest, one_layout, says_one}
 use Rattle.fsfs_look.specs.declared.look_error.LookError.TheVariants as errors
 use Rattle.fsfs_look.specs.declared.look_error.LookError.{LookError}
 use Rattle.fsfs_look.specs.Written.{Writes}
-use Rattle.fsfs_layout.specs.Opening.{small_texts, IsOpened}
+use Rattle.fsfs_layout.specs.Opening.{SmallTexts, small_texts, SaysFormat, IsOpened}
+use Rattle.fsfs_layout.specs.declared.folders.Folders.TheVariants.{OneFolder}
 use Rattle.fsfs_create.specs.OpenFaults.{OpensBecause}
 use Rattle.fsfs_create.specs.Deciding.{Decides, IsOutside as IsOpenOutside}
 use Rattle.fsfs_create.proofs.DecidingLemmas.{decides_linear, decides_other, decides_refused, decides_unread, is_some}
@@ -28,7 +31,7 @@ use Rattle.fsfs_stands.specs.declared.look_fault.LookFault.{LookFault}
 use Rattle.fsfs_stands.specs.declared.look_fault.LookFault.TheVariants as refusal
 use Rattle.fsfs_top.specs.Looks.{AllBytes, all_bytes, TextOf, TextIn, revision_line, uuid_line, looked_revision, LacksRevision, IsFaultOf, PrintsLine, LooksInto, IsOutside, Agrees, DecidesRevision, DecidesOpened, DecidesOpening, LookIsDecided}
 use Rattle.fsfs_workers.specs.Openings.{OpensAs, DoesNotOpen}
-use Rattle.fsfs_workers.proofs.Unopened.{formatted, one_format, refused_behind}
+use Rattle.fsfs_workers.proofs.Unopened.{formatted, refused_behind}
 use Rattle.fsfs_top.specs.Transactions.{OpeningIsDecided}
 use Rattle.fsfs_top.specs.Scenes.{SinkScene}
 use Rattle.fsfs_cli.specs.Requests.{printed_path}
@@ -109,14 +112,14 @@ because_decides rose t opening.NotRepo none =
       opened = λ o w. absurd (is_some s w.format.0 w.format.1 none);
       none = λ w. inl refl;
       other = λ n w. absurd (is_some s w.0 w.1 none);
-      linear = λ w. absurd (is_some s w.0 w.1 none);
+      linear = λ w. absurd (is_some s w.1.0 w.1.1 none);
     }
 because_decides rose t (opening.OtherFormat n) (text, there, is) = decides_other (small_texts (files_now t)) text n (record { is = there; only = λ g w. one_format text (Other n) g is w })
-because_decides rose t opening.Linear (text, there, is) = decides_linear (small_texts (files_now t)) text (record { is = there; only = λ g w. one_format text Linear g is w })
+because_decides rose t opening.Linear (layout, (text, there, is), one) = decides_linear (small_texts (files_now t)) text layout one (record { is = there; only = λ g w. one_format text (Known layout) g is w })
 because_decides rose t (opening.Small fault) (text, there, inl none) = decides_unread (small_texts (files_now t)) text fault (record { is = there; only = none.0 })
-because_decides rose t (opening.Small fault) (text, there, inr (layout, is, behind)) =
+because_decides rose t (opening.Small fault) (text, there, inr (layout, is, packs, behind)) =
     let s = small_texts (files_now t) in
-    decides_refused s text layout fault (record { is = there; only = λ g w. one_format text (Sharded layout.shard_size) g is w }) (λ o same opens. refused_behind s o layout fault (sym same) opens behind)
+    decides_refused s text layout fault packs (record { is = there; only = λ g w. one_format text (Known layout) g is w }) (λ o same opens. refused_behind s o layout fault (sym same) opens behind)
 because_decides rose t (opening.DiskFault place) failed = record { opened = λ o w. tt; none = λ w. inr tt; other = λ n w. inr tt; linear = λ w. inr tt }
 because_decides rose t opening.Memory free = record { opened = λ o w. tt; none = λ w. inr tt; other = λ n w. inr tt; linear = λ w. inr tt }
 
@@ -126,16 +129,24 @@ opening_because rose told why because = opening_refusal told told why (fault_fro
   so None b = tt
   so (Some t) b = because_decides rose t why b
 
+known_same : (a b : Layout) → Known a ≡ Known b → a ≡ b
+known_same a b e = cc
+
+-- files that open are not those of one folder
+not_linear : (s : SmallTexts) (o : Opened) → IsOpened s o → (layout : Layout) → SaysFormat s (Known layout) → layout.folders ≡ OneFolder → ⊥
+not_linear s o opens layout says one =
+    let same = known_same o.layout layout (says_one s (Known o.layout) (Known layout) opens.format says) in
+    subst AreShards (ap (λ (l : Layout). l.folders) same ∙ one) opens.packs.sharded
+
 -- files that open are refused for nothing
 pub opening_as : (told : Option Trace) (o : Opened) (fault : Option Fault) → OpensAs told o → OpeningIsDecided told fault
 opening_as None o fault opens = tt
 opening_as (Some t) o fault opens =
     let s = small_texts (files_now t) in
-    let shards = Sharded o.layout.shard_size in
     record {
       none = λ w. absurd (is_some s opens.format.0 opens.format.1 w);
-      other = λ n w. absurd (let e = one_format w.0 shards (Other n) (formatted s o w.0 opens w.1) w.2 in cc);
-      linear = λ w. absurd (let e = one_format w.0 shards Linear (formatted s o w.0 opens w.1) w.2 in cc);
+      other = λ n w. absurd (let e = one_format w.0 (Known o.layout) (Other n) (formatted s o w.0 opens w.1) w.2 in cc);
+      linear = λ w. absurd (not_linear s o opens w.0 w.1 w.2);
       opened = λ p w. tt;
     }
 

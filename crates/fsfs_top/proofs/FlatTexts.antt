@@ -15,6 +15,7 @@ use Rattle.fsfs_cli.specs.declared.faults.fault.Fault.TheVariants.{Request}
 use Rattle.fsfs_cli.specs.declared.faults.request_fault.RequestFault.TheVariants.{NoRev}
 use Rattle.fsfs_revision.specs.Told.{RevisionBytes}
 use Rattle.fsfs_revision.specs.RevBytes.{rev_bytes, props_bytes}
+use Rattle.fsfs_revision.specs.RevProps.{only}
 use Rattle.fsfs_tree.specs.FaultWords.{not_found, not_dir, not_file, delta, two_numbers}
 use Rattle.fsfs_tree.specs.Answers.{Reply, Found, Stands, Lacking, Blocked, found_at, tree_reply, node_reply, text_reply, history_reply, prints, refuses, refuses_at, refuses_look, in_revision}
 use Rattle.fsfs_tree.specs.PropTexts.{author_text, date_text, log_text, info_text}
@@ -135,16 +136,16 @@ module _ (files : Files) (h : List Revision) (s : StandsFor files h) (rev : ℕ)
   shows_props : ShowsProps props rev r.properties
   shows_props = let shown = s.history.each rev r there in record { file = shown.file; file_is = shown.file_is; dump = shown.properties; dated = shown.dated }
 
-  pub author_is_by_props : (text : List ℕ) (end : End) → AuthorText props rev text end → LookFits path (prints (author_text r.properties)) text end
+  pub author_is_by_props : (text : List ℕ) (end : End) → AuthorText (only props) rev text end → LookFits path (prints (author_text r.properties)) text end
   author_is_by_props text end is = text_fits path (author_text r.properties) text end (authors_by props rev r.properties shows_props text end is)
 
-  pub date_is_by_props : (text : List ℕ) (end : End) → DateText props rev text end → LookFits path (prints (date_text r.properties)) text end
+  pub date_is_by_props : (text : List ℕ) (end : End) → DateText (only props) rev text end → LookFits path (prints (date_text r.properties)) text end
   date_is_by_props text end is = text_fits path (date_text r.properties) text end (dates_by props rev r.properties shows_props text end is)
 
-  pub log_is_by_props : (text : List ℕ) (end : End) → LogText props rev text end → LookFits path (prints (log_text r.properties)) text end
+  pub log_is_by_props : (text : List ℕ) (end : End) → LogText (only props) rev text end → LookFits path (prints (log_text r.properties)) text end
   log_is_by_props text end is = text_fits path (log_text r.properties) text end (logs_by props rev r.properties shows_props text end is)
 
-  pub info_is_by_props : (text : List ℕ) (end : End) → InfoText props rev text end → LookFits path (prints (info_text r.properties)) text end
+  pub info_is_by_props : (text : List ℕ) (end : End) → InfoText (only props) rev text end → LookFits path (prints (info_text r.properties)) text end
   info_is_by_props text end is = text_fits path (info_text r.properties) text end (infos_by props rev r.properties shows_props text end is)
 
 -- ---- the changed paths of a revision, and the history of a path

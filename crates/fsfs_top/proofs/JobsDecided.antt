@@ -5,6 +5,7 @@ use Rattle.fsfs_base.specs.Failures.{Rose}
 use Rattle.fsfs_cli.specs.CommandFaults.{fault_from_script}
 use Rattle.fsfs_cli.specs.declared.faults.fault.Fault.{Fault}
 use Rattle.fsfs_cli.specs.declared.faults.fault.Fault.TheVariants.{Memory}
+use Rattle.fsfs_cli.specs.declared.request.JobRun.{JobRun}
 use Rattle.fsfs_workers.specs.ByWorkers.{RunsBeside, scene_where}
 use Rattle.fsfs_workers.specs.ByWorkers as beside
 use Rattle.fsfs_workers.specs.Runs.{RunScene, RunsScript}
@@ -26,10 +27,10 @@ beside_opening moment before after benches a b _ (beside.NoRoom o js opens read 
 beside_opening moment before after benches a b _ (beside.Done o js answers youngest result opens read ends each rose failed over printed) = opening_as a.trace o (ended_fault result) opens
 beside_opening moment before after benches a b _ (beside.Lost unknown written failed) = absurd cc
 
-pub run_decided : (workers : ℕ) (known : Bool) (moment before after : ℕ) (benches : ℕ → Type 0) (a b : RunScene) (ended : Result ℕ Fault) → RunsBy workers known moment before after benches a b ended → RunIsDecided workers known a.trace ended
-run_decided workers known moment before after benches a b ended (inl (one, ran)) = λ which. script_opening moment before after benches a b ended ran
-run_decided workers known moment before after benches a b ended (inr (two, ran)) = by
+pub run_decided : (run : JobRun) (known : Bool) (moment before after : ℕ) (benches : ℕ → Type 0) (a b : RunScene) (ended : Result ℕ Fault) → RunsBy run known moment before after benches a b ended → RunIsDecided run known a.trace ended
+run_decided run known moment before after benches a b ended (inl (one, ran)) = λ which. script_opening moment before after benches a b ended ran
+run_decided run known moment before after benches a b ended (inr (two, ran)) = by
   where
-    by : (workers ≡ 1) ⊎ (known ≡ true) → OpeningIsDecided a.trace (ended_fault ended)
+    by : (run.workers ≡ 1) ⊎ (known ≡ true) → OpeningIsDecided a.trace (ended_fault ended)
     by (inl one) = absurd (omega (arith, one, two))
     by (inr is) = beside_opening moment before after benches a b ended (subst (λ (k : Bool). RunsBeside moment 2 k before after benches (scene_where k a) (scene_where k b) ended) is ran)

@@ -5,6 +5,7 @@ use Rattle.fsfs_base.specs.Failures.{Rose}
 use Rattle.fsfs_disk.specs.Trace.{Trace, labels_now}
 use Rattle.fsfs_disk.specs.Transactions.Removals.{HasSameLabels}
 use Rattle.fsfs_cli.specs.Readings.{Asks}
+use Rattle.fsfs_cli.specs.declared.request.JobRun.{JobRun}
 use Rattle.fsfs_cli.specs.declared.request.Task.TheVariants.{RunJobs}
 use Rattle.fsfs_cli.specs.declared.tool.Tool.TheVariants.{Jobs}
 use Rattle.fsfs_cli.specs.declared.faults.fault.Fault.{Fault}
@@ -12,41 +13,41 @@ use Rattle.fsfs_turn.specs.Mountings.{RoseBy}
 use Rattle.fsfs_workers.specs.Listed.{LeavesListed}
 use Rattle.fsfs_workers.proofs.ListedLemmas.{none_begun, none_is_left}
 use Rattle.fsfs_workers.specs.Runs.{RunScene, RunsScript, NotOpened, NotRead, NoRoom, Done}
-use Rattle.fsfs_top.specs.Scenes.{Scene, SourceScene}
+use Rattle.fsfs_top.specs.Scenes.{Scene}
 use Rattle.fsfs_top.specs.Scripts.{DidJobs, ListsNoOther, RunsAt, run_scene}
 use Rattle.fsfs_top.proofs.CreationTold.{path_cases}
 use Rattle.fsfs_top.proofs.TxnsTold.{labels_firm}
 
 -- ---- of one disk
 
-lists_no_other : (most : ℕ) (old new : Option Trace) → LeavesListed most (option_map labels_now old) (option_map labels_now new) → ListsNoOther old new
-lists_no_other most old None lists = tt
-lists_no_other most None (Some t) lists = λ label has. tt
-lists_no_other most (Some s) (Some t) lists = none_is_left most (Some (labels_now s)) (Some (labels_now t)) lists
+lists_no_other : (least most : ℕ) (old new : Option Trace) → LeavesListed least most (option_map labels_now old) (option_map labels_now new) → ListsNoOther old new
+lists_no_other least most old None lists = tt
+lists_no_other least most None (Some t) lists = λ label has. tt
+lists_no_other least most (Some s) (Some t) lists = none_is_left least most (Some (labels_now s)) (Some (labels_now t)) lists
 
 lists_same : (old new : Option Trace) → HasSameLabels old new → ListsNoOther old new
-lists_same old new same = lists_no_other 0 old new (none_begun 0 (option_map labels_now old) (option_map labels_now new) same)
+lists_same old new same = lists_no_other 0 0 old new (none_begun 0 0 (option_map labels_now old) (option_map labels_now new) same)
 
 script_lists : (moment before after : ℕ) (benches : ℕ → Type 0) (a b : RunScene) (ended : Result ℕ Fault) → RunsScript moment before after benches a b ended → ListsNoOther a.trace b.trace ⊎ Rose before after
 script_lists moment before after benches a b _ (NotOpened why because unopened untouched unread) = inl (lists_same a.trace b.trace (labels_firm a.trace b.trace untouched.disk))
 script_lists moment before after benches a b _ (NotRead o error opens read rose untouched) = inl (lists_same a.trace b.trace (labels_firm a.trace b.trace untouched.disk))
 script_lists moment before after benches a b _ (NoRoom o js opens read untouched) = inl (lists_same a.trace b.trace (labels_firm a.trace b.trace untouched.disk))
-script_lists moment before after benches a b _ (Done o js answers youngest result opens read ends each failed quiet rose listed ran printed) = ⊎_elim (λ lists. inl (lists_no_other _ a.trace b.trace lists)) (λ more. inr more) listed
+script_lists moment before after benches a b _ (Done o js answers youngest result opens read ends each failed quiet rose listed ran printed) = ⊎_elim (λ lists. inl (lists_no_other 0 _ a.trace b.trace lists)) (λ more. inr more) (listed 0 tt)
 
 -- ---- of the disk of each path
 
-run_lists : (repos : List ℕ) (workers : ℕ) (known : Bool) (clock : Option ℕ) (a : Scene) (i : SourceScene) (b : Scene) (j : SourceScene) (ended : Result ℕ Fault) → workers ≡ 1 → RunsAt repos workers known clock a i b j ended
+run_lists : (repos : List ℕ) (run : JobRun) (known : Bool) (clock : Option ℕ) (a b : Scene) (ended : Result ℕ Fault) → run.workers ≡ 1 → RunsAt repos run known clock a b ended
     → ListsNoOther (a.host.disk_at repos) (b.host.disk_at repos) ⊎ Rose a.host.disk_faults b.host.disk_faults
-run_lists repos workers known clock a i b j ended one (inl unmounted) = inl (lists_same (a.host.disk_at repos) (b.host.disk_at repos) (ap (option_map labels_now) unmounted.2))
-run_lists repos workers known clock a i b j ended one (inr (moment, tells, inl ran)) = script_lists moment a.host.disk_faults b.host.disk_faults (λ n. RoseBy n a.host.bench_faults b.host.bench_faults) (run_scene repos a i) (run_scene repos b j) ended ran.1
-run_lists repos workers known clock a i b j ended one (inr (moment, tells, inr ran)) = absurd (omega (arith, one, ran.0))
+run_lists repos run known clock a b ended one (inl unmounted) = inl (lists_same (a.host.disk_at repos) (b.host.disk_at repos) (ap (option_map labels_now) unmounted.2))
+run_lists repos run known clock a b ended one (inr (moment, tells, inl ran)) = script_lists moment a.host.disk_faults b.host.disk_faults (λ n. RoseBy n a.host.bench_faults b.host.bench_faults) (run_scene repos a) (run_scene repos b) ended ran.1
+run_lists repos run known clock a b ended one (inr (moment, tells, inr ran)) = absurd (omega (arith, one, ran.0))
 
-pub jobs_list : (words : List (List ℕ)) (known : Bool) (clock : Option ℕ) (a : Scene) (i : SourceScene) (b : Scene) (j : SourceScene) (ended : Result ℕ Fault) → DidJobs words known clock a i b j ended
-    → ((repos : List ℕ) (workers : ℕ) → Asks Jobs words repos (RunJobs workers) → workers ≡ 1) → (path : List ℕ) → ListsNoOther (a.host.disk_at path) (b.host.disk_at path) ⊎ Rose a.host.disk_faults b.host.disk_faults
-jobs_list words known clock a i b j ended (inl (repos, workers, asks, ran, decided, others)) one path = ⊎_elim here (λ apart. inl (lists_same (a.host.disk_at path) (b.host.disk_at path) (ap (option_map labels_now) (others path apart)))) (path_cases path repos)
+pub jobs_list : (words : List (List ℕ)) (known : Bool) (clock : Option ℕ) (a b : Scene) (ended : Result ℕ Fault) → DidJobs words known clock a b ended
+    → ((repos : List ℕ) (run : JobRun) → Asks Jobs words repos (RunJobs run) → run.workers ≡ 1) → (path : List ℕ) → ListsNoOther (a.host.disk_at path) (b.host.disk_at path) ⊎ Rose a.host.disk_faults b.host.disk_faults
+jobs_list words known clock a b ended (inl (repos, run, asks, ran, decided, others)) one path = ⊎_elim here (λ apart. inl (lists_same (a.host.disk_at path) (b.host.disk_at path) (ap (option_map labels_now) (others path (apart, tt))))) (path_cases path repos)
   where
     here : path ≡ repos → ListsNoOther (a.host.disk_at path) (b.host.disk_at path) ⊎ Rose a.host.disk_faults b.host.disk_faults
     here is =
-        subst (λ (p : List ℕ). ListsNoOther (a.host.disk_at p) (b.host.disk_at p) ⊎ Rose a.host.disk_faults b.host.disk_faults) (sym is) (run_lists repos workers known clock a i b j ended (one repos workers asks) ran)
-jobs_list words known clock a i b j ended (inr refused) one path =
+        subst (λ (p : List ℕ). ListsNoOther (a.host.disk_at p) (b.host.disk_at p) ⊎ Rose a.host.disk_faults b.host.disk_faults) (sym is) (run_lists repos run known clock a b ended (one repos run asks) ran)
+jobs_list words known clock a b ended (inr refused) one path =
     inl (lists_same (a.host.disk_at path) (b.host.disk_at path) (ap (λ (s : Scene). option_map labels_now (s.host.disk_at path)) refused.3))

@@ -10,4 +10,5 @@ pub mod CommandReplies
 pub mod Making
 pub mod JobsTold
 pub mod JobsDecided
+pub mod OthersTold
 pub mod WorkersTold

@@ -169,7 +169,7 @@ module _ (status : ℕ) (tool : Tool) (a b : Scene) (err_old err_new : SinkScene
       → OpensBecause (Rose a.host.disk_faults b.host.disk_faults) (Some t) why → Given reply
   none_there reply t opening.NotRepo fault is none e ends kept because = refused_line reply (Request NotRepo) is (moved fault (Some (Request NotRepo)) e ends) (added_none kept)
   none_there reply t (opening.OtherFormat n) fault is none e ends kept because = absurd (none_or_some (small_texts (files_now t)) because.0 none because.1)
-  none_there reply t opening.Linear fault is none e ends kept because = absurd (none_or_some (small_texts (files_now t)) because.0 none because.1)
+  none_there reply t opening.Linear fault is none e ends kept because = absurd (none_or_some (small_texts (files_now t)) because.1.0 none because.1.1)
   none_there reply t (opening.Small small) fault is none e ends kept because = absurd (none_or_some (small_texts (files_now t)) because.0 none because.1)
   none_there reply t (opening.DiskFault place) fault is none e ends kept because = outside_failed reply (Disk place) fault e ends (inr (inl because.0)) kept
   none_there reply t opening.Memory fault is none e ends kept because = starved reply fault e ends kept

@@ -4,12 +4,13 @@ use Rattle.std.specs.Prelude.{Option, Some, None, IfSome, option_map, Result, Ok
 use Rattle.fsfs_base.specs.Files.{Files}
 use Rattle.fsfs_base.specs.Paths.{Path}
 use Rattle.fsfs_revision.specs.Told.{Telling}
+use Rattle.fsfs_revision.specs.RevProps.{MayRead, ReadsOnly}
 use Rattle.fsfs_base.specs.Failures.{Rose}
 use Rattle.fsfs_disk.specs.Trace.{Trace, files_now}
 use Rattle.fsfs_cli.specs.CommandFaults.{fault_from_open}
 use Rattle.fsfs_cli.specs.declared.faults.fault.Fault.{Fault}
 use Rattle.fsfs_fetch.specs.Owned.{TellsAll}
-use Rattle.fsfs_revision.specs.RevBytes.{floor_in}
+use Rattle.fsfs_revision.specs.RevBytes.{floor_in, props_bytes}
 use Rattle.fsfs_look.specs.Written.{Writes, IfDisk, IfWrite}
 use Rattle.fsfs_look.specs.declared.look_error.LookError.{LookError}
 use Rattle.fsfs_look.specs.declared.look_error.LookError.TheVariants as errors
@@ -32,16 +33,17 @@ use Rattle.fsfs_top.proofs.FilesDecide.{does_not_open}
 -- ---- an opened repository
 
 -- what was written of a book over the disk is of the files
-pub into_writes : {Below : Type 0} (trace : Option Trace) (look : RevisionLook) (o : Opened) (rev : ℕ) (telling : Telling Below) (old new : Option (List ℕ)) (r : Result (Unit {0}) LookError)
+pub into_writes : {Below : Type 0} (trace : Option Trace) (look : RevisionLook) (o : Opened) (rev : ℕ) (telling : Telling Below) (may : MayRead) (old new : Option (List ℕ)) (r : Result (Unit {0}) LookError)
     → IfSome (option_map files_now trace) (λ m. IsOpened (small_texts m) o)
     → ((t : Trace) → trace ≡ Some t → floor_in o.layout (files_now t) ≡ Ok o.min_unpacked_rev → TellsAll o.youngest o.layout (files_now t) telling)
-    → rev ≡ looked_revision look o → rev ≤ o.youngest → ((bytes : AllBytes) → KnowsAll telling rev bytes → Writes (TextOf look.printed bytes rev) old new r)
+    → ((t : Trace) → trace ≡ Some t → ReadsOnly may o.youngest (props_bytes o.layout (files_now t)))
+    → rev ≡ looked_revision look o → rev ≤ o.youngest → ((bytes : AllBytes) → KnowsAll telling may rev bytes → Writes (TextOf look.printed bytes rev) old new r)
     → IfSome (option_map files_now trace) (λ m. Writes (TextIn look o m) old new r)
-into_writes None look o rev telling old new r opened tells is le writes = tt
-into_writes (Some t) look o rev telling old new r opened tells is le writes =
+into_writes None look o rev telling may old new r opened tells reads is le writes = tt
+into_writes (Some t) look o rev telling may old new r opened tells reads is le writes =
     let all = tells t refl (floor_is o.layout o.min_unpacked_rev (files_now t) opened.behind.min_unpacked_rev) in
     subst (λ (n : ℕ). Writes (TextOf look.printed (all_bytes o.layout (files_now t)) n) old new r) is
-    (writes (all_bytes o.layout (files_now t)) (λ q below. all.revs q (omega (arith, below, le)), λ q below. all.props q (omega (arith, below, le))))
+    (writes (all_bytes o.layout (files_now t)) (λ q below. all.revs q (omega (arith, below, le)), λ q below. reads t refl q (omega (arith, below, le))))
 
 pub fault_with_cause : (disk write : Type 0) (path : Path) (e : LookError) (fault : Fault) → IsFaultAt path e fault → IfDisk e disk → IfWrite e write → IsFaultOf disk write path (Err e) (Some fault)
 fault_with_cause disk write path e fault is d w = (fault, refl, is, d, w)

@@ -1,5 +1,5 @@
 -- What a creation that was done leaves stands for the history of revision 0.
-use Rattle.std.proofs.Common.{◌≡◌, ◌≤◌, ℕ, List, inl, inr, ⊎_elim, ap, sym, subst, ◌∙◌, arith}
+use Rattle.std.proofs.Common.{◌≡◌, ◌≤◌, ℕ, List, inl, inr, ⊎_elim, refl, ap, sym, subst, ◌∙◌, arith}
 use Rattle.std.specs.Prelude.{Option, Some, None, IfSome, option_map}
 use Rattle.fsfs_base.specs.Fields.Dates.{IsDateAt}
 use Rattle.fsfs_base.specs.Files.{Files}
@@ -14,6 +14,10 @@ use Rattle.fsfs_create.specs.Creation.{IsNoneOrWhole, IsUnpublished}
 use Rattle.fsfs_create.specs.NewStore.{IsNewStore}
 use Rattle.fsfs_create.proofs.NewStoreLemmas.{created_is_new}
 use Rattle.fsfs_layout.specs.CreatedFiles.{created_over, random_identifier}
+use Rattle.fsfs_layout.specs.Layouts.{Packs}
+use Rattle.fsfs_layout.specs.declared.folders.Folders.TheVariants.{Shards}
+use Rattle.fsfs_layout.specs.declared.format.Format.TheVariants.{Four}
+use Rattle.fsfs_layout.specs.declared.layout.Layout.{Layout}
 use Rattle.fsfs_stands.specs.Files.{StandsFor}
 use Rattle.fsfs_stands.specs.NewRepository.{HoldsNew}
 use Rattle.fsfs_stands.proofs.Creations.{creations_hold_new}
@@ -44,6 +48,13 @@ no_zero (Limit why) e = omega arith
 no_fault : (fault : Fault) → ◌≡◌ {A = Option Fault} None (Some fault) → ⊥
 no_fault fault e = cc
 
+-- the layout of a creation
+abbrev in_shards : (shard : ℕ) → (1 ≤ shard) × (shard ≤ 100_000) → Layout
+in_shards shard size = record { format = Four; folders = Shards shard; sized = (omega (arith, size.0), omega (arith, size.1)) }
+
+shards_pack : (shard : ℕ) (size : (1 ≤ shard) × (shard ≤ 100_000)) → Packs (in_shards shard size)
+shards_pack shard size = record { format = refl; sharded = tt }
+
 module _ (tool : Tool) (ws : List (List ℕ)) (clock : Option ℕ) (dice : Option (List ℕ)) (a b : Scene) (did : Did tool ws clock dice a b None) where
   pub made_stands : MadeStands tool ws clock b.host.disk_at
   made_stands repos shard t asks here = so (task_done clock dice a b None tool ws repos (Create shard) did asks).0 where
@@ -55,7 +66,7 @@ module _ (tool : Tool) (ws : List (List ℕ)) (clock : Option ℕ) (dice : Optio
     so (inr (inl (why, e, rest))) = absurd (no_fault _ e)
     so (inr (inr (e, absent, (d, (date, dated, files))))) =
         let is = made_of (created_over shard (identifier_of clock dice d) date) (option_map files_now (a.host.disk_at repos)) (files_now t) (sym (ap (option_map files_now) here) ∙ files) in
-        let holds = creations_hold_new (record { shard_size = shard; some = omega (arith, size.0); most = omega (arith, size.1) }) d.moment (random_identifier d.bits) date is.0 dated in
+        let holds = creations_hold_new (in_shards shard size) d.moment (random_identifier d.bits) date is.0 (shards_pack shard size) dated in
         (d.moment, date, d.moment_is, dated, new_repositories_stand (files_now t) date (subst (λ (m : Files). HoldsNew m date) (sym is.1) holds))
 
 -- ---- what a crash leaves
@@ -64,7 +75,7 @@ store_left : (shard : ℕ) (clock : Option ℕ) (dice : Option (List ℕ)) (d : 
 store_left shard clock dice d t m size left = ⊎_elim (λ none. inl none) (λ whole. inr (
   d.moment,
   d.moment_is,
-  subst (IsNewStore d.moment) (sym whole.2) (created_is_new (record { shard_size = shard; some = omega (arith, size.0); most = omega (arith, size.1) }) d.moment (random_identifier d.bits) whole.0 (files_now t) whole.1),
+  subst (IsNewStore d.moment) (sym whole.2) (created_is_new (in_shards shard size) d.moment (random_identifier d.bits) whole.0 (files_now t) (shards_pack shard size) whole.1),
 )) left
 
 stores_left : (shard : ℕ) (clock : Option ℕ) (dice : Option (List ℕ)) (old new : Option Trace) → (1 ≤ shard) × (shard ≤ 100_000) → LeavesNoneOrCreated shard clock dice old new → Leaves old new (IsNoneOrStore clock)

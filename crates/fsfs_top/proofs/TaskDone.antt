@@ -33,20 +33,21 @@ some_draw clock dice = record { moment = unwrap_or clock 0; bits = unwrap_or dic
 module _ (clock : Option ℕ) (dice : Option (List ℕ)) (a b : Scene) (fault : Option Fault) where
   -- memory was wanting as the words were read
   starved : (repos : List ℕ) (task : Task) → fault ≡ Some Memory → b ≡ a → Does repos task clock dice a b fault
-  starved repos (Create shard) is kept = (inr (inl (create.Memory, is, (some_draw clock dice, ap (λ (s : Scene). s.host.disk_at repos) kept))), ap (λ (s : Scene). s.out) kept)
+  starved repos (Create shard) is kept = (inr (inl (create.Memory, is, (some_draw clock dice, ap (λ (s : Scene). s.host.disk_at repos) kept))), ap (λ (s : Scene). s.out) kept, ap (λ (s : Scene). s.input) kept)
   starved repos ListTxns is kept =
-      (inl (inr (opening.Memory, is, tt, unopened (a.host.disk_at repos), ap (λ (s : Scene). s.out) kept)), subst (OpeningIsDecided (a.host.disk_at repos)) (sym is) (opening_outside (a.host.disk_at repos) Memory tt))
+      (inl (inr (opening.Memory, is, tt, unopened (a.host.disk_at repos), ap (λ (s : Scene). s.out) kept)), subst (OpeningIsDecided (a.host.disk_at repos)) (sym is) (opening_outside (a.host.disk_at repos) Memory tt), ap (λ (s : Scene). s.input) kept)
   starved repos (RemoveTxns txns) is kept = (
     inr (inl (opening.Memory, is, tt, unopened (a.host.disk_at repos), ap (λ (s : Scene). option_map labels_now (s.host.disk_at repos)) kept)),
     subst (OpeningIsDecided (a.host.disk_at repos)) (sym is) (opening_outside (a.host.disk_at repos) Memory tt),
     ap (λ (s : Scene). s.out) kept,
+    ap (λ (s : Scene). s.input) kept,
   )
   starved repos (Look look) is kept =
-      (inl (inr (opening.Memory, is, tt, unopened (a.host.disk_at repos), ap (λ (s : Scene). s.out) kept)), subst (LookIsDecided look (a.host.disk_at repos)) (sym is) (look_outside look (a.host.disk_at repos) Memory tt))
-  starved repos (RunJobs workers) is kept = tt
+      (inl (inr (opening.Memory, is, tt, unopened (a.host.disk_at repos), ap (λ (s : Scene). s.out) kept)), subst (LookIsDecided look (a.host.disk_at repos)) (sym is) (look_outside look (a.host.disk_at repos) Memory tt), ap (λ (s : Scene). s.input) kept)
+  starved repos (RunJobs run) is kept = tt
 
   pub task_done : (tool : Tool) (words : List (List ℕ)) (repos : List ℕ) (task : Task) → Did tool words clock dice a b fault → Asks tool words repos task → Does repos task clock dice a b fault
-  task_done tool words repos task (inl (r, t, asks, does)) also =
+  task_done tool words repos task (inl (r, t, asks, does, others)) also =
       let same = one_task tool words r repos t task asks also in
       subst (λ (p : List ℕ). Does p task clock dice a b fault) same.0 (subst (λ (k : Task). Does r k clock dice a b fault) same.1 does)
   task_done tool words repos task (inr (why, is, refuses, kept)) asks =

@@ -4,6 +4,7 @@ use Rattle.std.specs.Prelude.{Result}
 use Rattle.fsfs_base.specs.Failures.{added_count}
 use Rattle.fsfs_workers.specs.Lines.{RoseBy}
 use Rattle.fsfs_cli.specs.declared.faults.fault.Fault.{Fault}
+use Rattle.fsfs_cli.specs.declared.request.JobRun.{JobRun}
 use Rattle.fsfs_workers.specs.Runs.{RunScene}
 use Rattle.fsfs_workers.proofs.RunLemmas.{runs_weaker, opens_weaker}
 use Rattle.fsfs_workers.specs.ByWorkers.{RunsBeside, NotOpened, NotRead, NoRoom, Done, Lost, scene_where}
@@ -21,6 +22,6 @@ module _ (known : Bool) (moment before after old new : ℕ) (none : before ≡ 0
   beside_by_host workers a b _ (Done o js answers youngest result opens read ends each rose failed ran printed) = Done o js answers youngest result opens read ends each (by_host _ before after old new none is rose) (on _ failed) ran printed
   beside_by_host workers a b _ (Lost unknown unwritten same) = Lost unknown unwritten same
 
-  pub run_by_host : (a b : RunScene) (workers : ℕ) (ended : Result ℕ Fault) → RunsBy workers known moment before after B a b ended → RunsBy workers known moment old new C a b ended
-  run_by_host a b workers ended (inl (one, ran)) = inl (one, runs_weaker B C moment before after old new a b ended (λ n. by_host n before after old new none is) on ran)
-  run_by_host a b workers ended (inr (two, ran)) = inr (two, beside_by_host 2 (scene_where known a) (scene_where known b) ended ran)
+  pub run_by_host : (a b : RunScene) (run : JobRun) (ended : Result ℕ Fault) → RunsBy run known moment before after B a b ended → RunsBy run known moment old new C a b ended
+  run_by_host a b run ended (inl (one, ran)) = inl (one, runs_weaker B C moment before after old new a b ended (λ n. by_host n before after old new none is) on ran)
+  run_by_host a b run ended (inr (two, ran)) = inr (two, beside_by_host 2 (scene_where known a) (scene_where known b) ended ran)

@@ -15,6 +15,7 @@ use Rattle.fsfs_layout.specs.CreatedFiles.{identifier_text, random_identifier}
 use Rattle.fsfs_create.specs.Creation.{CreateFails, IsCreated, IsNoneOrWhole, IsNoRepository, IsUnpublished}
 use Rattle.fsfs_create.specs.NewStore.{IsNewStore}
 use Rattle.fsfs_base.specs.declared.places.create_fault.CreateFault.{CreateFault}
+use Rattle.fsfs_cli.specs.Requests.{paths_of}
 use Rattle.fsfs_cli.specs.Words.{asked}
 use Rattle.fsfs_cli.specs.Readings.{Asks, Refuses}
 use Rattle.fsfs_cli.specs.declared.faults.words_fault.WordsFault.{WordsFault}
@@ -23,7 +24,7 @@ use Rattle.fsfs_cli.specs.declared.request.Task.TheVariants.{Create, ListTxns, R
 use Rattle.fsfs_cli.specs.declared.tool.Tool.{Tool}
 use Rattle.fsfs_top.specs.Looks.{PrintsLook, LookIsDecided}
 use Rattle.fsfs_top.specs.Transactions.{OpeningIsDecided, ListsTxns, RemovesTxns}
-use Rattle.fsfs_top.specs.Scenes.{HostScene, SinkScene, Scene}
+use Rattle.fsfs_top.specs.Scenes.{HostScene, SinkScene, Scene, OthersStay}
 
 -- ---- a creation
 
@@ -56,23 +57,23 @@ IsNoneOrStore clock m = IsUnpublished m ⊎ ((moment : ℕ) × IfSome clock (λ 
 
 -- ---- a command
 
--- What is done of a task at a path between two moments, by its fault or none: a row for each task of the programs that have commands. (What svnjobs
--- does is `DidJobs`.)
+-- What is done of a task at a path between two moments, by its fault or none: a row for each task of the programs that have commands. None of these
+-- reads the input. (What svnjobs does is `DidJobs`.)
 abbrev pub Does : List ℕ → Task → Option ℕ → Option (List ℕ) → Scene → Scene → Option Fault → Type 0
-Does repos (Create shard) clock dice a b fault = Created repos shard clock dice a.host b.host fault × (b.out ≡ a.out)
-Does repos ListTxns clock dice a b fault = ListsTxns repos a b fault × OpeningIsDecided (a.host.disk_at repos) fault
-Does repos (RemoveTxns txns) clock dice a b fault = RemovesTxns repos txns a.host b.host fault × OpeningIsDecided (a.host.disk_at repos) fault × (b.out ≡ a.out)
-Does repos (Look look) clock dice a b fault = PrintsLook repos look a b fault × LookIsDecided look (a.host.disk_at repos) fault
-Does repos (RunJobs workers) clock dice a b fault = Unit {0}
+Does repos (Create shard) clock dice a b fault = Created repos shard clock dice a.host b.host fault × (b.out ≡ a.out) × (b.input ≡ a.input)
+Does repos ListTxns clock dice a b fault = ListsTxns repos a b fault × OpeningIsDecided (a.host.disk_at repos) fault × (b.input ≡ a.input)
+Does repos (RemoveTxns txns) clock dice a b fault = RemovesTxns repos txns a.host b.host fault × OpeningIsDecided (a.host.disk_at repos) fault × (b.out ≡ a.out) × (b.input ≡ a.input)
+Does repos (Look look) clock dice a b fault = PrintsLook repos look a b fault × LookIsDecided look (a.host.disk_at repos) fault × (b.input ≡ a.input)
+Does repos (RunJobs run) clock dice a b fault = Unit {0}
 
 -- the words are refused, and nothing is done
 abbrev pub RefusesWords : Tool → List (List ℕ) → Scene → Scene → Option Fault → Type 0
 RefusesWords tool words a b fault = (why : WordsFault) × (fault ≡ Some (fault_from_words why)) × Refuses (asked tool words) why × (b ≡ a)
 
--- What a command did, by its fault or none: the task that its words ask for, or nothing where they are refused.
+-- What a command did, by its fault or none: the task that its words ask for, at the paths of that task alone; or nothing where they are refused.
 abbrev pub Did : Tool → List (List ℕ) → Option ℕ → Option (List ℕ) → Scene → Scene → Option Fault → Type 0
 Did tool words clock dice a b fault =
-    ((repos : List ℕ) × (task : Task) × Asks tool words repos task × Does repos task clock dice a b fault) ⊎ RefusesWords tool words a b fault
+    ((repos : List ℕ) × (task : Task) × Asks tool words repos task × Does repos task clock dice a b fault × OthersStay (paths_of repos task) a.host b.host) ⊎ RefusesWords tool words a b fault
 
 -- the fault of a run, or none
 abbrev pub fault_of : Result (Unit {0}) Fault → Option Fault

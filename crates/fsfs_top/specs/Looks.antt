@@ -4,6 +4,7 @@ use Rattle.fsfs_base.specs.Failures.{Rose}
 use Rattle.fsfs_base.specs.Files.{Files}
 use Rattle.fsfs_base.specs.Paths.{Path}
 use Rattle.fsfs_revision.specs.Told.{RevisionBytes, Telling, Knows}
+use Rattle.fsfs_revision.specs.RevProps.{MayRead, ReadsOnly, only}
 use Rattle.fsfs_disk.specs.Trace.{Trace, files_now}
 use Rattle.fsfs_base.specs.Streams.{Adds}
 use Rattle.fsfs_base.specs.Output.{AddsFront}
@@ -70,18 +71,18 @@ pub record AllBytes : Type 0 where
 abbrev pub all_bytes : Layout → Files → AllBytes
 all_bytes layout files = record { revs = rev_bytes layout files; props = props_bytes layout files }
 
--- all of them is what is told of the revisions up to top
-abbrev pub KnowsAll : {Below : Type 0} → Telling Below → ℕ → AllBytes → Type 0
-KnowsAll told top bytes = Knows told.revs top bytes.revs × Knows told.props top bytes.props
+-- all of them is what is told, and may be read, of the revisions up to top
+abbrev pub KnowsAll : {Below : Type 0} → Telling Below → MayRead → ℕ → AllBytes → Type 0
+KnowsAll told may top bytes = Knows told.revs top bytes.revs × ReadsOnly may top bytes.props
 
 -- what is printed of a revision, as a reading of the bytes
 abbrev pub TextOf : Printed → AllBytes → ℕ → List ℕ → End → Type 0
 TextOf (Tree show_ids path) bytes rev = TreeText bytes.revs rev path show_ids
 TextOf (Text path) bytes rev = FileText bytes.revs rev path
-TextOf Author bytes rev = AuthorText bytes.props rev
-TextOf Date bytes rev = DateText bytes.props rev
-TextOf Log bytes rev = LogText bytes.props rev
-TextOf Info bytes rev = InfoText bytes.props rev
+TextOf Author bytes rev = AuthorText (only bytes.props) rev
+TextOf Date bytes rev = DateText (only bytes.props) rev
+TextOf Log bytes rev = LogText (only bytes.props) rev
+TextOf Info bytes rev = InfoText (only bytes.props) rev
 TextOf Changed bytes rev = ChangedText bytes.revs rev
 TextOf (History path) bytes rev = HistoryText bytes.revs rev path
 

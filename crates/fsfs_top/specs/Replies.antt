@@ -78,7 +78,7 @@ answer_to (RemoveTxns txns) shown r = RemovalAnswer txns (option_map (λ (x : Re
 answer_to (Look Youngest) shown r = Answer model.Youngest (option_map (λ (x : Repository). x.history) r)
 answer_to (Look Uuid) shown r = UuidAnswer (option_map (λ (x : Repository). x.identifier) r)
 answer_to (Look (AtRevision look)) shown r = Answer (look_command look.revision look.printed shown) (option_map (λ (x : Repository). x.history) r)
-answer_to (RunJobs workers) shown r = prints []
+answer_to (RunJobs run) shown r = prints []
 
 -- there is no repository: to a creation where there is no `db/format`, to all others also where it is of another type
 abbrev pub HasNone : Task → Files → Type 0
@@ -86,7 +86,7 @@ HasNone (Create shard) files = IsUnpublished files
 HasNone ListTxns files = IsNone (small_texts files)
 HasNone (RemoveTxns txns) files = IsNone (small_texts files)
 HasNone (Look look) files = IsNone (small_texts files)
-HasNone (RunJobs workers) files = ⊥
+HasNone (RunJobs run) files = ⊥
 
 -- what is shown are the ids of the node-revisions at the paths, or nothing
 abbrev pub ShowsIds : Printed → RevisionBytes → ℕ → (Path → List ℕ) → Type 0
@@ -106,7 +106,7 @@ AreIds (RemoveTxns txns) bytes h shown = Unit {0}
 AreIds (Look Youngest) bytes h shown = Unit {0}
 AreIds (Look Uuid) bytes h shown = Unit {0}
 AreIds (Look (AtRevision look)) bytes h shown = ShowsIds look.printed bytes (asked_revision look.revision h) shown
-AreIds (RunJobs workers) bytes h shown = ⊥
+AreIds (RunJobs run) bytes h shown = ⊥
 
 -- what a task is answered by of the transactions that are there: a listing by their names in order, a removal by the transactions
 abbrev pub HasTxns : Task → List Label → List (List ℕ) → List (ℕ × ℕ) → Type 0
@@ -114,7 +114,7 @@ HasTxns (Create shard) labels names txns = Unit {0}
 HasTxns ListTxns labels names txns = AreTxns labels names
 HasTxns (RemoveTxns given) labels names txns = txns ≡ txns_of labels
 HasTxns (Look look) labels names txns = Unit {0}
-HasTxns (RunJobs workers) labels names txns = ⊥
+HasTxns (RunJobs run) labels names txns = ⊥
 
 -- the task is answered by the small files, and by the transactions, alone
 abbrev pub IsOfSmallFiles : Task → Type 0
@@ -124,7 +124,7 @@ IsOfSmallFiles (RemoveTxns txns) = Unit {0}
 IsOfSmallFiles (Look Youngest) = Unit {0}
 IsOfSmallFiles (Look Uuid) = Unit {0}
 IsOfSmallFiles (Look (AtRevision look)) = ⊥
-IsOfSmallFiles (RunJobs workers) = ⊥
+IsOfSmallFiles (RunJobs run) = ⊥
 
 -- The replies to what the words ask for, of the files that the disks of paths have. (The files of a new repository stand for the history of revision 0:
 -- that is the law `new_repositories_stand`.)

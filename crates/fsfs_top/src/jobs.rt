@@ -1,6 +1,7 @@
 // The run of a job script.
 ghost use Rattle.std.specs.Prelude.{◌≡◌, ◌≢◌, ◌≤◌, ℕ, List, map, string_bytes, true, IsTrue};
 ghost use Rattle.fsfs_cli.specs.Readings.{Asks};
+ghost use Rattle.fsfs_cli.specs.declared.request.JobRun.{JobRun};
 ghost use Rattle.fsfs_cli.specs.declared.request.Task.TheVariants.{RunJobs};
 ghost use Rattle.fsfs_cli.specs.declared.tool.Tool.TheVariants.{Jobs};
 ghost use Rattle.fsfs_turn.specs.Mountings.{RoseBy};
@@ -9,7 +10,7 @@ ghost use Rattle.fsfs_top.specs.Scenes.{scene, source_scene};
 ghost use Rattle.fsfs_top.specs.Scripts.{DidJobs, HasHistory, RunIsDecided, RunsAt, RunsBy};
 
 use fsfs_base::{Clock, Gate, Sink, Source};
-use fsfs_cli::{Fault, OutsideFault, Task, Tool, read_words};
+use fsfs_cli::{Fault, JobRun, OutsideFault, Task, Tool, read_words};
 use fsfs_disk::{Access, Disk, Host};
 use fsfs_workers::{run_script, run_script_by_two};
 use std::alloc::Global;
@@ -21,7 +22,7 @@ fn run_on<T: Threads + Wait + Sync, D: Disk + Drop + Send, I: Source, O: Sink, G
     rt: &T,
     alloc: Global,
     disk: D,
-    workers: u32,
+    job_run: &JobRun,
     input: &mut I,
     micros: u64,
     out: &mut O,
@@ -31,14 +32,14 @@ fn run_on<T: Threads + Wait + Sync, D: Disk + Drop + Send, I: Source, O: Sink, G
 where
     D::Bench: Send,
     requires right { IsTrue (D.may_write disk) }
-    requires workers { (1 ≤ workers) × (workers ≤ 2) }
+    requires workers { (1 ≤ job_run.now.workers) × (job_run.now.workers ≤ 2) }
     requires moment { micros ≤ 4102444799999999 }
     requires knows { known ≡ true → HasHistory (D.trace disk) }
-    ensures ran { RunsBy workers known micros (D.faults disk) (D.faults result.0) (λ n. RoseBy n 0 (D.bench_faults result.0)) (run_scene (D.trace disk) (I.remaining input.old) (I.faults input.old) (O.written out.old) (O.faults out.old))
+    ensures ran { RunsBy job_run.now known micros (D.faults disk) (D.faults result.0) (λ n. RoseBy n 0 (D.bench_faults result.0)) (run_scene (D.trace disk) (I.remaining input.old) (I.faults input.old) (O.written out.old) (O.faults out.old))
         (run_scene (D.trace result.0) (I.remaining input.new) (I.faults input.new) (O.written out.new) (O.faults out.new)) result.1 }
     ensures mounted { D.mount_path result.0 ≡ D.mount_path disk }
 {
-    if workers == 1 {
+    if job_run.workers == 1 {
         run_script(alloc, disk, input, micros, out, gate)
     } else {
         run_script_by_two(rt, alloc, disk, input, micros, out, gate, known)
@@ -50,7 +51,7 @@ fn run_at<T: Threads + Wait + Sync, H: Host, I: Source, O: Sink, C: Clock, G: Ga
     rt: &T,
     alloc: Global,
     repos: &str,
-    workers: u32,
+    job_run: &JobRun,
     host: &mut H,
     input: &mut I,
     out: &mut O,
@@ -61,10 +62,10 @@ fn run_at<T: Threads + Wait + Sync, H: Host, I: Source, O: Sink, C: Clock, G: Ga
 where
     H::Mounted: Drop + Send,
     <H::Mounted as Disk>::Bench: Send,
-    requires workers { (1 ≤ workers) × (workers ≤ 2) }
+    requires workers { (1 ≤ job_run.now.workers) × (job_run.now.workers ≤ 2) }
     requires knows { known ≡ true → HasHistory (H.disk_at host.old repos.now) }
-    ensures ran { RunsAt repos.now workers known (C.next clock.old) (scene H.Host O.Sink host.old out.old) (source_scene I.Source input.old) (scene H.Host O.Sink host.new out.new) (source_scene I.Source input.new) result }
-    ensures decided { RunIsDecided workers known (H.disk_at host.old repos.now) result }
+    ensures ran { RunsAt repos.now job_run.now known (C.next clock.old) (scene H.Host O.Sink host.old out.old (source_scene I.Source input.old)) (scene H.Host O.Sink host.new out.new (source_scene I.Source input.new)) result }
+    ensures decided { RunIsDecided job_run.now known (H.disk_at host.old repos.now) result }
     ensures others { (path : List ℕ) → path ≢ repos.now → H.disk_at host.new path ≡ H.disk_at host.old path }
 {
     let disk = match host.mount(repos, Access::Write) {
@@ -72,7 +73,7 @@ where
         Err(_) => return Err(Fault::Outside(OutsideFault::Mount)),
     };
     let micros = clock.micros();
-    let (disk, ran) = run_on(rt, alloc, disk, workers, input, micros, out, gate, known);
+    let (disk, ran) = run_on(rt, alloc, disk, job_run, input, micros, out, gate, known);
     host.unmount(disk);
     ran
 }
@@ -99,26 +100,27 @@ pub(crate) fn run_jobs<
 where
     H::Mounted: Drop + Send,
     <H::Mounted as Disk>::Bench: Send,
-    requires knows { known ≡ true → (repos : List ℕ) (workers : ℕ) → Asks Jobs (map string_bytes words.now) repos (RunJobs workers) → HasHistory (H.disk_at host.old repos) }
-    ensures did { DidJobs (map string_bytes words.now) known (C.next clock.old) (scene H.Host O.Sink host.old out.old) (source_scene I.Source input.old) (scene H.Host O.Sink host.new out.new) (source_scene I.Source input.new) result }
+    requires knows { known ≡ true → (repos : List ℕ) (run : JobRun) → Asks Jobs (map string_bytes words.now) repos (RunJobs run) → HasHistory (H.disk_at host.old repos) }
+    ensures did { DidJobs (map string_bytes words.now) known (C.next clock.old) (scene H.Host O.Sink host.old out.old (source_scene I.Source input.old)) (scene H.Host O.Sink host.new out.new (source_scene I.Source input.new)) result }
 {
     let request = read_words(alloc, Tool::Jobs, words)?;
-    match &request.task {
-        Task::RunJobs { workers } => run_at(
-            rt,
-            alloc,
-            request.repos,
-            *workers,
-            host,
-            input,
-            out,
-            clock,
-            gate,
-            known,
-        ),
+    let job_run = match &request.task {
+        Task::RunJobs(job_run) => job_run,
         // Other programs do these.
         Task::Create { .. } | Task::ListTxns | Task::RemoveTxns { .. } | Task::Look(_) => {
             unreachable!()
         }
-    }
+    };
+    run_at(
+        rt,
+        alloc,
+        request.repos,
+        job_run,
+        host,
+        input,
+        out,
+        clock,
+        gate,
+        known,
+    )
 }

@@ -12,7 +12,7 @@ ghost use Rattle.fsfs_top.specs.Command.{fault_of};
 ghost use Rattle.fsfs_cli.specs.Requests.{printed_path};
 ghost use Rattle.fsfs_cli.specs.declared.request.Look.TheVariants.{AtRevision};
 ghost use Rattle.fsfs_top.specs.Looks.{AllBytes, KnowsAll, TextOf, LacksRevision, LooksInto, PrintsLook, LookIsDecided, looked_revision, IsFaultAt};
-ghost use Rattle.fsfs_top.specs.Scenes.{scene, sink_scene};
+ghost use Rattle.fsfs_top.specs.Scenes.{SourceScene, scene, sink_scene};
 
 use crate::output::{line_fault, print_revision, print_uuid};
 use fsfs_base::{DiskPlace, FsPath, RevNum, Sink};
@@ -23,7 +23,7 @@ use fsfs_fetch::{disk_of, over_disk};
 use fsfs_history::{changed_text, history_text};
 use fsfs_layout::Opened;
 use fsfs_look::{LookError, author, cat, date, info, log, tree_text};
-use fsfs_revision::Book;
+use fsfs_revision::RevProps;
 use fsfs_stands::LookFault;
 use std::alloc::Global;
 
@@ -56,14 +56,14 @@ fn revision_of(look: &RevisionLook, opened: &Opened) -> Result<RevNum, Fault>
 }
 
 // Prints of a revision what is looked at.
-fn print_look<B: Book, O: Sink>(
+fn print_look<B: RevProps, O: Sink>(
     alloc: Global,
     book: &mut B,
     rev: RevNum,
     printed: &Printed,
     out: &mut O,
 ) -> Result<(), LookError>
-    ensures told { (bytes : AllBytes) → KnowsAll (B.told book.old) rev bytes → Writes (TextOf printed.now bytes rev) (O.written out.old) (O.written out.new) result }
+    ensures told { (bytes : AllBytes) → KnowsAll (B.told book.old) (B.may_read book.old) rev bytes → Writes (TextOf printed.now bytes rev) (O.written out.old) (O.written out.new) result }
     ensures kept { Keeps (B.told book.old) (B.told book.new) }
     ensures cause { HasDiskCause (B.faults book.old) (B.faults book.new) result }
     ensures sink { HasSinkCause (O.faults out.old) (O.faults out.new) result }
@@ -164,7 +164,7 @@ pub(crate) fn look_at<H: Host, O: Sink>(
     host: &mut H,
     out: &mut O,
 ) -> Result<(), Fault>
-    ensures printed { PrintsLook repos.now look.now (scene H.Host O.Sink host.old out.old) (scene H.Host O.Sink host.new out.new) (fault_of result) }
+    ensures printed { (input : SourceScene) → PrintsLook repos.now look.now (scene H.Host O.Sink host.old out.old input) (scene H.Host O.Sink host.new out.new input) (fault_of result) }
     ensures decided { LookIsDecided look.now (H.disk_at host.old repos.now) (fault_of result) }
     ensures same { option_map files_now (H.disk_at host.new repos.now) ≡ option_map files_now (H.disk_at host.old repos.now) }
     // All that it does to the disk is to make the names firm.

@@ -5,14 +5,15 @@ ghost use Rattle.fsfs_disk.specs.Trace.{Trace, files_now};
 ghost use Rattle.fsfs_disk.specs.Crash.{AllImages, IsFirm, Leaves};
 ghost use Rattle.fsfs_disk.specs.Transactions.Removals.{HasSameLabels};
 ghost use Rattle.fsfs_create.specs.Creation.{IsUnpublished, HasRepository};
-ghost use Rattle.fsfs_cli.specs.Readings.{Asks};
+ghost use Rattle.fsfs_cli.specs.Readings.{Asks, IsUnnamed};
+ghost use Rattle.fsfs_cli.specs.declared.request.JobRun.{JobRun};
 ghost use Rattle.fsfs_cli.specs.declared.request.Task.TheVariants.{Create, RemoveTxns, RunJobs};
 ghost use Rattle.fsfs_cli.specs.declared.tool.Tool.TheVariants.{Jobs};
 ghost use Rattle.fsfs_cli.specs.Lines.{status_of};
 ghost use Rattle.fsfs_top.specs.Scripts.{DidJobs, HasHistory, ListsNoOther, ended_fault, ended_status};
 ghost use Rattle.fsfs_top.specs.Command.{Created, Did, IsNoneOrStore, LeavesNoneOrCreated, Tells, answer_of, fault_of};
 ghost use Rattle.fsfs_top.specs.Replies.{Replies, Gives, MadeStands};
-ghost use Rattle.fsfs_top.specs.Scenes.{host_scene, sink_scene, source_scene, scene};
+ghost use Rattle.fsfs_top.specs.Scenes.{SourceScene, host_scene, sink_scene, source_scene, scene};
 ghost use Rattle.fsfs_top.specs.Transactions.{LeavesRemoval};
 ghost use Rattle.fsfs_cli.specs.declared.faults.fault.Fault.{Fault};
 
@@ -72,12 +73,12 @@ fn run<H: Host, O: Sink, C: Clock, R: Dice>(
     dice: &mut R,
 ) -> Result<(), Fault>
     requires { tool ≢ Jobs }
-    ensures did { Did tool (map string_bytes words.now) (C.next clock.old) (R.next dice.old) (scene H.Host O.Sink host.old out.old) (scene H.Host O.Sink host.new out.new) (fault_of result) }
+    ensures did { (input : SourceScene) → Did tool (map string_bytes words.now) (C.next clock.old) (R.next dice.old) (scene H.Host O.Sink host.old out.old input) (scene H.Host O.Sink host.new out.new input) (fault_of result) }
     ensures there_same { (repos : List ℕ) (shard : ℕ) (t : Trace) → Asks tool (map string_bytes words.now) repos (Create shard)
         → H.disk_at host.old repos ≡ Some t → HasRepository t → H.disk_at host.new repos ≡ H.disk_at host.old repos }
     ensures any_moment { (repos : List ℕ) (shard : ℕ) → Asks tool (map string_bytes words.now) repos (Create shard) → AllImages (H.disk_at host.old repos) IsUnpublished
         → LeavesNoneOrCreated shard (C.next clock.old) (R.next dice.old) (H.disk_at host.old repos) (H.disk_at host.new repos) }
-    ensures others { (path : List ℕ) → ((shard : ℕ) → Asks tool (map string_bytes words.now) path (Create shard) → ⊥)
+    ensures files { (path : List ℕ) → ((shard : ℕ) → Asks tool (map string_bytes words.now) path (Create shard) → ⊥)
         → option_map files_now (H.disk_at host.new path) ≡ option_map files_now (H.disk_at host.old path) }
     ensures firm { (repos : List ℕ) (shard : ℕ) → Asks tool (map string_bytes words.now) repos (Create shard) → OnOk result (IsFirm (H.disk_at host.new repos)) }
     ensures removal { (repos : List ℕ) (txns : List (ℕ × ℕ)) → Asks tool (map string_bytes words.now) repos (RemoveTxns txns) → LeavesRemoval (H.disk_at host.old repos) (H.disk_at host.new repos) }
@@ -91,7 +92,7 @@ fn run<H: Host, O: Sink, C: Clock, R: Dice>(
         Task::RemoveTxns { names } => remove_at(alloc, request.repos, names, host),
         Task::Look(look) => look_at(alloc, request.repos, look, host, out),
         // It is svnjobs' own.
-        Task::RunJobs { .. } => unreachable!(),
+        Task::RunJobs(_) => unreachable!(),
     }
 }
 
@@ -116,13 +117,13 @@ fn do_command<H: Host, O: Sink, E: Sink, C: Clock, R: Dice>(
     dice: &mut R,
 ) -> u8
     requires { tool ≢ Jobs }
-    // One fault or none, to which belong the status, the line, and what was done and printed.
+    // One fault or none, to which belong the status, the line, and what was done and printed; whatever the input is, it isn't read.
     ensures answer { (fault : Option Fault) × (result ≡ answer_of fault) × Tells tool (sink_scene E.Sink err.old) (sink_scene E.Sink err.new) fault
-        × Did tool (map string_bytes words.now) (C.next clock.old) (R.next dice.old) (scene H.Host O.Sink host.old out.old) (scene H.Host O.Sink host.new out.new) fault }
+        × ((input : SourceScene) → Did tool (map string_bytes words.now) (C.next clock.old) (R.next dice.old) (scene H.Host O.Sink host.old out.old input) (scene H.Host O.Sink host.new out.new input) fault) }
 
     // Commands give the replies of the flat model, of the history that the files stand for.
-    ensures replies { Replies tool (map string_bytes words.now) (H.disk_at host.old)
-        (Gives result (scene H.Host O.Sink host.old out.old) (scene H.Host O.Sink host.new out.new) (sink_scene E.Sink err.old) (sink_scene E.Sink err.new)) }
+    ensures replies { (input : SourceScene) → Replies tool (map string_bytes words.now) (H.disk_at host.old)
+        (Gives result (scene H.Host O.Sink host.old out.old input) (scene H.Host O.Sink host.new out.new input) (sink_scene E.Sink err.old) (sink_scene E.Sink err.new)) }
 
     // A repository that is there stays as it is, whatever a creation answers.
     ensures there_same { (repos : List ℕ) (shard : ℕ) (t : Trace) → Asks tool (map string_bytes words.now) repos (Create shard)
@@ -141,7 +142,7 @@ fn do_command<H: Host, O: Sink, E: Sink, C: Clock, R: Dice>(
     ensures firm { (repos : List ℕ) (shard : ℕ) → Asks tool (map string_bytes words.now) repos (Create shard) → result ≡ 0 → IsFirm (H.disk_at host.new repos) }
 
     // No file changes but at a path at which a repository is to be made.
-    ensures others { (path : List ℕ) → ((shard : ℕ) → Asks tool (map string_bytes words.now) path (Create shard) → ⊥)
+    ensures files { (path : List ℕ) → ((shard : ℕ) → Asks tool (map string_bytes words.now) path (Create shard) → ⊥)
         → option_map files_now (H.disk_at host.new path) ≡ option_map files_now (H.disk_at host.old path) }
 
     // A crash at any moment of a removal of transactions leaves files that one before could have left, and no label that was not kept then.
@@ -188,15 +189,15 @@ pub fn command<
 where
     H::Mounted: Drop + Send,
     <H::Mounted as Disk>::Bench: Send,
-    requires knows { known ≡ true → (repos : List ℕ) (workers : ℕ) → Asks tool (map string_bytes words.now) repos (RunJobs workers) → HasHistory (H.disk_at host.old repos) }
+    requires knows { known ≡ true → (repos : List ℕ) (run : JobRun) → Asks tool (map string_bytes words.now) repos (RunJobs run) → HasHistory (H.disk_at host.old repos) }
 
     // Of svnadmin and svnlook: one fault or none, to which belong the status, the line, and what was done and printed.
     ensures answer { tool ≢ Jobs → (fault : Option Fault) × (result ≡ answer_of fault) × Tells tool (sink_scene E.Sink err.old) (sink_scene E.Sink err.new) fault
-        × Did tool (map string_bytes words.now) (C.next clock.old) (R.next dice.old) (scene H.Host O.Sink host.old out.old) (scene H.Host O.Sink host.new out.new) fault }
+        × Did tool (map string_bytes words.now) (C.next clock.old) (R.next dice.old) (scene H.Host O.Sink host.old out.old (source_scene I.Source input.old)) (scene H.Host O.Sink host.new out.new (source_scene I.Source input.new)) fault }
 
     // Commands give the replies of the flat model, of the history that the files stand for.
     ensures replies { tool ≢ Jobs → Replies tool (map string_bytes words.now) (H.disk_at host.old)
-        (Gives result (scene H.Host O.Sink host.old out.old) (scene H.Host O.Sink host.new out.new) (sink_scene E.Sink err.old) (sink_scene E.Sink err.new)) }
+        (Gives result (scene H.Host O.Sink host.old out.old (source_scene I.Source input.old)) (scene H.Host O.Sink host.new out.new (source_scene I.Source input.new)) (sink_scene E.Sink err.old) (sink_scene E.Sink err.new)) }
 
     // A repository that is there stays as it is, whatever a creation answers.
     ensures there_same { (repos : List ℕ) (shard : ℕ) (t : Trace) → Asks tool (map string_bytes words.now) repos (Create shard)
@@ -214,8 +215,11 @@ where
     ensures made { result ≡ 0 → MadeStands tool (map string_bytes words.now) (C.next clock.old) (H.disk_at host.new) }
     ensures firm { (repos : List ℕ) (shard : ℕ) → Asks tool (map string_bytes words.now) repos (Create shard) → result ≡ 0 → IsFirm (H.disk_at host.new repos) }
 
+    // The disk of a path that no task of these words touches stays as it is.
+    ensures others { (path : List ℕ) → IsUnnamed tool (map string_bytes words.now) path → H.disk_at host.new path ≡ H.disk_at host.old path }
+
     // No file changes but at a path at which a repository is to be made.
-    ensures others { tool ≢ Jobs → (path : List ℕ) → ((shard : ℕ) → Asks tool (map string_bytes words.now) path (Create shard) → ⊥)
+    ensures files { tool ≢ Jobs → (path : List ℕ) → ((shard : ℕ) → Asks tool (map string_bytes words.now) path (Create shard) → ⊥)
         → option_map files_now (H.disk_at host.new path) ≡ option_map files_now (H.disk_at host.old path) }
 
     // A crash at any moment of a removal of transactions leaves files that one before could have left, and no label that was not kept then.
@@ -227,10 +231,10 @@ where
 
     // Of svnjobs: what became of the script in the input, to which belong the status and the line about a fault. Why a repository is not opened the files decide.
     ensures jobs { tool ≡ Jobs → (ended : Result ℕ Fault) × (result ≡ ended_status ended) × Tells tool (sink_scene E.Sink err.old) (sink_scene E.Sink err.new) (ended_fault ended)
-        × DidJobs (map string_bytes words.now) known (C.next clock.old) (scene H.Host O.Sink host.old out.old) (source_scene I.Source input.old) (scene H.Host O.Sink host.new out.new) (source_scene I.Source input.new) ended }
+        × DidJobs (map string_bytes words.now) known (C.next clock.old) (scene H.Host O.Sink host.old out.old (source_scene I.Source input.old)) (scene H.Host O.Sink host.new out.new (source_scene I.Source input.new)) ended }
 
     // Whatever the disks hold, a run of svnjobs by one worker leaves no transaction listed that was not before it, unless a call of the disk failed.
-    ensures listed { tool ≡ Jobs → ((repos : List ℕ) (workers : ℕ) → Asks tool (map string_bytes words.now) repos (RunJobs workers) → workers ≡ 1)
+    ensures listed { tool ≡ Jobs → ((repos : List ℕ) (run : JobRun) → Asks tool (map string_bytes words.now) repos (RunJobs run) → run.workers ≡ 1)
         → (path : List ℕ) → ListsNoOther (H.disk_at host.old path) (H.disk_at host.new path) ⊎ Rose (H.disk_faults host.old) (H.disk_faults host.new) }
 
     ensures unread { tool ≢ Jobs → I.remaining input.new ≡ I.remaining input.old }

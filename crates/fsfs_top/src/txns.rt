@@ -5,7 +5,7 @@ ghost use Rattle.fsfs_disk.specs.Trace.{FirmNames, files_now, FailsAt};
 ghost use Rattle.fsfs_disk.specs.Crash.{AreAll, Leaves, LeavesBoth};
 ghost use Rattle.fsfs_disk.specs.Transactions.Removals.{IsImageOf, WasKept};
 ghost use Rattle.fsfs_top.specs.Command.{fault_of};
-ghost use Rattle.fsfs_top.specs.Scenes.{host_scene, scene, sink_scene};
+ghost use Rattle.fsfs_top.specs.Scenes.{SourceScene, host_scene, scene, sink_scene};
 ghost use Rattle.fsfs_top.specs.Transactions.{Lists, ListsOpened, ListsTxns, OpeningIsDecided, RemovesOpened, RemovesTxns, removal_fault};
 
 use crate::output::{line_fault, print_txns};
@@ -50,7 +50,7 @@ pub(crate) fn list_at<H: Host, O: Sink>(
     host: &mut H,
     out: &mut O,
 ) -> Result<(), Fault>
-    ensures listed { ListsTxns repos.now (scene H.Host O.Sink host.old out.old) (scene H.Host O.Sink host.new out.new) (fault_of result) }
+    ensures listed { (input : SourceScene) → ListsTxns repos.now (scene H.Host O.Sink host.old out.old input) (scene H.Host O.Sink host.new out.new input) (fault_of result) }
     ensures decided { OpeningIsDecided (H.disk_at host.old repos.now) (fault_of result) }
     // All that it does to the disk is to make the names firm.
     ensures ended { FailsAt FirmNames (H.disk_at host.old repos.now) (H.disk_at host.new repos.now) }

@@ -9,6 +9,7 @@ use Rattle.fsfs_disk.specs.Trace as real
 use Rattle.fsfs_base.specs.Files.{Files}
 use Rattle.fsfs_tree.specs.Dated.{date_name}
 use Rattle.fsfs_layout.specs.Hash.Dump.{IsDump}
+use Rattle.fsfs_layout.specs.Layouts.{shard_size}
 use Rattle.fsfs_layout.specs.CreatedFiles.{format_text, date_properties}
 use Rattle.fsfs_base.specs.FirstRevision.{first_bytes}
 use Rattle.fsfs_stands.specs.History.{ShowsHistory}
@@ -87,14 +88,14 @@ module _ (first : Files) (labels : List Label) (before : List Operation) (date :
     | true ↦ λ e.
         let same : 0 ≡ r = grind (arith, e) in
         subst (λ k. AtName (Rev k) (get (files_after first before) (machine_name new.layout (Rev k))) (Some (file_of (new_revision date)))) same
-        (subst (λ o. AtName (Rev 0) o (Some (file_of (new_revision date)))) (sym (ap (get (files_after first before)) (first_name (codes "db/revs") new.layout) ∙ new.new.1.1.1.1.1.1.1.1.0)) refl)
+        (subst (λ o. AtName (Rev 0) o (Some (file_of (new_revision date)))) (sym (ap (get (files_after first before)) (first_name (codes "db/revs") new.layout new.packs.sharded) ∙ new.new.1.1.1.1.1.1.1.1.0)) refl)
     | false ↦ λ e. at_none (Rev r) (get (files_after first before) (machine_name new.layout (Rev r)))
   ] refl)
   read (Props r) fits = elim (0 == r) as (λ b. (0 == r) ≡ b → AtName (Props r) (get (files_after first before) (machine_name new.layout (Props r))) (cond b (Some (PropsFile ((date_name, date) ∷ []))) None)) [
     | true ↦ λ e.
         let same : 0 ≡ r = grind (arith, e) in
         subst (λ k. AtName (Props k) (get (files_after first before) (machine_name new.layout (Props k))) (Some (PropsFile ((date_name, date) ∷ [])))) same
-        (subst (λ o. AtName (Props 0) o (Some (PropsFile ((date_name, date) ∷ [])))) (sym (ap (get (files_after first before)) (first_name (codes "db/revprops") new.layout) ∙ new.new.1.1.1.1.1.1.1.1.1.0)) dump)
+        (subst (λ o. AtName (Props 0) o (Some (PropsFile ((date_name, date) ∷ [])))) (sym (ap (get (files_after first before)) (first_name (codes "db/revprops") new.layout new.packs.sharded) ∙ new.new.1.1.1.1.1.1.1.1.1.0)) dump)
     | false ↦ λ e. at_none (Props r) (get (files_after first before) (machine_name new.layout (Props r)))
   ] refl
 
@@ -106,7 +107,7 @@ module _ (first : Files) (labels : List Label) (before : List Operation) (date :
 
   store : IsStore new.layout 0 None (record { first = first; labels = labels; operations = Done real.FirmNames ∷ before }) world
   unfolding world disk
-  store = record { trace = Opening before disk read; whole = zero-mod new.layout.shard_size; kept = kept_bare world (created_kept world ((date_name, date) ∷ []) first_bytes refl); shown = all_show; coming = tt; young_is = refl; stuck_is = refl }
+  store = record { trace = Opening before disk read; whole = record { packs = new.packs; place = zero-mod (shard_size new.layout) }; kept = kept_bare world (created_kept world ((date_name, date) ∷ []) first_bytes refl); shown = all_show; coming = tt; young_is = refl; stuck_is = refl }
 
   sees : Sees world view
   unfolding world view
@@ -132,7 +133,7 @@ module _ (first : Files) (labels : List Label) (before : List Operation) (date :
   own =
       let s = new_repositories_stand (files_after first before) date new in
       record {
-        format = (format_text new.layout.shard_size, record { there = new.new.1.1.1.1.1.1.1.1.1.1.0; fs_type = ap (λ (o : Option (List ℕ)). unwrap_or o []) new.new.1.0 }, new_format new.layout.shard_size (omega (arith, new.layout.some)) new.layout.most);
+        format = (format_text (shard_size new.layout), record { there = new.new.1.1.1.1.1.1.1.1.1.1.0; fs_type = ap (λ (o : Option (List ℕ)). unwrap_or o []) new.new.1.0 }, new_format new.layout new.packs);
         uuid = (s.opened.uuid, s.small.behind.uuid);
       }
 

@@ -1,5 +1,5 @@
 -- A begin's first call: `txn-current` is read.
-use Rattle.std.proofs.Common.{◌≡◌, ◌<◌, ◌≤◌, ◌+◌, ◌-◌, ◌^◌, ℕ, List, [], ◌++◌, length, true, cond, refl, sym, ap, subst, ◌∙◌, arith, drop}
+use Rattle.std.proofs.Common.{◌≡◌, ◌<◌, ◌≤◌, ◌+◌, ◌-◌, ◌^◌, ℕ, List, [], ◌∷◌, ◌++◌, length, true, cond, inl, inr, refl, sym, ap, subst, ◌∙◌, arith, drop}
 use Rattle.std.specs.Prelude.{Option, Some, IfSome, Result, Ok, Err, IfOk, nat_lt, ◌&&◌, option_map}
 use Rattle.std.specs.FinMap.{get}
 use Rattle.std.proofs.lemmas.List.{take_all}
@@ -19,8 +19,8 @@ use Rattle.fsfs_machine.specs.declared.machine.Went.{Went}
 use Rattle.fsfs_machine.specs.declared.machine.Went.TheVariants.{Fine, Before, After, Torn}
 use Rattle.fsfs_machine.specs.declared.machine.Step.TheVariants as step
 use Rattle.fsfs_machine.specs.Disk.{found}
-use Rattle.fsfs_machine.specs.Machine.{World, did, barred, either, answer, learns, number_of, inside, held_by, drawn, counted, count_read, with_next, stuck_place}
-use Rattle.fsfs_machine.specs.Kept.{Kept, coming, AllBelow}
+use Rattle.fsfs_machine.specs.Machine.{World, did, barred, either, answer, learns, number_of, inside, held_by, drawn, last_name, counted, count_read, with_next, stuck_place}
+use Rattle.fsfs_machine.specs.Kept.{Kept, coming, AllBelow, IsIn}
 use Rattle.fsfs_machine.proofs.Images.{read_is_image}
 use Rattle.fsfs_machine.proofs.Answering.{seen_of}
 use Rattle.fsfs_machine.proofs.Steps.{step_keeps}
@@ -49,19 +49,32 @@ module _ (layout : Layout) (young : ℕ) (stuck : Option DiskPlace) (t : Trace) 
   pub counter : (k : ℕ) × (found w.disk Counter ≡ Some (Number k)) × AllBelow k w.given
   counter = store.kept.counts w.disk (read_is_image w.disk)
 
+  -- of the names that are given, those that the pass knows
+  below_one : (k n : ℕ) (given : List ℕ) → IsIn n given → AllBelow k given → n < k
+  below_one k n [] i below = absurd i
+  below_one k n (g ∷ given) (inl same) below = subst (λ (m : ℕ). m < k) same below.0
+  below_one k n (g ∷ given) (inr more) below = below_one k n given more below.1
+
+  below_all : (names : List ℕ) → ((n : ℕ) → IsIn n names → IsIn n w.given) → AllBelow counter.0 names
+  below_all [] there = tt
+  below_all (n ∷ names) there = (below_one counter.0 n w.given (there n (inl refl)) counter.2, below_all names (λ m i. there m (inr i)))
+
+  below_known : (names : List ℕ) → names ≡ v.given → AllBelow counter.0 names
+  below_known names are = below_all names (λ n i. sees.given n (subst (λ (l : List ℕ). IsIn n l) are i))
+
   abbrev world : Went → World
   world went = count_read (with_txns [] w) v.number base went counter.0
 
   abbrev view : Went → View
   view went = record v { pass = learns (length w.history) (Begin begin.Read) went v.pass; seen = w.history; section = Some (either went (CountRead (drawn_of base counter.0)) Over) }
 
-  happens : counter.0 < 2 ^ 64 - 1 → (went : Went) → did (world went) (answer went) ≡ inside (with_txns [] w) (drawn (with_txns [] w) v.number base went) (held_by v.number w.lock)
+  happens : counter.0 < last_name → (went : Went) → did (world went) (answer went) ≡ inside (with_txns [] w) (drawn (with_txns [] w) v.number base went) (held_by v.number w.lock)
   happens few went =
       let e : nat_lt base (length w.history) ≡ true = grind (arith, base_in) in
-      let f : nat_lt counter.0 (2 ^ 64 - 1) ≡ true = grind (arith, few) in
+      let f : nat_lt counter.0 last_name ≡ true = grind (arith, few) in
       sym (ap (λ o. inside (with_txns [] w) (drawn (with_txns [] w) v.number base went) o) (sees.section ∙ begun)
       ∙ ap (λ c. counted (with_txns [] w) v.number base went (number_of c)) counter.1
-      ∙ ap (λ b. cond (b && nat_lt counter.0 (2 ^ 64 - 1)) (did (world went) (answer went)) (barred (with_txns [] w))) e
+      ∙ ap (λ b. cond (b && nat_lt counter.0 last_name) (did (world went) (answer went)) (barred (with_txns [] w))) e
       ∙ ap (λ b. cond b (did (world went) (answer went)) (barred (with_txns [] w))) f)
 
   doubtless : (went : Went) → doubt_in Begun ≡ doubt_in (either went (CountRead (drawn_of base counter.0)) Over)
@@ -79,7 +92,7 @@ module _ (layout : Layout) (young : ℕ) (stuck : Option DiskPlace) (t : Trace) 
   coming_then After = tt
   coming_then (Torn any) = tt
 
-  pub counter_turns : counter.0 < 2 ^ 64 - 1 → (went : Went) → IsAfter layout young stuck t w v (λ u. CounterRead base counter.0 went v u)
+  pub counter_turns : counter.0 < last_name → (went : Went) → IsAfter layout young stuck t w v (λ u. CounterRead base counter.0 went v u)
   counter_turns few went = record {
     world = world went;
     view = view went;
@@ -92,6 +105,7 @@ module _ (layout : Layout) (young : ℕ) (stuck : Option DiskPlace) (t : Trace) 
       within = λ sure. let up : w.young + 1 ≡ length w.history = store.kept.young sees.up in omega (arith, up, sees.sure sure);
       all = least_in;
       shown = store.shown;
+      above = below_known v.given refl;
     };
     all = refl;
     safe = safe_then;
@@ -124,7 +138,7 @@ module _ (layout : Layout) (young : ℕ) (stuck : Option DiskPlace) (t : Trace) 
       safe_then : Safe layout v.since t v.opened w.floor w.history (doubt (Held v.number (either went (CountRead (drawn_of base counter.0)) Over)))
       safe_then = subst (λ d. Safe layout v.since t v.opened w.floor w.history d) (doubtless went) (subst (λ l. Safe layout v.since t v.opened w.floor w.history (doubt l)) lock safe)
 
-  pub counter_comes : {X E : Type 0} (told : Option Trace) → told ≡ Some t → counter.0 < 2 ^ 64 - 1 → (result : Result X E) → Comes layout young stuck told w v result (λ went u. CounterRead base counter.0 went v u)
+  pub counter_comes : {X E : Type 0} (told : Option Trace) → told ≡ Some t → counter.0 < last_name → (result : Result X E) → Comes layout young stuck told w v result (λ went u. CounterRead base counter.0 went v u)
   counter_comes told same few (Ok o) = (t, Fine, same, refl, counter_turns few Fine)
   counter_comes told same few (Err e) = (t, Before, same, refl, counter_turns few Before)
 
@@ -134,7 +148,7 @@ module _ (layout : Layout) (young : ℕ) (stuck : Option DiskPlace) (t : Trace) 
 
   -- what is read there is its line
   pub counter_reads : {E : Type 0} (knows : View → Type 0) (told : Option Trace) → told ≡ Some t → (name old new : List ℕ) → name ≡ only_name only.TxnCurrent → (result : Result (Option ℕ) E) → IfOk result (IsRead (file_at t name) 0 old new)
-      → (counter.0 < 2 ^ 64 - 1 → (u : View) × (went : Went) × knows u × Answers result went × CounterRead base counter.0 went v u) → knows v → ReadsCounter knows (option_map files_now told) base result old new v
+      → (counter.0 < last_name → (u : View) × (went : Went) × knows u × Answers result went × CounterRead base counter.0 went v u) → knows v → ReadsCounter knows (option_map files_now told) base result old new v
   counter_reads knows told same name old new named result read turned known = record {
     text = counter_file.0;
     number = counter.0;

@@ -66,7 +66,6 @@ follows_less layout more less old new within f = record {
   manifest = f.manifest;
   pack = f.pack;
   own = λ r known. f.own r (within r known);
-  props = λ r known. f.props r (within r known);
 }
 
 files_less : (layout : Layout) (more less : Reach) (old new : Option Files) → ((r : ℕ) → IsKnown less r → IsKnown more r) → FilesLater layout more old new → FilesLater layout less old new
@@ -91,8 +90,5 @@ tells_up_to last first s floor v told seen zero own top = record {
       let x = there_below v.seen r less in
       let one = seen.each r x.0 x.1 in
       own.revs r le (omega (arith, zero)) one.own ∙ ap (λ read. Some read) (one.bytes ∙ sym (ap (λ o. bytes_beside r o) x.1));
-  props = λ r x le at.
-      let one = seen.each r x at in
-      (one.text, own.props r le ∙ ap (λ read. Some read) one.props, one.dump);
   youngest = top;
 }

@@ -12,7 +12,9 @@ use Rattle.fsfs_tree.specs.Revisions.{Revision}
 use Rattle.fsfs_layout.specs.Hash.Dump.{IsDump}
 use Rattle.fsfs_layout.specs.FileNames.{only_name}
 use Rattle.fsfs_layout.specs.Opening.{text_at}
-use Rattle.fsfs_layout.specs.Small.{IsMinUnpackedRev}
+use Rattle.fsfs_layout.specs.Small.{IsMinUnpackedRevIn, IsMinUnpackedRev}
+use Rattle.fsfs_layout.specs.declared.format.Format.{Format}
+use Rattle.fsfs_layout.specs.declared.format.Format.TheVariants.{Four}
 use Rattle.fsfs_layout.specs.declared.layout.Layout.{Layout}
 use Rattle.fsfs_layout.specs.declared.only_file.OnlyFile.TheVariants as only
 use Rattle.fsfs_revision.specs.declared.wrong.Refusal.{Refusal}
@@ -39,7 +41,7 @@ use Rattle.fsfs_machine.specs.declared.machine.Lock.TheVariants.{Free}
 use Rattle.fsfs_machine.specs.declared.machine.Recorded.{Recorded}
 use Rattle.fsfs_machine.specs.Disk.{Disk, found, IsImage}
 use Rattle.fsfs_machine.specs.Machine.{World, file_of, first_pass, revisions}
-use Rattle.fsfs_machine.specs.Kept.{Kept, HasFiles, StandsFor as MachineStands, Stands, FloorIs, CountsOn}
+use Rattle.fsfs_machine.specs.Kept.{Kept, HasFiles, StandsFor as MachineStands, Stands, FloorIs, CountsOn, AllBelow, AreGivenOnce}
 use Rattle.fsfs_machine.proofs.Growing.{revisions_length}
 use Rattle.fsfs_machine.proofs.Images.{each_firm}
 use Rattle.fsfs_images.specs.RealNames.{machine_name}
@@ -48,8 +50,8 @@ use Rattle.fsfs_images.proofs.Showing.{image_read}
 use Rattle.fsfs_turn.specs.Bytes.{bytes_beside, bytes_of, ShowsOne, BytesShow, AllShow}
 use Rattle.fsfs_turn.specs.Alone.{KnowsAlone}
 use Rattle.fsfs_turn.specs.Views.{View, Sees}
-use Rattle.fsfs_turn.specs.Standing.{no_others, IsStore}
-use Rattle.fsfs_turn.specs.Opening.{LeftoversAgree, StoreIsKnown}
+use Rattle.fsfs_turn.specs.Standing.{no_others, IsWhole, IsStore}
+use Rattle.fsfs_turn.specs.Opening.{LeftoversAgree, StoreIsKnown, given_before}
 use Rattle.fsfs_turn.specs.Past.{Safe}
 use Rattle.fsfs_turn.proofs.Beginning.{at_none, ok_is}
 use Rattle.fsfs_turn.proofs.FirstParts.{ids_lower}
@@ -152,6 +154,14 @@ file_there layout f m r bytes floor agreeing e = by_test (nat_lt r f) refl (sym 
     by_test true is e = let less : r < f = grind (arith, is) in packed_agreeing (rev_file layout m r) (packed_bytes layout m r) bytes (agreeing less) e
     by_test false is e = not_missing r (rev_file layout m r) bytes e
 
+all_below : (n : ℕ) → AllBelow n (given_before n)
+all_below zero = tt
+all_below (suc n) = (omega arith, tt)
+
+given_once : (n : ℕ) → AreGivenOnce (given_before n)
+given_once zero = tt
+given_once (suc n) = (tt, tt)
+
 module _ (first : Files) (labels : List Label) (before : List Operation) (h : List Revision) (s : StandsFor (files_after first before) h) (agreeing : LeftoversAgree s) where
   abbrev layout : Layout
   layout = s.opened.layout
@@ -182,6 +192,12 @@ module _ (first : Files) (labels : List Label) (before : List Operation) (h : Li
 
   floor : floor_in layout m ≡ Ok f
   floor = floor_is layout f m floor_text
+
+  floor_parts : IsMinUnpackedRevIn Four layout (text_at m (only_name only.MinUnpackedRev)) f
+  floor_parts = subst (λ (k : Format). IsMinUnpackedRevIn k layout (text_at m (only_name only.MinUnpackedRev)) f) s.small.packs.format floor_text
+
+  whole : IsWhole layout f
+  whole = record { packs = s.small.packs; place = floor_parts.1 }
 
   shows : (r : ℕ) (x : Recorded) → slice_get g r ≡ Some x → ShowsRevision look (props_bytes layout m) r x.revision
   shows r x at = s.history.each r x.revision (at_with look r h x at).revision_is
@@ -248,7 +264,7 @@ module _ (first : Files) (labels : List Label) (before : List Operation) (h : Li
       subst (λ o. AtName Counter o (Some (Number s.opened.next_txn.number))) (sym t.1) t.2
   read CounterNext fits = subst (λ c. AtName CounterNext (get m (machine_name layout CounterNext)) c) (sym (no_counter_next (λ r. r) g)) (at_none CounterNext (get m (machine_name layout CounterNext)))
   read Floor fits =
-      let t = number_there 10 2147483647 10 f (get m (only_name only.MinUnpackedRev)) floor_text.0 in
+      let t = number_there 10 2147483647 10 f (get m (only_name only.MinUnpackedRev)) floor_parts.0 in
       subst (λ o. AtName Floor o (Some (Number f))) (sym t.1) t.2
   read (Rev q) fits = rev_found (λ c. AtName (Rev q) (file_in layout f m (Rev q)) c) (λ r. r) g q
       (λ r x at same. subst (λ z. AtName (Rev z) (file_in layout f m (Rev z)) (Some (file_of x))) same
@@ -285,7 +301,7 @@ module _ (first : Files) (labels : List Label) (before : List Operation) (h : Li
     opening = length g;
     since = [];
     floor = f;
-    given = [];
+    given = given_before s.opened.next_txn.number;
     labels = [];
     named = [];
     txns = [];
@@ -302,8 +318,8 @@ module _ (first : Files) (labels : List Label) (before : List Operation) (h : Li
     stands = each_firm disk (λ e. MachineStands f e g) stands_for;
     floor = (let c = s.count in omega (arith, long, c, s.small.behind.within));
     floors = each_firm disk (FloorIs f) refl;
-    counts = each_firm disk (CountsOn []) (s.opened.next_txn.number, refl, tt);
-    once = tt;
+    counts = each_firm disk (CountsOn (given_before s.opened.next_txn.number)) (s.opened.next_txn.number, refl, all_below s.opened.next_txn.number);
+    once = given_once s.opened.next_txn.number;
     labels = tt;
     named = tt;
     apart = λ n. (omega arith, λ less. absurd (omega (arith, less)));
@@ -315,16 +331,16 @@ module _ (first : Files) (labels : List Label) (before : List Operation) (h : Li
   }
 
   abbrev view : View
-  view = record { layout = layout; since = length before + 1; opened = length g; number = 0; pass = first_pass (length g) f; seen = g; section = None; sure = false; given = [] }
+  view = record { layout = layout; since = length before + 1; opened = length g; number = 0; pass = first_pass (length g) f; seen = g; section = None; sure = false; given = given_before s.opened.next_txn.number }
 
   abbrev trace : Trace
   trace = record { first = first; labels = labels; operations = Done real.FirmNames ∷ before }
 
   store : IsStore layout s.opened.youngest None trace world
-  store = record { trace = Opening before disk read; whole = floor_text.1; kept = kept_bare world kept; shown = all_show; coming = tt; young_is = refl; stuck_is = refl }
+  store = record { trace = Opening before disk read; whole = whole; kept = kept_bare world kept; shown = all_show; coming = tt; young_is = refl; stuck_is = refl }
 
   sees : Sees world view
-  sees = record { pass = refl; seen = sym (take_all (length g) g (omega arith)); section = refl; up = refl; sure = λ e. absurd cc; whole = λ z e. absurd cc; given = λ q i. absurd i; opened = omega arith; shown = all_show }
+  sees = record { pass = refl; seen = sym (take_all (length g) g (omega arith)); section = refl; up = refl; sure = λ e. absurd cc; whole = λ z e. absurd cc; given = λ q i. i; opened = omega arith; shown = all_show }
 
   safe : Safe layout (length before + 1) trace (length g) f g None
   safe z i =
@@ -338,8 +354,8 @@ module _ (first : Files) (labels : List Label) (before : List Operation) (h : Li
       stands : (e : Disk) → IsImage (Firm ∷ disk) e → Stands f g Free e
       stands = kept.stands
 
-  pub is_known : (v : View) × KnowsAlone layout s.opened.youngest None (Some trace) v × (v.section ≡ None) × (v.pass ≡ first_pass (length h) s.opened.min_unpacked_rev) × (revisions v.seen ≡ h) × (v.since ≡ length before + 1)
-  is_known = (view, ((world, store, sees, refl, refl, safe, refl), record { all = (let c = s.count in omega (arith, long, c)); own = omega arith; free = λ harmless. refl; sound = λ harmless. refl; found = λ harmless. refl }, own_from_opening layout first before (own_opened (files_after first before) h s)), refl, ap (λ n. first_pass n s.opened.min_unpacked_rev) long, revisions_are, refl)
+  pub is_known : (v : View) × KnowsAlone layout s.opened.youngest None (Some trace) v × (v.section ≡ None) × (v.pass ≡ first_pass (length h) s.opened.min_unpacked_rev) × (revisions v.seen ≡ h) × (v.since ≡ length before + 1) × (v.given ≡ given_before s.opened.next_txn.number)
+  is_known = (view, ((world, store, sees, refl, refl, safe, refl), record { all = (let c = s.count in omega (arith, long, c)); own = omega arith; free = λ harmless. refl; sound = λ harmless. refl; found = λ harmless. refl }, own_from_opening layout first before (own_opened (files_after first before) h s)), refl, ap (λ n. first_pass n s.opened.min_unpacked_rev) long, revisions_are, refl, refl)
 
 pub store_is_known : StoreIsKnown
 store_is_known first labels before h s agreeing = is_known first labels before h s agreeing

@@ -25,6 +25,7 @@ use Rattle.fsfs_machine.specs.declared.contents.FileName.TheVariants.{Current, C
 use Rattle.fsfs_machine.specs.declared.machine.Txn.{Txn}
 use Rattle.fsfs_images.specs.RealNames.{machine_file, machine_name}
 use Rattle.fsfs_images.specs.Shown.{Fits, IsBeside}
+use Rattle.fsfs_images.proofs.RealNaming.{fits_in}
 use Rattle.fsfs_turn.specs.Stands.{HasOwnFiles}
 use Rattle.fsfs_turn.specs.Views.{View, rev_name, IsDue, MayAdopt}
 
@@ -45,7 +46,7 @@ not_own (Props r) = refl
 
 pub own_beside : (layout : Layout) (f : OnlyFile) → is_own (file.Only f) ≡ true → IsBeside layout (only_name f)
 own_beside layout f own n fits e =
-    let same : machine_file n ≡ file.Only f = names_apart layout (machine_file n) (file.Only f) fits tt e in
+    let same : machine_file n ≡ file.Only f = names_apart layout (machine_file n) (file.Only f) (fits_in layout n fits) tt e in
     both_ways (is_own (machine_file n)) (not_own n) (ap is_own same ∙ own)
 
 -- where these are the same they are in their formats in both

@@ -16,7 +16,4 @@ tells_revisions s floor v told seen zero own = record {
       let x = there_below v.seen r less in
       let one = seen.each r x.0 x.1 in
       own.revs r one.known (omega (arith, zero)) one.own ∙ ap (λ read. Some read) (one.bytes ∙ sym (ap (λ o. bytes_beside r o) x.1));
-  props = λ r x at.
-      let one = seen.each r x at in
-      (one.text, own.props r one.known ∙ ap (λ read. Some read) one.props, one.dump);
 }

@@ -7,7 +7,6 @@ use Rattle.fsfs_base.specs.Files.{Files}
 use Rattle.fsfs_tree.specs.Dated.{last_of}
 use Rattle.fsfs_tree.specs.Revisions.{Revision}
 use Rattle.fsfs_layout.specs.FileNames.{only_name}
-use Rattle.fsfs_layout.specs.Layouts.{place_in_shard}
 use Rattle.fsfs_layout.specs.Small.{IsRevLine, IsBase36Line}
 use Rattle.fsfs_layout.specs.declared.layout.Layout.{Layout}
 use Rattle.fsfs_layout.specs.declared.only_file.OnlyFile.TheVariants as only
@@ -33,7 +32,7 @@ use Rattle.fsfs_images.proofs.Showing.{image_read, kept_same}
 use Rattle.fsfs_turn.specs.Bytes.{bytes_beside, bytes_of}
 use Rattle.fsfs_turn.specs.Past.{doubt, IsPart, IsPast, HasCounter}
 use Rattle.fsfs_turn.specs.Found.{floor_read, text_there}
-use Rattle.fsfs_turn.specs.Standing.{no_others, Knows}
+use Rattle.fsfs_turn.specs.Standing.{no_others, IsWhole, Knows}
 use Rattle.fsfs_turn.specs.Whole.{HasHistory}
 use Rattle.fsfs_turn.specs.Stands.{HasOwnFiles, ImagesStand}
 use Rattle.fsfs_turn.specs.Views.{View, with_txns}
@@ -89,7 +88,7 @@ shows_history layout m g has = record { each = each; ids = ids_same (last_of (re
         (subst (λ y. ShowsRevision (bytes_of g) (props_bytes layout m) r y) x.2 shows)
 
 -- Files that have a history, and the small files beside it, stand for it.
-module _ (layout : Layout) (f : ℕ) (m : Files) (e : Disk) (g : List Recorded) (whole : place_in_shard layout f ≡ 0) (read : AreRead layout f m e) (floor : FloorIs f e) (count : HasCounter e) (within : f ≤ length g) (has : HasHistory layout m g) (own : HasOwnFiles m layout) where
+module _ (layout : Layout) (f : ℕ) (m : Files) (e : Disk) (g : List Recorded) (whole : IsWhole layout f) (read : AreRead layout f m e) (floor : FloorIs f e) (count : HasCounter e) (within : f ≤ length g) (has : HasHistory layout m g) (own : HasOwnFiles m layout) where
   counter : (text : List ℕ) × (get m (only_name only.TxnCurrent) ≡ Some text) × IsBase36Line text count.0
   counter = at_found Counter (get m (machine_name layout Counter)) (found e Counter) (Number count.0) count.1 (read Counter tt)
 
@@ -98,6 +97,7 @@ module _ (layout : Layout) (f : ℕ) (m : Files) (e : Disk) (g : List Recorded) 
     opened = record { uuid = own.uuid.0; layout = layout; youngest = has.names.number; min_unpacked_rev = f; next_txn = record { number = count.0; small = omega (arith, counter.2.fits) } };
     small = record {
       format = own.format;
+      packs = whole.packs;
       behind = record {
         uuid = own.uuid.1;
         youngest = text_there m (only_name only.Current) has.names.text IsRevLine has.names.number has.names.there has.names.line;

@@ -9,7 +9,6 @@ use Rattle.fsfs_turn.proofs.Stepping.{take_drop, get_taken}
 use Rattle.std.specs.Prelude.{Some, Ok, IfSome, slice_get}
 use Rattle.std.specs.FinMap.{get}
 use Rattle.fsfs_base.specs.Files.{Files}
-use Rattle.fsfs_layout.specs.Layouts.{place_in_shard}
 use Rattle.fsfs_layout.specs.declared.layout.Layout.{Layout}
 use Rattle.fsfs_revision.specs.RevBytes.{floor_in}
 use Rattle.fsfs_revision.proofs.FloorLemmas.{floor_is}
@@ -32,7 +31,7 @@ use Rattle.fsfs_images.specs.RealNames.{machine_name}
 use Rattle.fsfs_images.specs.Shown.{AreRead}
 use Rattle.fsfs_turn.specs.Views.{Sees, with_txns}
 use Rattle.fsfs_turn.specs.Found.{bytes_are, floor_read, rev_there, LastFrom, last_at}
-use Rattle.fsfs_turn.specs.Standing.{no_others, IsStore}
+use Rattle.fsfs_turn.specs.Standing.{no_others, IsWhole, IsStore}
 use Rattle.fsfs_turn.specs.Whole.{HasRevision, NamesFrom, SeenIsWhole, NamesLastOf, HasHistory, EachMomentStands, KnownFromNow}
 use Rattle.fsfs_images.proofs.Showing.{image_read}
 use Rattle.fsfs_turn.proofs.Due.{at_found}
@@ -76,7 +75,7 @@ seen_is_whole layout young stuck t v known m image = (each, names)
     names : NamesFrom m (length v.seen)
     names = record { text = current.0; there = current.1; number = last.0; line = current.2; from = omega (arith, last.2, seen_within w v sees) }
 
-pub has_history : (layout : Layout) (f : ℕ) (m : Files) (e : Disk) (g : List Recorded) → place_in_shard layout f ≡ 0 → FloorIs f e → AreRead layout f m e → StandsFor f e g → BytesShow g → HasHistory layout m g
+pub has_history : (layout : Layout) (f : ℕ) (m : Files) (e : Disk) (g : List Recorded) → IsWhole layout f → FloorIs f e → AreRead layout f m e → StandsFor f e g → BytesShow g → HasHistory layout m g
 has_history layout f m e g whole floors all stands show = record { each = each; names = names; shown = show }
   where
     floor : floor_in layout m ≡ Ok f

@@ -9,8 +9,8 @@ use Rattle.fsfs_base.specs.Files.{Files}
 use Rattle.fsfs_layout.specs.Hash.Dump.{IsDump}
 use Rattle.fsfs_layout.specs.FileNames.{only_name}
 use Rattle.fsfs_layout.specs.Opening.{text_at}
-use Rattle.fsfs_layout.specs.Small.{IsRevLine, IsMinUnpackedRev}
-use Rattle.fsfs_layout.specs.Layouts.{place_in_shard}
+use Rattle.fsfs_layout.specs.Small.{IsRevLine, IsMinUnpackedRevIn, IsMinUnpackedRev}
+use Rattle.fsfs_layout.specs.declared.format.Format.{Format}
 use Rattle.fsfs_layout.specs.declared.layout.Layout.{Layout}
 use Rattle.fsfs_layout.specs.declared.only_file.OnlyFile.TheVariants as only
 use Rattle.fsfs_revision.specs.RevBytes.{floor_in, packed_bytes, or_missing, by_floor, rev_file, rev_bytes}
@@ -39,7 +39,7 @@ use Rattle.fsfs_images.specs.RealNames.{machine_name}
 use Rattle.fsfs_images.specs.Shown.{AtName, AreRead, Reads, there_in, packed_in, file_in}
 use Rattle.fsfs_images.proofs.Showing.{now_read}
 use Rattle.fsfs_turn.specs.Views.{View, Sees}
-use Rattle.fsfs_turn.specs.Standing.{no_others, IsStore, Knows}
+use Rattle.fsfs_turn.specs.Standing.{no_others, IsWhole, IsStore, Knows}
 use Rattle.fsfs_turn.specs.Telling.{IsReadable, state_of, owned_view}
 
 -- what stands at a name that is found
@@ -101,10 +101,10 @@ module _ (layout : Layout) (f : ℕ) (m : Files) (r : ℕ) (bytes : List ℕ) (f
       by_test false e = ap (λ (o : Option (List ℕ)). agrees o (Ok bytes)) e ∙ nat_list_eq_equiv.refl bytes
 
 -- the files show the floor
-pub floor_read : (layout : Layout) (f : ℕ) (m : Files) (d : Disk) → AreRead layout f m d → FloorIs f d → place_in_shard layout f ≡ 0 → IsMinUnpackedRev layout (text_at m (only_name only.MinUnpackedRev)) f
+pub floor_read : (layout : Layout) (f : ℕ) (m : Files) (d : Disk) → AreRead layout f m d → FloorIs f d → IsWhole layout f → IsMinUnpackedRev layout (text_at m (only_name only.MinUnpackedRev)) f
 floor_read layout f m d all is whole =
     let at = at_found Floor (get m (machine_name layout Floor)) (found d Floor) (Number f) is (all Floor tt) in
-    text_there m (only_name only.MinUnpackedRev) at.0 (IsMinUnpackedRev layout) f at.1 (at.2, whole)
+    text_there m (only_name only.MinUnpackedRev) at.0 (IsMinUnpackedRev layout) f at.1 (subst (λ (k : Format). IsMinUnpackedRevIn k layout at.0 f) (sym whole.packs.format) (at.2, whole.place))
 
 -- a revision of the history can be read in files that the machine's are read from
 pub rev_there : (layout : Layout) (f : ℕ) (m : Files) (d : Disk) (r : ℕ) (x : Recorded) → AreRead layout f m d → r < 2 ^ 32 → HasFiles f d r x → file_in layout f m (Rev r) ≡ Some x.bytes

@@ -19,8 +19,8 @@ use Rattle.fsfs_machine.specs.declared.machine.Outcome.{Outcome}
 use Rattle.fsfs_machine.specs.declared.machine.Outcome.TheVariants as outcome
 use Rattle.fsfs_machine.specs.declared.machine.Step.{Step}
 use Rattle.fsfs_machine.specs.declared.machine.Step.TheVariants as step
-use Rattle.fsfs_machine.specs.Machine.{World, Did, Happens, either, answer, learns, sees_floor}
-use Rattle.fsfs_machine.specs.Kept.{Kept, IsIn}
+use Rattle.fsfs_machine.specs.Machine.{World, Did, Happens, either, answer, learns, sees_floor, last_name}
+use Rattle.fsfs_machine.specs.Kept.{Kept, AllBelow, IsIn}
 use Rattle.fsfs_turn.specs.Bytes.{AllShow}
 use Rattle.fsfs_turn.specs.Views.{View, Sees, Begins, Turned, with_txns, Answers, IsTxnOver}
 
@@ -66,8 +66,10 @@ pub record CounterRead (base number : ℕ) (went : Went) (v u : View) : Type 0 w
   -- it has seen the youngest revision that it was told of
   pub all : v.pass.least < length u.seen
   pub shown : AllShow u.seen
+  -- each name that it knew to be given is below the number
+  pub above : AllBelow number v.given
 
--- What stands there, as a begin reads it from the beginning on; the machine has no reading of numbers from 2^64 - 1 on.
+-- What stands there, as a begin reads it from the beginning on; of the last number, behind which no name comes, the machine has no reading.
 pub record ReadsCounter (knows : View → Type 0) (told : Option Files) (base : ℕ) {E : Type 0} (result : Result (Option ℕ) E) (old new : List ℕ) (v : View) : Type 0 where
   pub text : List ℕ
   pub number : ℕ
@@ -76,8 +78,8 @@ pub record ReadsCounter (knows : View → Type 0) (told : Option Files) (base : 
   pub files_are : told ≡ Some files
   pub there : get files (only_name TxnCurrent) ≡ Some text
   pub read : IfOk result (IsRead (Some text) 0 old new)
-  pub turned : number < 2 ^ 64 - 1 → (u : View) × (went : Went) × knows u × Answers result went × CounterRead base number went v u
-  pub full : 2 ^ 64 - 1 ≤ number → knows v
+  pub turned : number < last_name → (u : View) × (went : Went) × knows u × Answers result went × CounterRead base number went v u
+  pub full : last_name ≤ number → knows v
 
 -- ---- labels
 

@@ -1,6 +1,6 @@
 -- A store over one disk, as the machine.
 use Rattle.std.specs.Prelude.{◌≡◌, ℕ, List, [], length, Bool, false, Option, Some, None, IfSome}
-use Rattle.fsfs_layout.specs.Layouts.{place_in_shard}
+use Rattle.fsfs_layout.specs.Layouts.{Packs, place_in_shard}
 use Rattle.fsfs_layout.specs.declared.layout.Layout.{Layout}
 use Rattle.fsfs_disk.specs.Trace.{Trace}
 use Rattle.fsfs_base.specs.declared.places.place.DiskPlace.{DiskPlace}
@@ -15,11 +15,15 @@ use Rattle.fsfs_turn.specs.Past.{doubt, Safe}
 abbrev pub no_others : List ℕ → Bool
 no_others name = false
 
+-- only whole shards are packed, in a layout that packs
+pub record IsWhole (layout : Layout) (floor : ℕ) : Type 0 where
+  pub packs : Packs layout
+  pub place : place_in_shard layout floor ≡ 0
+
 -- The disk with this trace, the youngest number and the place where the lock is stuck are those of the machine in this state.
 pub record IsStore (layout : Layout) (young : ℕ) (stuck : Option DiskPlace) (t : Trace) (w : World) : Type 0 where
   pub trace : IsTraceOf layout w.floor no_others t.first t.operations w.disk
-  -- only whole shards are packed
-  pub whole : place_in_shard layout w.floor ≡ 0
+  pub whole : IsWhole layout w.floor
   pub kept : Kept (with_txns [] w)
   -- the bytes beside the history show it; so do those with the revision to come
   pub shown : AllShow w.history

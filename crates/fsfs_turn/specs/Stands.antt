@@ -2,11 +2,10 @@
 use Rattle.std.specs.Prelude.{◌≤◌, ℕ, List, length, Option, Some, IfSome}
 use Rattle.fsfs_base.specs.Files.{Files}
 use Rattle.fsfs_layout.specs.FileNames.{only_name}
-use Rattle.fsfs_layout.specs.Formats.{IsFormat}
-use Rattle.fsfs_layout.specs.Opening.{small_texts, IsFsfs, text_at}
+use Rattle.fsfs_layout.specs.Opening.{small_texts, SaysFormat, text_at}
 use Rattle.fsfs_layout.specs.Small.{IsUuid}
 use Rattle.fsfs_layout.specs.declared.layout.Layout.{Layout}
-use Rattle.fsfs_layout.specs.declared.small_files.format_file.Format.TheVariants.{Sharded}
+use Rattle.fsfs_layout.specs.declared.small_files.format_file.FormatFile.TheVariants.{Known}
 use Rattle.fsfs_layout.specs.declared.only_file.OnlyFile.TheVariants as only
 use Rattle.fsfs_disk.specs.Trace.{Trace, files_now, IsImage, ImageSince}
 use Rattle.fsfs_base.specs.declared.places.place.DiskPlace.{DiskPlace}
@@ -20,7 +19,7 @@ use Rattle.fsfs_turn.specs.Standing.{Knows}
 
 -- the files that no turn touches are in their formats
 pub record HasOwnFiles (files : Files) (layout : Layout) : Type 0 where
-  pub format : (text : List ℕ) × IsFsfs (small_texts files) text × IsFormat text (Sharded layout.shard_size)
+  pub format : SaysFormat (small_texts files) (Known layout)
   pub uuid : (uuid : List ℕ) × IsUuid (text_at files (only_name only.Uuid)) uuid
 
 -- where the disk tells its files, they are in each image of each moment since then, in the middle of a call too

@@ -2,14 +2,14 @@
 ghost use Rattle.std.specs.Prelude.{◌≡◌};
 ghost use Rattle.fsfs_fetch.specs.Views.{IsKnown};
 ghost use Rattle.fsfs_turn.specs.Views.{View};
-ghost use Rattle.fsfs_turn.specs.Seen.{TellsUpTo};
+ghost use Rattle.fsfs_turn.specs.Seen.{TellsUpTo, ReadsUpTo};
 ghost use Rattle.fsfs_turn.specs.GoesOn.{GoesOn};
 
 use crate::Turns;
 use fsfs_base::{Failed, Name, Note, RevNum, Says};
 use fsfs_fetch::{Direct, Reads};
-use fsfs_layout::Layout;
-use fsfs_revision::Book;
+use fsfs_layout::{Layout, RepositoryFile};
+use fsfs_revision::{Book, RevProps};
 use std::alloc::Global;
 use std::marker::Model;
 
@@ -47,11 +47,13 @@ impl<'a, R, T: Turns<R>> Model for PassReads<'a, R, T> {
 }
 
 impl<R, T: Turns<R>> Reads for PassReads<'_, R, T> {
-    ghost use Rattle.fsfs_turn.specs.Seen.{up_to};
+    ghost use Rattle.fsfs_turn.specs.Seen.{up_to, seen_props};
 
     ghost Below = { T × T.Lasting };
 
     ghost view = { λ r. up_to r.2 r.1 (T.store r.0) };
+
+    ghost may_meet = { λ r. seen_props (T.knows r.0) };
 
     ghost faults = { λ r. T.faults r.0 };
 
@@ -72,6 +74,11 @@ impl<R, T: Turns<R>> Reads for PassReads<'_, R, T> {
         self.turns.read(self.rt, name, offset, buffer)
     }
 
+    fn read_props(&mut self, rev: RevNum, buffer: &mut [u8]) -> Result<Option<usize>, Failed> {
+        let name = RepositoryFile::Props(rev).name(self.turns.layout());
+        self.turns.read(self.rt, &name, 0, buffer)
+    }
+
     fn size(&mut self, name: &Name) -> Result<Option<u64>, Failed> {
         self.turns.size(self.rt, name)
     }
@@ -80,7 +87,7 @@ impl<R, T: Turns<R>> Reads for PassReads<'_, R, T> {
 }
 
 /// A book over turns, of the revisions up to this one: others may add more while it is read. Of each of these that the pass has seen it
-/// tells the bytes beside it, and its properties. It begins with the floor 0: a revision is looked for in its shard's pack where its own
+/// tells the bytes beside it, and reads its properties. It begins with the floor 0: a revision is looked for in its shard's pack where its own
 /// file is absent.
 pub fn over_pass<'a, R, T: Turns<R>>(
     alloc: Global,
@@ -90,6 +97,7 @@ pub fn over_pass<'a, R, T: Turns<R>>(
 ) -> Direct<PassReads<'a, R, T>>
     requires there { IsKnown (T.store turns).reach youngest }
     ensures told { (v : View) → T.knows turns v → TellsUpTo youngest v (⟦<Direct<PassReads<'a, R, T>> as Book>⟧.told result) }
+    ensures props { (v : View) → T.knows turns v → ReadsUpTo youngest v (⟦<Direct<PassReads<'a, R, T>> as RevProps>⟧.may_read result) }
     // The turns as they were, and what no reading changes, are below it.
     ensures below { (⟦<Direct<PassReads<'a, R, T>> as Book>⟧.told result).below ≡ (turns, (T.store turns).below) }
     ensures faults { ⟦<Direct<PassReads<'a, R, T>> as Book>⟧.faults result ≡ T.faults turns }

@@ -19,7 +19,7 @@ use fsfs_revision::Book;
 use std::alloc::Global;
 
 /// What stands at a path.
-#[derive(Debug, Drop)]
+#[derive(Drop)]
 pub struct NodeView {
     pub kind: Kind,
     pub props: Pairs,
@@ -28,7 +28,7 @@ pub struct NodeView {
 }
 
 /// What stands at a path, or why nothing does.
-#[derive(Debug, Drop)]
+#[derive(Drop)]
 pub enum Got {
     Node(NodeView),
     /// So many names of the path lead to nothing.

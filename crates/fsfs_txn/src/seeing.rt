@@ -17,7 +17,7 @@ use fsfs_revision::Book;
 use std::alloc::Global;
 
 /// What stands at a path.
-#[derive(Debug, Drop)]
+#[derive(Drop)]
 pub(crate) enum Seen {
     /// Something does. Counts of mergeinfo were met at the base's root or on the way, at what is not the transaction's own, or not.
     Node { child: Child, counted: bool },

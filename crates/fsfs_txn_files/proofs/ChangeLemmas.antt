@@ -1,42 +1,16 @@
 -- Changes made one after another.
 use Rattle.std.proofs.Common.{◌≡◌, ◌∙◌, ◌+◌, ◌<◌, ℕ, length, take, drop, get_or, List, [], ◌∷◌, ◌++◌, Option, Some, None, refl, sym, ap, subst, append_assoc}
-use Rattle.std.specs.Prelude.{option_map, Result, Ok, Err, IfOk, IfErr, OnOk, IsOkAnd}
+use Rattle.std.specs.Prelude.{option_map}
 use Rattle.std.proofs.lemmas.List.{take_more, take-append-drop}
 use Rattle.fsfs_base.specs.Files.{Files}
 use Rattle.fsfs_base.specs.Grammar.Relations.{Appends}
-use Rattle.fsfs_txn_files.specs.FileNames.{file_name}
-use Rattle.fsfs_txn_files.specs.Changes.{with_text, changed, changed_all, IsChange, IsStoppedAt, IsStopped, IsPut, IsLeft, IsLeftBy}
-use Rattle.fsfs_txn_files.specs.declared.folder_file.FolderFile.{FolderFile}
-use Rattle.fsfs_txn_files.specs.declared.change.How.{How}
+use Rattle.fsfs_txn_files.specs.Changes.{changed, changed_all, IsStoppedAt, IsStopped}
 use Rattle.fsfs_txn_files.specs.declared.change.FileChange.{FileChange}
 use Rattle.fsfs_txn_files.specs.declared.write_error.FileFault.{FileFault}
-use Rattle.fsfs_txn_files.specs.declared.write_error.WriteError.{WriteError}
-use Rattle.fsfs_txn_files.specs.declared.write_error.WriteError.TheVariants.{OutOfMemory, Bench}
 
 -- what was written at the end of nothing is all
 pub alone : {X : Type 0} (G : List ℕ → X → Type 0) (old new : List ℕ) (x : X) → old ≡ [] → Appends G old new x → G new x
 alone G old new x none w = subst (λ (t : List ℕ). G t x) (sym (w.parts ∙ ap (λ (o : List ℕ). o ++ w.text) none)) w.text_is
-
--- ---- one change
-
-pub put_from : (c : FileChange) (file : FolderFile) (how : How) (Form : List ℕ → Type 0) (old new : Option Files) → IsChange c file how Form → new ≡ option_map (changed c) old → IsPut how file Form old new
-put_from c file how Form old new is done = record {
-  text = c.text.items;
-  text_is = is.text_is;
-  files = done ∙ (λ i. option_map (with_text (is.how_is i) (file_name (is.file_is i)) c.text.items) old);
-}
-
-pub made_as : {T E : Type 0} (change : Result FileChange E) (result : Result T WriteError) (file : FolderFile) (how : How) (Form : List ℕ → Type 0) (old new : Option Files) → IfOk change (λ c. IsChange c file how Form)
-    → OnOk result (IsOkAnd change (λ c. new ≡ option_map (changed c) old)) → OnOk result (IsPut how file Form old new)
-made_as (Ok c) (Ok x) file how Form old new is done = put_from c file how Form old new is done
-made_as (Err e) (Ok x) file how Form old new is done = absurd done
-made_as change (Err e) file how Form old new is done = tt
-
-left_by : {E : Type 0} (change : Result FileChange E) (e : WriteError) (file : FolderFile) (how : How) (Form : List ℕ → Type 0) (old new : Option Files) → IfOk change (λ c. IsChange c file how Form) → IsLeftBy change old new e → IsLeft file old new e
-left_by (Ok c) OutOfMemory file how Form old new is left = absurd left
-left_by (Ok c) (Bench fault) file how Form old new is left = subst (λ (f : FolderFile). IsStoppedAt f old new fault) is.file_is left
-left_by (Err e) OutOfMemory file how Form old new is left = left
-left_by (Err e) (Bench fault) file how Form old new is left = absurd left
 
 -- ---- several
 

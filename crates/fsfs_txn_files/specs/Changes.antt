@@ -1,6 +1,5 @@
--- What a bench has after a text was written into one of the files.
-use Rattle.std.specs.Prelude.{◌≡◌, ◌≤◌, ℕ, List, [], ◌∷◌, ◌++◌, Option, option_map, Result, Ok, Err, OnOk, IfErr}
-use Rattle.fsfs_base.specs.Counts.{Rose}
+-- What a bench has after texts were written into its files.
+use Rattle.std.specs.Prelude.{◌≡◌, ℕ, List, [], ◌∷◌, ◌++◌, Option, option_map}
 use Rattle.fsfs_base.specs.Files.{Files}
 use Rattle.fsfs_disk.specs.Benches.{appended, written, Spoils}
 use Rattle.fsfs_txn_files.specs.FileNames.{file_name}
@@ -9,8 +8,6 @@ use Rattle.fsfs_txn_files.specs.declared.change.How.{How}
 use Rattle.fsfs_txn_files.specs.declared.change.How.TheVariants.{Whole, AtEnd}
 use Rattle.fsfs_txn_files.specs.declared.change.FileChange.{FileChange}
 use Rattle.fsfs_txn_files.specs.declared.write_error.FileFault.{FileFault}
-use Rattle.fsfs_txn_files.specs.declared.write_error.WriteError.{WriteError}
-use Rattle.fsfs_txn_files.specs.declared.write_error.WriteError.TheVariants.{OutOfMemory, Bench}
 
 -- ---- changes
 
@@ -45,32 +42,3 @@ pub record IsStopped (changes : List FileChange) (old new : Option Files) (fault
   pub rest : List FileChange
   pub all : changes ≡ made ++ next ∷ rest
   pub at : IsStoppedAt next.file (option_map (changed_all made) old) new fault
-
--- ---- one file
-
--- a text of this form was put there, in place of what the file had or behind it, and all other files are as they were
-pub record IsPut (how : How) (file : FolderFile) (Form : List ℕ → Type 0) (old new : Option Files) : Type 0 where
-  pub text : List ℕ
-  pub text_is : Form text
-  pub files : new ≡ option_map (with_text how (file_name file) text) old
-
--- want of memory leaves all files as they were
-abbrev pub IsLeft : FolderFile → Option Files → Option Files → WriteError → Type 0
-IsLeft file old new OutOfMemory = new ≡ old
-IsLeft file old new (Bench fault) = IsStoppedAt file old new fault
-
-abbrev pub IsLeftBy : {E : Type 0} → Result FileChange E → Option Files → Option Files → WriteError → Type 0
-IsLeftBy (Ok c) old new OutOfMemory = ⊥
-IsLeftBy (Ok c) old new (Bench fault) = IsStoppedAt c.file old new fault
-IsLeftBy (Err e) old new OutOfMemory = new ≡ old
-IsLeftBy (Err e) old new (Bench fault) = ⊥
-
--- the bench's count of faults rose where it failed, and stays else
-abbrev pub IsCount : ℕ → ℕ → WriteError → Type 0
-IsCount before now OutOfMemory = now ≡ before
-IsCount before now (Bench fault) = Rose before now
-
-pub record HasWriteCause {T : Type 0} (before now : ℕ) (result : Result T WriteError) : Type 0 where
-  pub later : before ≤ now
-  pub kept : OnOk result (now ≡ before)
-  pub failed : IfErr result (IsCount before now)

@@ -18,7 +18,7 @@ use fsfs_noderev::{ChangeItem, NodeId, NodeRev, put_item, write_noderev};
 use std::alloc::{AllocError, Global};
 
 /// Where a text goes.
-#[derive(Clone, Copy, Debug, PartialEq, Eq)]
+#[derive(Clone, Copy)]
 pub enum How {
     /// It is all of the file, in place of what the file has.
     Whole,
@@ -28,7 +28,7 @@ pub enum How {
 
 /// A text that goes into a file. To make it takes memory, and to write it none: so what several files get can be made ready before
 /// the first of them is touched.
-#[derive(Debug, Drop)]
+#[derive(Drop)]
 pub struct FileChange {
     pub file: FolderFile,
     pub how: How,

@@ -8,7 +8,7 @@ use fsfs_base::Name;
 use fsfs_noderev::NodeId;
 
 /// A file of a transaction's folder. Those of a node-revision are named by the node part and the copy part of its id.
-#[derive(Clone, Copy, Debug, PartialEq, Eq)]
+#[derive(Clone, Copy, Debug)]
 pub enum FolderFile {
     /// The numbers that the next new node part and the next new copy part get.
     NextIds,

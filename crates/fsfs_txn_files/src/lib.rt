@@ -23,4 +23,4 @@ pub use making::make_all;
 pub use proto_rev::appending::append_text;
 pub use proto_rev::laws::{appended_texts_are_read, texts_stay};
 pub use proto_rev::text_error::{MAX_TEXT, TextError};
-pub use write_error::{FileFault, WriteError};
+pub use write_error::FileFault;

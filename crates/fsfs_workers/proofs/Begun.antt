@@ -50,7 +50,7 @@ beside moment since later js answers youngest h t same r = record {
   now = r.now;
   lines = r.lines;
   last = r.last;
-  held = subst (λ n. HoldsAll n t h r.now) same r.held;
+  held = subst (λ n. (all : HoldsAll n t h (revisions r.now)) × (all.seen ≡ r.now)) same r.held;
   stuck = r.stuck;
   certain = r.certain;
 }

@@ -82,7 +82,7 @@ both_worked moment js answers v one two n met last each a b first_kin second_kin
       found = λ none. let free = neither_stuck one.pass.stuck two.pass.stuck none in none_stuck answers (first.stuck free.0) (second.stuck free.1);
     }
   where
-    lines : (h : List Recorded) → IsOnward (view_of (joined_view last one two)) h → (w : ℕ) → w < 2 → WorkerLines moment (revisions h) (last_known (view_of v)) (dealt 2 w js) (dealt 2 w answers)
+    lines : (h : List Recorded) → IsOnward (view_of (joined_view last one two)) h → (w : ℕ) → w < 2 → WorkerLines moment h (last_known (view_of v)) (dealt 2 w js) (dealt 2 w answers)
     lines h on zero less =
         (worked moment (dealt 2 0 js) (dealt 2 0 answers) (view_of (halved_view v)) (view_of one) a).lines h
         (onward h (view_of one) (view_of (joined_view last one two)) first_seen (knows_less (view_of (joined_view last one two)) (view_of one) first_seen (omega arith)) on)

@@ -124,21 +124,21 @@ module _ (knows : View → Type 0) (rose : Type 0) (moment k last : ℕ) (job : 
       tt,
     )
     barred_ends (bars.Stuck at) b =
-        (left.0, left.1, fails_so moment k (jobs.Commit job) (answer_of_bar job.line (bars.Stuck at)) v u left.0 moved none left.2 (λ calm. brings) refl refl (ByStuck (jobs.Commit job) job.line at), left.3 ∙ b)
+        (left.0, left.1, fails_so moment k (jobs.Commit job) (answer_of_bar job.line (bars.Stuck at)) v u left.0 moved none left.2 (λ calm. brings) refl refl (ByStuck (jobs.Commit job) job.line at) (λ P. tt), left.3 ∙ b)
     barred_ends (bars.Wrong wrong) b = absurd b
     barred_ends (bars.PastLimit limit) b =
-        (left.0, left.1, fails_so moment k (jobs.Commit job) (answer_of_bar job.line (bars.PastLimit limit)) v u left.0 moved none left.2 (λ calm. brings) refl refl (ByMemory (jobs.Commit job) job.line), tt)
+        (left.0, left.1, fails_so moment k (jobs.Commit job) (answer_of_bar job.line (bars.PastLimit limit)) v u left.0 moved none left.2 (λ calm. brings) refl refl (ByMemory (jobs.Commit job) job.line) (λ P. tt), tt)
     barred_ends bars.Lacking b = absurd b
-    barred_ends bars.Memory b = (left.0, left.1, fails_so moment k (jobs.Commit job) (answer_of_bar job.line bars.Memory) v u left.0 moved none left.2 (λ calm. brings) refl refl (ByMemory (jobs.Commit job) job.line), tt)
+    barred_ends bars.Memory b = (left.0, left.1, fails_so moment k (jobs.Commit job) (answer_of_bar job.line bars.Memory) v u left.0 moved none left.2 (λ calm. brings) refl refl (ByMemory (jobs.Commit job) job.line) (λ P. tt), tt)
 
   -- ---- nothing was added, and it is no more
 
   pub disk_ends : (at : DiskPlace) (u : View) (gone : Bool) → rose → (brings_doubt at ≡ false → BringsNoDoubt v u) → Moved v u → IsDropped knows gone x.name u → EndsFrom knows rose moment k (jobs.Commit job) (answers.Stopped job.line (Outside (outside.Disk at))) v
   disk_ends at u gone up brings moved dropped =
       let left = by_dropping knows gone x.name u (moved.section ∙ none) dropped in
-      (left.0, left.1, fails_so moment k (jobs.Commit job) (answers.Stopped job.line (Outside (outside.Disk at))) v u left.0 moved none left.2 brings refl refl (ByDisk (jobs.Commit job) job.line at), up)
+      (left.0, left.1, fails_so moment k (jobs.Commit job) (answers.Stopped job.line (Outside (outside.Disk at))) v u left.0 moved none left.2 brings refl refl (ByDisk (jobs.Commit job) job.line at) (λ P. tt), up)
 
   pub bench_ends : (u : View) (gone : Bool) → BringsNoDoubt v u → Moved v u → IsDropped knows gone x.name u → EndsFrom knows rose moment k (jobs.Commit job) (answers.Stopped job.line (Outside outside.Bench)) v
   bench_ends u gone brings moved dropped =
       let left = by_dropping knows gone x.name u (moved.section ∙ none) dropped in
-      (left.0, left.1, fails_so moment k (jobs.Commit job) (answers.Stopped job.line (Outside outside.Bench)) v u left.0 moved none left.2 (λ calm. brings) refl refl (ByBench (jobs.Commit job) job.line), tt)
+      (left.0, left.1, fails_so moment k (jobs.Commit job) (answers.Stopped job.line (Outside outside.Bench)) v u left.0 moved none left.2 (λ calm. brings) refl refl (ByBench (jobs.Commit job) job.line) (λ P. tt), tt)

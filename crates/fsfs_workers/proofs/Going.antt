@@ -26,14 +26,17 @@ use Rattle.fsfs_base.specs.declared.places.place.DiskPlace.TheVariants.{Read, Re
 use Rattle.fsfs_repo.specs.Replies.{Moved as CommitMoved}
 use Rattle.fsfs_repo.specs.Txns.Begun.{BeginsTxnAmong}
 use Rattle.fsfs_repo.specs.Txns.Commits.{IsDropped}
+use Rattle.fsfs_script.specs.declared.job_lines.job.CommitJob.{CommitJob}
 use Rattle.fsfs_script.specs.declared.job_lines.job.Job.{Job}
 use Rattle.fsfs_jobs.specs.declared.answer.JobAnswer.{JobAnswer}
 use Rattle.fsfs_jobs.specs.declared.answer.JobAnswer.TheVariants as answers
+use Rattle.fsfs_cli.specs.declared.faults.fault.Fault.{Fault}
 use Rattle.fsfs_cli.specs.declared.faults.fault.Fault.TheVariants.{Words, Request, Repository, Outside, Memory, Limit}
 use Rattle.fsfs_cli.specs.declared.faults.outside_fault.OutsideFault.TheVariants as outside
 use Rattle.fsfs_job_run.specs.Serial.Jobs.{own_of, tells_doubt, tells_stuck, Fails}
+use Rattle.fsfs_job_run.specs.Serial.Counts.{IfCounted}
 use Rattle.fsfs_job_run.specs.Running.{HasOutsideCause}
-use Rattle.fsfs_job_run.specs.Workers.Beside.{LineHolds, shown_in}
+use Rattle.fsfs_job_run.specs.Workers.Beside.{CountsIn, LineHolds, shown_in}
 use Rattle.fsfs_job_run.specs.Workers.Passes.{IsOnward, WorksJob, last_known}
 use Rattle.fsfs_workers.specs.Working.{GoesOn, GoesOnKnown, WorksFrom}
 
@@ -213,7 +216,7 @@ by_dropping knows false name m none d = (d.0, d.2, by_no_purge Remove (with_spen
 
 -- it added nothing, and its line holds
 pub ends_so : (moment k : ℕ) (job : Job) (answer : JobAnswer) (v u : View) → GoesOn v u → own_of answer ≡ [] → shown_in answer ≤ last_known u
-    → ((h : List Recorded) → IsOnward u h → LineHolds moment (revisions h) k job answer) → WorksFrom moment k job answer v u
+    → ((h : List Recorded) → IsOnward u h → LineHolds moment h k job answer) → WorksFrom moment k job answer v u
 ends_so moment k job answer v u g none shown line = record {
   line = line;
   grows = g.grows;
@@ -229,9 +232,9 @@ ends_so moment k job answer v u g none shown line = record {
 
 -- or it failed, so that a revision may be in doubt
 pub fails_so : (moment k : ℕ) (job : Job) (answer : JobAnswer) (v m u : View) → CommitMoved v m → v.section ≡ None → GoesOn m u → (tells_doubt answer ≡ false → BringsNoDoubt v m) → own_of answer ≡ [] → shown_in answer ≡ 0 → Fails job answer
-    → WorksFrom moment k job answer v u
-fails_so moment k job answer v m u moved none g brings bare shows fails = record {
-  line = λ h on. inr fails;
+    → ((P : CommitJob → ℕ → Fault → Type 0) → IfCounted job answer P) → WorksFrom moment k job answer v u
+fails_so moment k job answer v m u moved none g brings bare shows fails counts = record {
+  line = λ h on. inr (fails, counts (CountsIn h k));
   grows = begins_on v.seen m.seen u.seen moved.drifted.grows g.grows;
   later = omega (arith, moved.drifted.least, g.least, no_shorter v.seen m.seen moved.drifted.grows, no_shorter m.seen u.seen g.grows);
   shown = omega (arith, shows);
@@ -244,8 +247,8 @@ fails_so moment k job answer v m u moved none g brings bare shows fails = record
 }
 
 -- the same, of a job that added nothing
-pub fails_behind : (moment k : ℕ) (job : Job) (answer : JobAnswer) (v u : View) → GoesOn v u → own_of answer ≡ [] → shown_in answer ≡ 0 → Fails job answer → WorksFrom moment k job answer v u
-fails_behind moment k job answer v u g bare shows fails = ends_so moment k job answer v u g bare (omega (arith, shows)) (λ h on. inr fails)
+pub fails_behind : (moment k : ℕ) (job : Job) (answer : JobAnswer) (v u : View) → GoesOn v u → own_of answer ≡ [] → shown_in answer ≡ 0 → Fails job answer → ((P : CommitJob → ℕ → Fault → Type 0) → IfCounted job answer P) → WorksFrom moment k job answer v u
+fails_behind moment k job answer v u g bare shows fails counts = ends_so moment k job answer v u g bare (omega (arith, shows)) (λ h on. inr (fails, counts (CountsIn h k)))
 
 -- what came before it added nothing
 pub ends_behind : (moment k : ℕ) (job : Job) (answer : JobAnswer) (v m u : View) → GoesOn v m → WorksFrom moment k job answer m u → WorksFrom moment k job answer v u

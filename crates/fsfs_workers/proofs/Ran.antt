@@ -29,7 +29,7 @@ use Rattle.fsfs_job_run.specs.Serial.Jobs.{own_of_all}
 use Rattle.fsfs_job_run.specs.Workers.Beside.{GoesOnFrom}
 use Rattle.fsfs_job_run.specs.Workers.Lines.{JobLines, WorkerLines, dealt}
 use Rattle.fsfs_job_run.specs.Workers.Passes.{IsOnward, last_known}
-use Rattle.fsfs_job_run.proofs.BesideLemmas.{all_stay, begins_on, goes_on_itself}
+use Rattle.fsfs_job_run.proofs.BesideLemmas.{all_stay, begins_on, begins_itself}
 use Rattle.fsfs_job_run.proofs.RunLemmas.{a_part}
 use Rattle.fsfs_job_run.specs.Runs.{AllStandFor, HoldsAll}
 use Rattle.fsfs_workers.specs.Ready.{IsAtRest}
@@ -86,24 +86,23 @@ module _ (moment young : ℕ) (js : List Job) (answers : List JobAnswer) (v u : 
   on : IsOnward (view_of u) h
   on = record { begins = begins; has = let long = grown_long h u.seen begins in omega (arith, looked.least, leaves.least, long) }
 
-  lines_hold : (w : ℕ) → w < 2 → WorkerLines moment (revisions h) (last_of (revisions v.seen)) (dealt 2 w js) (dealt 2 w answers)
-  lines_hold w less = all_stay moment (revisions h) (revisions h) (last_known (view_of v)) (last_of (revisions v.seen)) (dealt 2 w js) (dealt 2 w answers) (goes_on_itself (revisions h)) knew_all (both.lines h on w less)
+  lines_hold : (w : ℕ) → w < 2 → WorkerLines moment h (last_of (revisions v.seen)) (dealt 2 w js) (dealt 2 w answers)
+  lines_hold w less = all_stay moment h h (last_known (view_of v)) (last_of (revisions v.seen)) (dealt 2 w js) (dealt 2 w answers) (begins_itself h) knew_all (both.lines h on w less)
 
-  lines : JobLines moment 2 js answers (revisions v.seen) (revisions h)
+  lines : JobLines moment 2 js answers (revisions v.seen) h
   lines = record {
     each = both.each;
     grew = goes_on h v.seen (begins_on h u.seen v.seen begins both.grows);
     lines = lines_hold;
     told = λ r from less.
-        let few = revisions_length h in
-        shares_tell answers r (subst (λ (l : List ℕ). IsIn r l) own_are (leaves.added parts r (omega (arith, from, since_then)) (omega (arith, less, few))));
+        shares_tell answers r (subst (λ (l : List ℕ). IsIn r l) own_are (leaves.added parts r (omega (arith, from, since_then)) less));
     once = shares_tell_once answers (subst AreOnce own_are leaves.once);
   }
 
   -- ---- the disk
 
-  held : HoldsAll v.since t (revisions v.seen) (revisions h)
-  held = subst (λ n. HoldsAll n t (revisions v.seen) (revisions h)) both.since record {
+  abbrev holds : HoldsAll u.since t (revisions v.seen) (revisions h)
+  holds = record {
     layout = u.layout;
     seen = h;
     are = refl;
@@ -117,6 +116,9 @@ module _ (moment young : ℕ) (js : List Job) (answers : List JobAnswer) (v u : 
     moments = λ m image. let p = leaves.moments m image in (p.0, p.3, a_part h p.0 leaves.doubt p.1, omega (arith, p.2, since_then), p.4);
   }
 
+  held : (all : HoldsAll v.since t (revisions v.seen) (revisions h)) × (all.seen ≡ h)
+  held = subst (λ n. (all : HoldsAll n t (revisions v.seen) (revisions h)) × (all.seen ≡ h)) both.since (holds, refl)
+
   -- where none is in doubt
   stands_all : leaves.doubt ≡ None → AllStandFor t (revisions h)
   stands_all none = record { now = each (files_now t) (files_are_image t.first t.operations); images = each }
@@ -128,9 +130,9 @@ module _ (moment young : ℕ) (js : List Job) (answers : List JobAnswer) (v u : 
   ran_two calm =
       let few : are_harmless v.pass.faults ≡ true = ap are_harmless faults in
       record {
-        now = revisions h;
+        now = h;
         lines = lines;
-        last = revisions_length h ∙ last;
+        last = last;
         held = held;
         stuck = λ quiet. both.found (calm (both.doubtless quiet few)).1;
         certain = λ quiet. stands_all (calm (both.doubtless quiet few)).0;

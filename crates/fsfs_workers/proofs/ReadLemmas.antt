@@ -65,13 +65,13 @@ module _ (moment k young base : ℕ) (job : ReadJob) (v : View) (less : young < 
   last : last_of (revisions (up_to young v)) ≡ young
   last = last_is (up_to young v) young long
 
-  reads_line : (h : List Recorded) (answer : JobAnswer) → Begins h v.seen → ReadsSo job base (found_at (tree_of (revisions (up_to young v)) base) job.path) answer → LineHolds moment (revisions h) k (jobs.Read job) answer
+  reads_line : (h : List Recorded) (answer : JobAnswer) → Begins h v.seen → ReadsSo job base (found_at (tree_of (revisions (up_to young v)) base) job.path) answer → LineHolds moment h k (jobs.Read job) answer
   reads_line h answer begins (ByTree _ is) =
       inl (read_line moment k base job answer h (up_to young v) (begins_on (up_to young v) v.seen h (begins_take (young + 1) v.seen) begins) (omega (arith, long, few))
       (is_base job.base k (last_of (revisions (up_to young v))) base (omega (arith, few, last)) (subst (λ (n : ℕ). base ≡ base_of job.base n) (sym last) on) (omega (arith, within, last)))
       (λ P. none_added P answer (found_bare job base (found_at (tree_of (revisions (up_to young v)) base) job.path) answer is)) is)
-  reads_line h _ begins DiskFails = inr (ByDisk (jobs.Read job) job.line places.Read)
-  reads_line h _ begins Wants = inr (ByMemory (jobs.Read job) job.line)
+  reads_line h _ begins DiskFails = inr (ByDisk (jobs.Read job) job.line places.Read, tt)
+  reads_line h _ begins Wants = inr (ByMemory (jobs.Read job) job.line, tt)
 
 -- seen from as the job began (v), of what the pass had seen as it read (m)
 pub read_so : (knows : View → Type 0) (rose : Type 0) (moment young base : ℕ) (job : ReadJob) (answer : JobAnswer) (v m u : View) → knows u → last_known v ≤ young → young ≤ u.pass.least → young < length m.seen → base ≡ base_of job.base young → base ≤ young
@@ -95,6 +95,6 @@ unseen_so knows rose moment job answer v u known goes up is =
     (works_whole knows rose moment (jobs.Read job) (answers.Stopped job.line (Outside (outside.Disk places.Read))) v (
       u,
       known,
-      fails_behind moment (last_known v) (jobs.Read job) (answers.Stopped job.line (Outside (outside.Disk places.Read))) v u goes refl refl (ByDisk (jobs.Read job) job.line places.Read),
+      fails_behind moment (last_known v) (jobs.Read job) (answers.Stopped job.line (Outside (outside.Disk places.Read))) v u goes refl refl (ByDisk (jobs.Read job) job.line places.Read) (λ P. tt),
       up,
     ))

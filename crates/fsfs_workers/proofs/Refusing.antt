@@ -1,5 +1,6 @@
 -- A job one of whose edits was refused, beside others.
-use Rattle.std.proofs.Common.{◌≡◌, ◌⊎◌, ◌<◌, ◌≤◌, ◌+◌, ℕ, List, [], length, refl, sym, subst, inl, inr, arith}
+use Rattle.std.proofs.Common.{◌≡◌, ◌⊎◌, ◌<◌, ◌≤◌, ◌+◌, ℕ, List, [], length, take, refl, sym, ap, subst, ◌∙◌, length-append, inl, inr, arith}
+use Rattle.std.proofs.lemmas.List.{take-append-le}
 use Rattle.fsfs_base.specs.declared.fields.txn_name.TxnName.{TxnName}
 use Rattle.fsfs_tree.specs.Nodes.{TreeFunction}
 use Rattle.fsfs_tree.specs.Dated.{last_of}
@@ -25,7 +26,8 @@ use Rattle.fsfs_job_run.specs.Serial.Jobs.{ByCounts, ByMemory, Fails}
 use Rattle.fsfs_job_run.proofs.Composed.{told_so, outside_so}
 use Rattle.fsfs_job_run.proofs.Counted.{edits_outside}
 use Rattle.fsfs_job_run.proofs.Edited.{stops_by}
-use Rattle.fsfs_job_run.specs.Workers.Beside.{LineHolds, shown_in}
+use Rattle.fsfs_job_run.specs.Serial.Counts.{IfCounted, StopsOver}
+use Rattle.fsfs_job_run.specs.Workers.Beside.{CountsIn, LineHolds, shown_in}
 use Rattle.fsfs_workers.specs.Working.{EndsFrom, GoesOn, GoesOnKnown, up_to}
 use Rattle.fsfs_workers.proofs.Going.{goes_on, ends_so}
 use Rattle.fsfs_workers.proofs.Lines.{is_base, last_is, refused_line}
@@ -44,10 +46,21 @@ module _ (P : Type 0) (moment k last base : ℕ) (name : TxnName) (job : CommitJ
 
   -- its line holds of each history that goes on from there, and shows no revision above the last
   abbrev Tells : Fault → Type 0
-  Tells fault = ((h : List Recorded) → Begins h u.seen → LineHolds moment (revisions h) k (jobs.Commit job) (Stopped line fault)) × (shown_in (Stopped line fault) ≤ last)
+  Tells fault = ((h : List Recorded) → Begins h u.seen → LineHolds moment h k (jobs.Commit job) (Stopped line fault)) × (shown_in (Stopped line fault) ≤ last)
 
-  fails_told : (fault : Fault) → shown_in (Stopped line fault) ≡ 0 → Fails (jobs.Commit job) (Stopped line fault) → Tells fault
-  fails_told fault shows fails = (λ h begins. inr fails, omega (arith, shows))
+  fails_told : (fault : Fault) → shown_in (Stopped line fault) ≡ 0 → Fails (jobs.Commit job) (Stopped line fault) → ((h : List Recorded) → Begins h u.seen → IfCounted (jobs.Commit job) (Stopped line fault) (CountsIn h k)) → Tells fault
+  fails_told fault shows fails counts = (λ h begins. inr (fails, counts h begins), omega (arith, shows))
+
+  -- the first part is one of each history that goes on from there
+  counts_in : (fault : Fault) → Stops fault → (h : List Recorded) → Begins h u.seen → CountsIn h k job line fault
+  counts_in fault s h begins =
+      let top : last_of (revisions part) ≡ last = last_is part last long in
+      let same : base ≡ base_of job.base (last_of (revisions part)) = subst (λ (n : ℕ). base ≡ base_of job.base n) (sym top) on in
+      let over : StopsOver part job line fault =
+      (name, subst (λ (b : ℕ). StopsAt (Bars (bytes_of part) (tree_of (revisions part)) (last_of (revisions part)) b name) (tree_of (revisions part)) (last_of (revisions part)) (tree_of (revisions part) b) [] job.steps line fault) same s) in
+      let first : take (last + 1) h ≡ part = ap (λ (l : List Recorded). take (last + 1) l) begins.1 ∙ take-append-le (last + 1) u.seen begins.0 (omega (arith, less)) in
+      let grown : length h ≡ length u.seen + length begins.0 = ap (λ (l : List Recorded). length l) begins.1 ∙ length-append u.seen begins.0 in
+      (last, few, omega (arith, less, grown), subst (λ (l : List Recorded). StopsOver l job line fault) (sym first) over)
 
   flat_told : (fault : Fault) → StopsAt (λ t marks edit f. Refuses (tree_of (revisions part)) (last_of (revisions part)) t edit f) (tree_of (revisions part)) (last_of (revisions part)) (tree_of (revisions part) base) [] job.steps line fault → Tells fault
   flat_told fault stops = (
@@ -68,14 +81,14 @@ module _ (P : Type 0) (moment k last base : ℕ) (name : TxnName) (job : CommitJ
       by (inl flat) = flat_told fault flat
       by (inr other) =
           let counts = told_so (bytes_of part) (tree_of (revisions part)) (last_of (revisions part)) base name other.0 other.1 other.2 fault other.3 in
-          subst (λ (f : Fault). Tells f) (sym counts.1) (fails_told (Request (Mergeinfo counts.0)) refl (ByCounts job line counts.0))
+          subst (λ (f : Fault). Tells f) (sym counts.1) (fails_told (Request (Mergeinfo counts.0)) refl (ByCounts job line counts.0) (λ h begins. counts_in (Request (Mergeinfo counts.0)) (subst (λ (f : Fault). Stops f) counts.1 s) h begins))
 
   refused_told : (fault : Fault) → IfRefused fault (Stops fault) → IfDisk fault P → Tells fault
   refused_told (Words why) s failed = absurd s
   refused_told (Request why) s failed = stopped_told (Request why) s
   refused_told (Repository why) s failed = absurd s
-  refused_told (Outside why) s failed = fails_told (Outside why) refl (outside_so P job line why failed)
-  refused_told Memory s failed = fails_told Memory refl (ByMemory (jobs.Commit job) line)
+  refused_told (Outside why) s failed = fails_told (Outside why) refl (outside_so P job line why failed) (λ h begins. tt)
+  refused_told Memory s failed = fails_told Memory refl (ByMemory (jobs.Commit job) line) (λ h begins. tt)
   refused_told (Limit why) s failed = stopped_told (Limit why) s
 
   -- and it is purged behind that

@@ -26,7 +26,7 @@ use Rattle.fsfs_job_run.specs.Workers.Beside.{shown_in}
 use Rattle.fsfs_job_run.specs.Workers.Passes.{last_known}
 use Rattle.fsfs_job_run.specs.Faults.{fault_of_begin}
 use Rattle.fsfs_job_run.specs.Running.{HasOutsideCause}
-use Rattle.fsfs_job_run.proofs.Begun.{lacking_fails, lacking_outside}
+use Rattle.fsfs_job_run.proofs.Begun.{begin_counted, lacking_fails, lacking_outside}
 use Rattle.fsfs_job_run.proofs.Whole.{root_whole}
 use Rattle.fsfs_workers.specs.Working.{GoesOn, WorksSo}
 use Rattle.fsfs_workers.proofs.Based.{works_whole}
@@ -85,11 +85,11 @@ unbegun_so knows rose moment base job why fault v m u known goes there moved sho
     (works_whole knows rose moment (jobs.Commit job) (Stopped job.line (fault_of_begin why)) v (
       u,
       known,
-      fails_behind moment (last_known v) (jobs.Commit job) (Stopped job.line (fault_of_begin why)) v u (goes_on v m u goes (by_moving m u moved)) refl (begin_shows base job.line job m u there moved shown why cause) (begin_fails base job.line job m u there moved shown why cause),
+      fails_behind moment (last_known v) (jobs.Commit job) (Stopped job.line (fault_of_begin why)) v u (goes_on v m u goes (by_moving m u moved)) refl (begin_shows base job.line job m u there moved shown why cause) (begin_fails base job.line job m u there moved shown why cause) (begin_counted job job.line why),
       begin_outside base job.line job m u there moved shown rose why cause disk,
     ))
 
--- or the machine has no reading of the number that stood in `db/txn-current`
+-- or no name comes behind the number that stood in `db/txn-current`
 module _ (line : ℕ) where
   lacking_shows : (why : BeginFault) → LacksNumber why → shown_in (Stopped line (fault_of_begin why)) ≡ 0
   lacking_shows (begin.NoRev asked youngest) lacks = absurd lacks
@@ -108,7 +108,7 @@ lacking_so knows rose moment job why fault v m u known goes moved lacks disk is 
     (works_whole knows rose moment (jobs.Commit job) (Stopped job.line (fault_of_begin why)) v (
       u,
       known,
-      fails_behind moment (last_known v) (jobs.Commit job) (Stopped job.line (fault_of_begin why)) v u (goes_on v m u goes (by_moving m u moved)) refl (lacking_shows job.line why lacks) (lacking_fails job.line job why lacks),
+      fails_behind moment (last_known v) (jobs.Commit job) (Stopped job.line (fault_of_begin why)) v u (goes_on v m u goes (by_moving m u moved)) refl (lacking_shows job.line why lacks) (lacking_fails job.line job why lacks) (begin_counted job job.line why),
       lacking_outside job.line job rose u why lacks disk,
     ))
 

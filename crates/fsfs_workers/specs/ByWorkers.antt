@@ -6,6 +6,8 @@ use Rattle.fsfs_tree.specs.Revisions.{Revision}
 use Rattle.fsfs_disk.specs.Trace.{Trace, files_now}
 use Rattle.fsfs_layout.specs.declared.opened.Opened.{Opened}
 use Rattle.fsfs_stands.specs.Files.{StandsFor}
+use Rattle.fsfs_machine.specs.declared.machine.Recorded.{Recorded}
+use Rattle.fsfs_machine.specs.Machine.{revisions}
 use Rattle.fsfs_repo.specs.OpenFaults.{OpensBecause}
 use Rattle.fsfs_base.specs.declared.places.open_fault.OpenFault.{OpenFault}
 use Rattle.fsfs_script.specs.declared.job_lines.job.Job.{Job}
@@ -30,14 +32,16 @@ scene_where false a = record a { trace = None }
 -- The jobs were done beside each other over the history h: the lines are those of the one history that came of it, the last names its youngest
 -- revision, and the disk holds it.
 pub record RanBeside (moment since workers : ℕ) (js : List Job) (answers : List JobAnswer) (youngest : ℕ) (h : List Revision) (told : Option Trace) : Type 0 where
-  pub now : List Revision
+  -- the history that came of it, with the bytes beside each revision
+  pub now : List Recorded
   pub lines : JobLines moment workers js answers h now
   pub last : length now ≡ youngest + 1
-  pub held : IfSome told (λ t. HoldsAll since t h now)
+  -- these are the bytes that it holds
+  pub held : IfSome told (λ t. (all : HoldsAll since t h (revisions now)) × (all.seen ≡ now))
   -- the lock is told to be stuck only where a line, of whichever worker, tells of a fault as `current` was renamed or made firm
   pub stuck : StuckByDoubt answers
   -- nothing is in doubt where no line tells of such a fault
-  pub certain : TellNoDoubt answers → IfSome told (λ t. AllStandFor t now)
+  pub certain : TellNoDoubt answers → IfSome told (λ t. AllStandFor t (revisions now))
 
 -- the files stood for a history, and the jobs were done over it
 abbrev pub RanBesideOver : ℕ → ℕ → List Job → List JobAnswer → ℕ → Option Trace → Option Trace → Type 0

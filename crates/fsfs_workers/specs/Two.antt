@@ -24,7 +24,7 @@ pub record BothWorked (moment : ℕ) (js : List Job) (answers : List JobAnswer) 
   pub since : u.since ≡ v.since
   pub opened : u.opened ≡ v.opened
   -- the lines of each of the two hold of the one history, however it goes on; both knew what the first one did before
-  pub lines : (h : List Recorded) → IsOnward (view_of u) h → (w : ℕ) → w < 2 → WorkerLines moment (revisions h) (last_known (view_of v)) (dealt 2 w js) (dealt 2 w answers)
+  pub lines : (h : List Recorded) → IsOnward (view_of u) h → (w : ℕ) → w < 2 → WorkerLines moment h (last_known (view_of v)) (dealt 2 w js) (dealt 2 w answers)
   -- the revisions that the lines of the first tell are its own, and those that the lines of the second tell are all that one's
   pub own : u.pass.mine ≡ v.pass.mine ++ own_of_all (dealt 2 0 answers)
   pub other : ℕ
@@ -38,11 +38,13 @@ pub record BothWorked (moment : ℕ) (js : List Job) (answers : List JobAnswer) 
 -- are spoken of. The lines are those of the one history that came of it; the last names its youngest revision; and the disk that is given back
 -- holds it.
 pub record RanTwo (moment since : ℕ) (js : List Job) (answers : List JobAnswer) (youngest : ℕ) (h : List Revision) (t : Trace) : Type 0 where
-  pub now : List Revision
+  -- the history that came of it, with the bytes beside each revision
+  pub now : List Recorded
   pub lines : JobLines moment 2 js answers h now
   pub last : length now ≡ youngest + 1
-  pub held : HoldsAll since t h now
+  -- these are the bytes that it holds
+  pub held : (all : HoldsAll since t h (revisions now)) × (all.seen ≡ now)
   -- the lock is told to be stuck only where a line, of whichever worker, tells of a fault as `current` was renamed or made firm
   pub stuck : StuckByDoubt answers
   -- nothing is in doubt where no line tells of such a fault
-  pub certain : TellNoDoubt answers → AllStandFor t now
+  pub certain : TellNoDoubt answers → AllStandFor t (revisions now)

@@ -42,7 +42,7 @@ GoesOnKnown knows v = (u : View) × knows u × GoesOn v u × (u.pass.stuck ≡ v
 -- The end of a job, from where the pass knew v, by a worker that knew revision k as the job began: its line holds of each history that goes on
 -- from what the pass knows then.
 pub record WorksFrom (moment k : ℕ) (job : Job) (answer : JobAnswer) (v u : View) : Type 0 where
-  pub line : (h : List Recorded) → IsOnward u h → LineHolds moment (revisions h) k job answer
+  pub line : (h : List Recorded) → IsOnward u h → LineHolds moment h k job answer
   pub grows : Begins u.seen v.seen
   pub later : last_known v ≤ last_known u
   pub shown : shown_in answer ≤ last_known u

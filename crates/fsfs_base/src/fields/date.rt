@@ -1,11 +1,14 @@
 //! The stored form of a date, `YYYY-MM-DDTHH:MM:SS.uuuuuuZ` in UTC, as the property `svn:date` has it.
-ghost use Rattle.std.specs.Prelude.{◌≡◌, ◌≤◌, ◌<◌, ◌+◌, ◌/◌, ◌%◌, length, IfOk, IfSome, IsSomeAnd, Some};
+ghost use Rattle.std.specs.Prelude.{◌≡◌, ◌≤◌, ◌<◌, ◌+◌, ◌/◌, ◌%◌, ◌↔◌, length, IsOk, IfOk, IfSome, IsSomeAnd, Some};
+ghost use Rattle.jiff_core.specs.Calendar.{IsDate};
+ghost use Rattle.jiff_core.specs.Date.{IsYmd};
+ghost use Rattle.jiff_core.specs.Time.{IsTime, IsHms};
 ghost use Rattle.jiff_core.specs.declared.civil.datetime.DateTime.{DateTime as Shown};
 ghost use Rattle.fsfs_base.specs.Fields.Dates.{IsDateAt, IsDateText, date_text};
 ghost use Rattle.fsfs_base.specs.Fields.DateReading.{two_at, numbers_at, ReadAs, Numbers, HasNumbers, IsShownAs};
 
-use jiff::Timestamp;
-use jiff::civil::DateTime;
+use jiff_core::civil::{Date, DateTime, Time};
+use jiff_core::{Error, Timestamp};
 use jiff_fmt::temporal::DateTimePrinter;
 use std::alloc::{AllocError, Global};
 
@@ -14,11 +17,11 @@ pub fn write_date(alloc: Global, micros: u64) -> Result<Vec<u8>, AllocError>
     requires { micros ≤ 4102444799999999 }
     ensures { IfOk result (λ t. IsDateAt micros t.items) }
 {
-    let Ok(moment) = Timestamp::from_microsecond(micros as i64) else {
+    let Ok(moment) = Timestamp::from_nanosecond((micros * 1_000) as i128) else {
         unreachable!();
     };
     let printer = DateTimePrinter::new().precision(Some(6));
-    let text = printer.timestamp_text(moment.to_plain());
+    let text = printer.timestamp_text(moment);
     Vec::from_slice(alloc, text.as_str().as_bytes())
 }
 
@@ -31,6 +34,24 @@ pub fn read_date(text: &[u8]) -> Option<DateTime>
 {
     let numbers = date_numbers(text)?;
     numbers.date_time()
+}
+
+// The date with the time of day, if the calendar and a clock have them.
+fn date_time(
+    year: i16,
+    month: i8,
+    day: i8,
+    hour: i8,
+    minute: i8,
+    second: i8,
+    nanos: i32,
+) -> Result<DateTime, Error>
+    ensures succeeds { IsOk result ↔ (IsDate year month day × IsTime hour minute second nanos) }
+    ensures value { IfOk result (λ dt. IsYmd year month day dt.date × IsHms hour minute second nanos dt.time) }
+{
+    let date = Date::new(year, month, day)?;
+    let time = Time::new(hour, minute, second, nanos)?;
+    Ok(DateTime { date, time })
 }
 
 /// The numbers of a date's text.
@@ -151,7 +172,7 @@ impl DateNumbers {
         ensures found { IfSome result (HasNumbers self.now.year self.now.month self.now.day self.now.hour self.now.minute self.now.second self.now.micros) }
         ensures only { (dt : Shown) → HasNumbers self.now.year self.now.month self.now.day self.now.hour self.now.minute self.now.second self.now.micros dt → result ≡ Some dt }
     {
-        DateTime::new(
+        date_time(
             self.year as i16,
             self.month as i8,
             self.day as i8,

@@ -12,7 +12,7 @@ const MAX_NAME: usize = 255;
 
 /// The name of a property: a letter, `:` or `_`, and letters, digits, `-`, `.`, `:` and `_` behind it;
 /// at most 255 bytes. A contract sees its bytes.
-#[derive(Debug, Drop)]
+#[derive(Drop)]
 pub struct PropName {
     text: String,
 }
@@ -30,13 +30,13 @@ impl Model for PropName {
 }
 
 /// A text that is no property's name, and the first byte after which none goes on.
-#[derive(Clone, Copy, Debug, PartialEq, Eq)]
+#[derive(Clone, Copy)]
 pub struct BadPropName {
     pub at: usize,
 }
 
 /// A text is no property's name, or memory ran out.
-#[derive(Clone, Copy, Debug, PartialEq, Eq)]
+#[derive(Clone, Copy)]
 pub enum PropNameError {
     Bad(BadPropName),
     OutOfMemory,

@@ -6,7 +6,7 @@ ghost use Rattle.fsfs_base.specs.declared.paths.bad_path.PathError.TheVariants.{
 use std::alloc::{AllocError, AllocFailed};
 
 /// The rule that a text breaks.
-#[derive(Clone, Copy, Debug, PartialEq, Eq)]
+#[derive(Clone, Copy, Debug)]
 pub enum PathFault {
     /// It doesn't begin with `/`.
     NotAbsolute,
@@ -25,14 +25,14 @@ pub enum PathFault {
 }
 
 /// A text that is no path: the rule that it breaks, and at which byte.
-#[derive(Clone, Copy, Debug, PartialEq, Eq)]
+#[derive(Clone, Copy, Debug)]
 pub struct BadPath {
     pub at: usize,
     pub why: PathFault,
 }
 
 /// A text is no path, or memory ran out.
-#[derive(Clone, Copy, Debug, PartialEq, Eq)]
+#[derive(Clone, Copy)]
 pub enum PathError {
     Bad(BadPath),
     OutOfMemory,

@@ -4,7 +4,7 @@ use crate::places::place::DiskPlace;
 use thiserror::Error;
 
 /// Why a repository wasn't opened.
-#[derive(Clone, Copy, Debug, PartialEq, Eq, Error)]
+#[derive(Clone, Copy, Debug, Error)]
 pub enum OpenFault {
     /// There is none of this type of filesystem.
     #[error("there is no repository")]

@@ -3,7 +3,7 @@ ghost use Rattle.std.specs.Prelude.{◌≡◌, ◌≤◌, length};
 ghost use Rattle.fsfs_base.specs.Places.{open_place_word, create_place_word, begin_place_word, commit_place_word, place_word};
 
 /// A place of an opening.
-#[derive(Clone, Copy, Debug, PartialEq, Eq)]
+#[derive(Clone, Copy, Debug)]
 pub enum OpenPlace {
     /// The names of the repository are made firm.
     Firm,
@@ -24,7 +24,7 @@ impl OpenPlace {
 }
 
 /// A place of a creation, behind its look whether there is a repository.
-#[derive(Clone, Copy, Debug, PartialEq, Eq)]
+#[derive(Clone, Copy, Debug)]
 pub enum CreatePlace {
     /// A folder or a file of a new repository is made.
     Put,
@@ -51,7 +51,7 @@ impl CreatePlace {
 }
 
 /// A place of the section that gives a transaction its name.
-#[derive(Clone, Copy, Debug, PartialEq, Eq)]
+#[derive(Clone, Copy, Debug)]
 pub enum BeginPlace {
     /// `txn-current` is read.
     Read,
@@ -78,7 +78,7 @@ impl BeginPlace {
 }
 
 /// A place of a commit's section.
-#[derive(Clone, Copy, Debug, PartialEq, Eq)]
+#[derive(Clone, Copy, Debug)]
 pub enum CommitPlace {
     /// The revision file gets its name.
     PutRev,
@@ -111,7 +111,7 @@ impl CommitPlace {
 }
 
 /// The place of a call of a disk: which call it was that failed.
-#[derive(Clone, Copy, Debug, PartialEq, Eq)]
+#[derive(Clone, Copy, Debug)]
 pub enum DiskPlace {
     /// The look whether there is a repository, or a reading of revisions.
     Read,

@@ -8,7 +8,7 @@ use fsfs_base::BadPath;
 use thiserror::Error;
 
 /// The words ask for nothing.
-#[derive(Clone, Copy, Debug, PartialEq, Eq, Error)]
+#[derive(Clone, Copy, Debug, Error)]
 pub enum BadWords {
     /// They are those of no command.
     #[error("usage")]

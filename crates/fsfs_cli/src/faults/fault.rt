@@ -16,7 +16,7 @@ use thiserror::Error;
 
 /// Why a command didn't do what its words say, by groups: the group alone decides the program's status. The printed words of
 /// a kind are a row of its group's.
-#[derive(Debug, PartialEq, Eq, Drop, Error)]
+#[derive(Debug, Drop, Error)]
 pub enum Fault {
     /// The words ask for nothing.
     #[error(transparent)]

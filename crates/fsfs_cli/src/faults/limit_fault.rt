@@ -6,7 +6,7 @@ use crate::faults::line::{FaultText, word};
 use thiserror::Error;
 
 /// A limit of what can be kept was reached.
-#[derive(Clone, Copy, Debug, PartialEq, Eq, Error)]
+#[derive(Clone, Copy, Debug, Error)]
 pub enum LimitFault {
     /// A text has more than 2^30 bytes.
     #[error("a text is too long")]

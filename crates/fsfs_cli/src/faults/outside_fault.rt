@@ -7,7 +7,7 @@ use fsfs_base::DiskPlace;
 use thiserror::Error;
 
 /// The outside failed.
-#[derive(Clone, Copy, Debug, PartialEq, Eq, Error)]
+#[derive(Clone, Copy, Debug, Error)]
 pub enum OutsideFault {
     /// The path could not be mounted.
     #[error("the path could not be mounted")]

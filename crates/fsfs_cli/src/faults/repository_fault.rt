@@ -9,7 +9,7 @@ use fsfs_revision::{Damage, RevOffset};
 use thiserror::Error;
 
 /// The files of the repository are damaged, or in a form that is not read.
-#[derive(Clone, Copy, Debug, PartialEq, Eq, Error)]
+#[derive(Clone, Copy, Debug, Error)]
 pub enum RepositoryFault {
     /// The repository has another format.
     #[error("the repository has another format")]

@@ -9,7 +9,7 @@ use fsfs_script::BadScript;
 use thiserror::Error;
 
 /// What is asked for isn't there, or is of another kind; or what is to be made is there.
-#[derive(Debug, PartialEq, Eq, Drop, Error)]
+#[derive(Debug, Drop, Error)]
 pub enum RequestFault {
     /// Nothing stands at the path.
     #[error("there is no such node")]

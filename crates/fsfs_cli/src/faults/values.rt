@@ -1,5 +1,5 @@
 //! The values of faults as they are printed, a space before each.
-ghost use Rattle.std.specs.Prelude.{◌≡◌, ◌<◌, ◌≤◌, ◌+◌, ◌∷◌, ◌++◌, length, slice_index, decimal};
+ghost use Rattle.std.specs.Prelude.{◌≡◌, ◌<◌, ◌≤◌, ◌+◌, ◌∷◌, ◌++◌, codes, length, slice_index, decimal};
 ghost use Rattle.hex.specs.Hex.{encode_lower, lower_digits};
 ghost use Rattle.fsfs_base.specs.Fields.TxnNames.{txn_text as text_of_txn};
 ghost use Rattle.fsfs_cli.specs.Lines.{why_name, bad_path_values, small_values, at_values, rep_what_values, what_values, damage_values, txn_value, script_why, bad_script_values};
@@ -138,12 +138,23 @@ fn rep_what_text(what: &RepWhat) -> ArrayString<96>
     text
 }
 
+// That a count of mergeinfo is wrong: the one that is kept, and the one that was found, a space before each.
+fn counts_text(kept: u64, found: u64) -> ArrayString<96>
+    ensures { result.bytes ≡ codes " Minfo" ++ ((32 ∷ decimal kept) ++ 32 ∷ decimal found) }
+{
+    let mut text = ArrayString::new();
+    text.push_str(" Minfo");
+    text.push_str(numbers_text(kept, found).as_str());
+    text
+}
+
 // What is damaged in a revision, with its values, a space before each.
 fn what_text(what: &DamageKind) -> ArrayString<96>
     ensures { result.bytes ≡ what_values what.now }
 {
     let word = match what {
         DamageKind::Rep(rep) => return rep_what_text(rep),
+        DamageKind::Minfo { kept, found } => return counts_text(*kept, *found),
         DamageKind::Trailer => " Trailer",
         DamageKind::NodeRev => " NodeRev",
         DamageKind::PlaceOrder => " PlaceOrder",
@@ -153,6 +164,10 @@ fn what_text(what: &DamageKind) -> ArrayString<96>
         DamageKind::Props => " Props",
         DamageKind::BadDate => " BadDate",
         DamageKind::Missing => " Missing",
+        DamageKind::ChangePath => " ChangePath",
+        DamageKind::PredId => " PredId",
+        DamageKind::CopyId => " CopyId",
+        DamageKind::MinfoRange => " MinfoRange",
     };
     let mut text = ArrayString::new();
     text.push_str(word);

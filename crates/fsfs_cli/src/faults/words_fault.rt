@@ -6,7 +6,7 @@ use fsfs_base::{BadPath, PathError};
 use std::alloc::{AllocError, AllocFailed};
 
 /// Why words are not read.
-#[derive(Clone, Copy, Debug, PartialEq, Eq)]
+#[derive(Clone, Copy)]
 pub enum WordsFault {
     /// They are those of no command.
     Usage,

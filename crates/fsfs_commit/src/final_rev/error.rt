@@ -8,7 +8,7 @@ use std::alloc::AllocError;
 use thiserror::Error;
 
 /// The bytes of a new revision were not written, or a first part of them.
-#[derive(Clone, Copy, Debug, PartialEq, Eq, Error)]
+#[derive(Clone, Copy, Debug, Error)]
 pub enum FinalError {
     /// Nothing was written. There is no number for an offset, too.
     #[error("out of memory")]

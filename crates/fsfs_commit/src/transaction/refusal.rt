@@ -10,7 +10,7 @@ use fsfs_revision::Wrong;
 use fsfs_txn::TxnError;
 
 /// Why a transaction isn't landed or written.
-#[derive(Debug, Drop)]
+#[derive(Drop)]
 pub enum CommitRefusal {
     /// It clashes with this revision, on which it was to be landed, at this path first.
     Clash { head: RevNum, path: FsPath },

@@ -12,7 +12,7 @@ use fsfs_base::{Failed, TxnName};
 use thiserror::Error;
 
 /// Why transactions weren't all removed.
-#[derive(Clone, Copy, Debug, PartialEq, Eq, Error)]
+#[derive(Clone, Copy, Debug, Error)]
 pub enum RemovalFault {
     /// There is none of this name.
     #[error("there is no such transaction")]

@@ -5,7 +5,7 @@ use fsfs_base::Failed;
 use std::alloc::AllocError;
 
 /// Why a file was not read.
-#[derive(Clone, Copy, Debug, PartialEq, Eq)]
+#[derive(Clone, Copy)]
 pub enum FileFault {
     /// A call of the disk failed.
     Failed,

@@ -1,7 +1,7 @@
 // Who may read, write and enter what stands somewhere.
 
 /// The permission bits of a file or a folder, with those that set the user and the group.
-#[derive(Clone, Copy, Debug, PartialEq, Eq)]
+#[derive(Clone, Copy, PartialEq, Eq)]
 pub struct Mode {
     pub bits: u32,
 }
@@ -20,7 +20,7 @@ impl Mode {
 
 /// The modes that what is new in a repository gets: those of what stood there before it, as Subversion has it. Of the rest, and where
 /// nothing stood before, the system decides.
-#[derive(Clone, Copy, Debug)]
+#[derive(Clone, Copy)]
 pub struct Modes {
     /// Of a new revision's file and of its property file: that of the youngest revision's file.
     pub revision: Option<Mode>,

@@ -18,6 +18,7 @@ use Rattle.fsfs_cli.specs.declared.faults.request_fault.RequestFault.TheVariants
 use Rattle.fsfs_jobs.specs.Serial.{Runs, last_name}
 use Rattle.fsfs_jobs.specs.declared.answer.JobAnswer.{JobAnswer}
 use Rattle.fsfs_jobs.specs.declared.answer.JobAnswer.TheVariants.{Committed, Read, Conflict, Stopped}
+use Rattle.fsfs_job_run.specs.Serial.Counts.{IfCounted, StopsOver}
 
 -- a fact, where the answer tells a revision
 abbrev pub IfAdded : JobAnswer → Type 0 → Type 0
@@ -33,7 +34,7 @@ DoesJob moment h job answer now =
     (date : List ℕ) × IfAdded answer (IsDateAt moment date) × ((t : ℕ) → t < last_name → (named : ℕ) × (named ≤ t + 1) × Runs h date t job answer now named)
 
 -- What that definition does not decide: a call of the disk or of a bench failed, the lock is stuck, or memory was wanting; and of a job that
--- commits: no name was left, or counts of mergeinfo would have to change.
+-- commits: no name was left, or counts of mergeinfo would have to change. (Why it was refused for these: `StopsOver`.)
 pub data Fails : Job → JobAnswer → Type 0 where
   ByDisk : (job : Job) (line : ℕ) (at : DiskPlace) → Fails job (Stopped line (Outside (Disk at)))
   ByBench : (job : Job) (line : ℕ) → Fails job (Stopped line (Outside Bench))
@@ -80,10 +81,10 @@ pub record RunsJob (moment : ℕ) (job : Job) (answer : JobAnswer) (v u : View) 
   pub done : DoesJob moment (revisions v.seen) job answer (revisions u.seen) ⊎ Fails job answer
   pub leaves : Leaves answer v u
 
--- JOBS ONE AFTER ANOTHER
+-- JOBS ONE AFTER ANOTHER. One that is refused for mergeinfo is so by the flat model, or for counts in the bytes that the pass had seen.
 pub data RunJobs (moment : ℕ) : List Job → List JobAnswer → View → View → Type 0 where
   End : (v : View) → RunJobs moment [] [] v v
-  More : (job : Job) (answer : JobAnswer) (js : List Job) (answers : List JobAnswer) (v m u : View) → RunsJob moment job answer v m → RunJobs moment js answers m u
+  More : (job : Job) (answer : JobAnswer) (js : List Job) (answers : List JobAnswer) (v m u : View) → RunsJob moment job answer v m → IfCounted job answer (StopsOver v.seen) → RunJobs moment js answers m u
       → RunJobs moment (job ∷ js) (answer ∷ answers) v u
 
 -- none of these failed

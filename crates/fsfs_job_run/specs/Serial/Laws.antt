@@ -1,11 +1,13 @@
 -- The laws of jobs one after another.
 use Rattle.std.specs.Prelude.{◌≡◌, ◌≤◌, ◌+◌, ◌++◌, ℕ, List, [], ◌∷◌, length}
 use Rattle.fsfs_machine.specs.Machine.{revisions}
+use Rattle.fsfs_machine.specs.Kept.{IsIn}
 use Rattle.fsfs_turn.specs.Views.{View, Begins}
 use Rattle.fsfs_turn.specs.Alone.{BringsNoDoubt}
 use Rattle.fsfs_script.specs.declared.job_lines.job.Job.{Job}
 use Rattle.fsfs_jobs.specs.Serial.{last_name}
 use Rattle.fsfs_jobs.specs.declared.answer.JobAnswer.{JobAnswer}
+use Rattle.fsfs_job_run.specs.Serial.Counts.{IfCounted, StopsOver}
 use Rattle.fsfs_job_run.specs.Serial.Jobs.{RunsJob, RunJobs, NoneFails, IsSerialAt, TellNoDoubt, own_of_all}
 
 -- where none failed, and there are names for all, they are the serial run of the jobs over the history
@@ -15,7 +17,7 @@ RunsAreSerial = (moment : ℕ) (jobs : List Job) (answers : List JobAnswer) (v u
 
 -- a run and one job more
 abbrev pub RunsGoOn : Type 0
-RunsGoOn = (moment : ℕ) (jobs : List Job) (answers : List JobAnswer) (job : Job) (answer : JobAnswer) (v m u : View) → RunJobs moment jobs answers v m → RunsJob moment job answer m u
+RunsGoOn = (moment : ℕ) (jobs : List Job) (answers : List JobAnswer) (job : Job) (answer : JobAnswer) (v m u : View) → RunJobs moment jobs answers v m → RunsJob moment job answer m u → IfCounted job answer (StopsOver m.seen)
     → RunJobs moment (jobs ++ job ∷ []) (answers ++ answer ∷ []) v u
 
 -- what a run comes to, failed jobs in it or not
@@ -26,6 +28,8 @@ pub record Grows (jobs : List Job) (answers : List JobAnswer) (v u : View) : Typ
   pub begins : Begins u.seen v.seen
   pub count : length u.seen ≡ length v.seen + length (own_of_all answers)
   pub own : u.pass.mine ≡ v.pass.mine ++ own_of_all answers
+  -- each name that was known to be given is
+  pub given : (k : ℕ) → IsIn k v.given → IsIn k u.given
   -- images are spoken of since the same moment
   pub since : u.since ≡ v.since
   pub opened : u.opened ≡ v.opened

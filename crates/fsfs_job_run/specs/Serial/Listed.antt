@@ -8,10 +8,17 @@ abbrev pub without_txns : List (ℕ × ℕ) → List Label → List Label
 without_txns [] labels = labels
 without_txns (txn ∷ txns) labels = without_txns txns (without_label (txn_label txn) labels)
 
--- LEAVES LISTED: transactions were begun, at most so many, and none of them is listed. All others that were listed are, and no more.
-pub record LeavesListed (most : ℕ) (old new : Option (List Label)) : Type 0 where
+-- each of these has this number or a greater one
+abbrev pub AreFrom : ℕ → List (ℕ × ℕ) → Type 0
+AreFrom least [] = Unit {0}
+AreFrom least (txn ∷ txns) = (least ≤ txn.1) × AreFrom least txns
+
+-- LEAVES LISTED: transactions were begun, at most so many, with names of this number or greater ones, and none of them is listed. All others that
+-- were listed are, and no more.
+pub record LeavesListed (least most : ℕ) (old new : Option (List Label)) : Type 0 where
   pub begun : List (ℕ × ℕ)
   pub few : length begun ≤ most
+  pub names : AreFrom least begun
   pub left : new ≡ option_map (without_txns begun) old
 
 -- none of these was listed
@@ -23,12 +30,12 @@ AreUnlisted (txn ∷ txns) told = IfSome told (λ labels. has_label (txn_label t
 
 -- each label that is kept then was kept before
 abbrev pub NoneIsLeft : Type 0
-NoneIsLeft = (most : ℕ) (old new : Option (List Label)) → LeavesListed most old new → IfSome old (λ labels. IfSome new (AreLeft labels))
+NoneIsLeft = (least most : ℕ) (old new : Option (List Label)) → LeavesListed least most old new → IfSome old (λ labels. IfSome new (AreLeft labels))
 
 -- they are the same, where none was kept that has the name of one that was begun
 abbrev pub AllAreKept : Type 0
-AllAreKept = (most : ℕ) (old new : Option (List Label)) (lists : LeavesListed most old new) → AreUnlisted lists.begun old → new ≡ old
+AllAreKept = (least most : ℕ) (old new : Option (List Label)) (lists : LeavesListed least most old new) → AreUnlisted lists.begun old → new ≡ old
 
 -- those of one run behind another
 abbrev pub ListingsGoOn : Type 0
-ListingsGoOn = (m n : ℕ) (old mid new : Option (List Label)) → LeavesListed m old mid → LeavesListed n mid new → LeavesListed (m + n) old new
+ListingsGoOn = (least m n : ℕ) (old mid new : Option (List Label)) → LeavesListed least m old mid → LeavesListed least n mid new → LeavesListed least (m + n) old new

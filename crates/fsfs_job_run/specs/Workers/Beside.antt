@@ -1,20 +1,24 @@
 -- A job that a worker does while others add revisions too, and what its line says of the one history.
-use Rattle.std.specs.Prelude.{◌≡◌, ◌⊎◌, ◌<◌, ◌≤◌, ◌++◌, ℕ, List, length}
+use Rattle.std.specs.Prelude.{◌≡◌, ◌⊎◌, ◌<◌, ◌≤◌, ◌+◌, ◌++◌, ℕ, List, length, take}
 use Rattle.fsfs_base.specs.Fields.Dates.{IsDateAt}
 use Rattle.fsfs_tree.specs.Revisions.{Revision, tree_of}
 use Rattle.fsfs_tree.specs.Dated.{last_of}
 use Rattle.fsfs_tree.specs.Answers.{found_at}
+use Rattle.fsfs_machine.specs.declared.machine.Recorded.{Recorded}
+use Rattle.fsfs_machine.specs.Machine.{revisions}
 use Rattle.fsfs_script.specs.declared.job_lines.job.Base.{Base}
 use Rattle.fsfs_script.specs.declared.job_lines.job.Base.TheVariants.{Youngest, Number}
 use Rattle.fsfs_script.specs.declared.job_lines.job.CommitJob.{CommitJob}
 use Rattle.fsfs_script.specs.declared.job_lines.job.ReadJob.{ReadJob}
 use Rattle.fsfs_script.specs.declared.job_lines.job.Job.{Job}
 use Rattle.fsfs_script.specs.declared.job_lines.job.Job.TheVariants as jobs
+use Rattle.fsfs_cli.specs.declared.faults.fault.Fault.{Fault}
 use Rattle.fsfs_cli.specs.declared.faults.fault.Fault.TheVariants.{Request}
 use Rattle.fsfs_cli.specs.declared.faults.request_fault.RequestFault.TheVariants.{NoRev}
 use Rattle.fsfs_jobs.specs.Serial.{IsReadOf, Transacts}
 use Rattle.fsfs_jobs.specs.declared.answer.JobAnswer.{JobAnswer}
 use Rattle.fsfs_jobs.specs.declared.answer.JobAnswer.TheVariants.{Committed, Read, Conflict, Stopped}
+use Rattle.fsfs_job_run.specs.Serial.Counts.{IfCounted, StopsOver}
 use Rattle.fsfs_job_run.specs.Serial.Jobs.{IfAdded, Fails}
 
 -- The revision that a job is about: the one that it numbers; or for `head` one that was the youngest as the job began or since, where revision
@@ -46,9 +50,15 @@ pub record IsDone (moment : ℕ) (h : List Revision) (k : ℕ) (job : Job) (answ
   pub runs : RunsBeside before date k job answer behind
   pub part : GoesOnFrom behind h
 
--- WHAT A LINE SAYS of a history, of a worker that knew revision k as the job began: it was done so, or it failed.
-abbrev pub LineHolds : ℕ → List Revision → ℕ → Job → JobAnswer → Type 0
-LineHolds moment h k job answer = IsDone moment h k job answer ⊎ Fails job answer
+-- A job was refused for mergeinfo over a first part of this history that has revision k: by the flat model, or for counts in the bytes beside its
+-- revisions.
+abbrev pub CountsIn : List Recorded → ℕ → CommitJob → ℕ → Fault → Type 0
+CountsIn h k job line fault = (last : ℕ) × (k ≤ last) × (last < length h) × StopsOver (take (last + 1) h) job line fault
+
+-- WHAT A LINE SAYS of a history (with the bytes beside each revision), of a worker that knew revision k as the job began: it was done so, or it
+-- failed.
+abbrev pub LineHolds : ℕ → List Recorded → ℕ → Job → JobAnswer → Type 0
+LineHolds moment h k job answer = IsDone moment (revisions h) k job answer ⊎ (Fails job answer × IfCounted job answer (CountsIn h k))
 
 -- the greatest revision that a line shows, which its worker knows from then on
 abbrev pub shown_in : JobAnswer → ℕ

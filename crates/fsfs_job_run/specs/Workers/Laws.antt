@@ -3,22 +3,21 @@ use Rattle.std.specs.Prelude.{◌≡◌, ◌<◌, ◌≤◌, ◌++◌, ℕ, List
 use Rattle.fsfs_tree.specs.Revisions.{Revision}
 use Rattle.fsfs_tree.specs.Dated.{last_of}
 use Rattle.fsfs_machine.specs.declared.machine.Recorded.{Recorded}
-use Rattle.fsfs_machine.specs.Machine.{revisions}
 use Rattle.fsfs_turn.specs.Views.{View, Begins}
 use Rattle.fsfs_script.specs.declared.job_lines.job.Job.{Job}
 use Rattle.fsfs_jobs.specs.Serial.{Runs, last_name}
 use Rattle.fsfs_jobs.specs.declared.answer.JobAnswer.{JobAnswer}
 use Rattle.fsfs_job_run.specs.Serial.Jobs.{own_of_all}
-use Rattle.fsfs_job_run.specs.Workers.Beside.{GoesOnFrom, RunsBeside, LineHolds}
+use Rattle.fsfs_job_run.specs.Workers.Beside.{RunsBeside, LineHolds}
 use Rattle.fsfs_job_run.specs.Workers.Lines.{TellNoneStuck, WorkerLines}
 use Rattle.fsfs_job_run.specs.Workers.Passes.{last_known, IsOnward, WorksJob, WorkJobs}
 
 -- a line that holds of a history holds of each that goes on from it, and of a worker that knew less
 abbrev pub LinesStay : Type 0
-LinesStay = (moment : ℕ) (h later : List Revision) (k less : ℕ) (job : Job) (answer : JobAnswer) → GoesOnFrom h later → less ≤ k → LineHolds moment h k job answer → LineHolds moment later less job answer
+LinesStay = (moment : ℕ) (h later : List Recorded) (k less : ℕ) (job : Job) (answer : JobAnswer) → Begins later h → less ≤ k → LineHolds moment h k job answer → LineHolds moment later less job answer
 
 abbrev pub WorkersLinesStay : Type 0
-WorkersLinesStay = (moment : ℕ) (h later : List Revision) (k less : ℕ) (js : List Job) (answers : List JobAnswer) → GoesOnFrom h later → less ≤ k → WorkerLines moment h k js answers → WorkerLines moment later less js answers
+WorkersLinesStay = (moment : ℕ) (h later : List Recorded) (k less : ℕ) (js : List Job) (answers : List JobAnswer) → Begins later h → less ≤ k → WorkerLines moment h k js answers → WorkerLines moment later less js answers
 
 -- where nobody else adds a revision, a job does what it does alone
 abbrev pub AloneIsBeside : Type 0
@@ -34,7 +33,7 @@ pub record Worked (moment : ℕ) (js : List Job) (answers : List JobAnswer) (v u
   -- there is an answer to each job
   pub each : length answers ≡ length js
   -- its lines hold of the history, however it goes on
-  pub lines : (h : List Recorded) → IsOnward u h → WorkerLines moment (revisions h) (last_known v) js answers
+  pub lines : (h : List Recorded) → IsOnward u h → WorkerLines moment h (last_known v) js answers
   pub begins : Begins u.seen v.seen
   pub later : last_known v ≤ last_known u
   -- the pass's own revisions are those that its lines tell

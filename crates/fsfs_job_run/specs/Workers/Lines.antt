@@ -2,6 +2,8 @@
 use Rattle.std.specs.Prelude.{◌≡◌, ◌+◌, ◌-◌, ◌^◌, ◌<◌, ◌≤◌, if◌then◌else◌, ℕ, zero, suc, List, [], ◌∷◌, length, max, min, Bool, true, false}
 use Rattle.fsfs_tree.specs.Revisions.{Revision}
 use Rattle.fsfs_tree.specs.Dated.{last_of}
+use Rattle.fsfs_machine.specs.declared.machine.Recorded.{Recorded}
+use Rattle.fsfs_machine.specs.Machine.{revisions}
 use Rattle.fsfs_machine.specs.Kept.{IsIn, AreOnce}
 pub use Rattle.fsfs_turn.specs.Mountings.{RoseBy}
 use Rattle.fsfs_script.specs.declared.job_lines.job.Job.{Job}
@@ -15,7 +17,7 @@ use Rattle.fsfs_job_run.specs.Workers.Beside.{GoesOnFrom, LineHolds, shown_in}
 -- ---- one worker
 
 -- THE LINES OF ONE WORKER, as it did its jobs one after another: as each began it knew revision k, and all that its earlier lines show.
-abbrev pub WorkerLines : ℕ → List Revision → ℕ → List Job → List JobAnswer → Type 0
+abbrev pub WorkerLines : ℕ → List Recorded → ℕ → List Job → List JobAnswer → Type 0
 WorkerLines moment h k [] [] = Unit {0}
 WorkerLines moment h k [] (answer ∷ answers) = ⊥
 WorkerLines moment h k (job ∷ js) [] = ⊥
@@ -30,12 +32,12 @@ dealt n zero (x ∷ xs) = x ∷ dealt n (n - 1) xs
 dealt n (suc w) (x ∷ xs) = dealt n w xs
 
 -- THE LINES OF A RUN, in the order of its input, of jobs that were dealt out to workers: h is the history at the opening, and `now` the one that
--- came of it.
-pub record JobLines (moment workers : ℕ) (js : List Job) (answers : List JobAnswer) (h now : List Revision) : Type 0 where
+-- came of it, with the bytes beside each revision.
+pub record JobLines (moment workers : ℕ) (js : List Job) (answers : List JobAnswer) (h : List Revision) (now : List Recorded) : Type 0 where
   -- a line for each job
   pub each : length answers ≡ length js
   -- the history grew
-  pub grew : GoesOnFrom h now
+  pub grew : GoesOnFrom h (revisions now)
   -- the lines of each worker hold of it; as it began it knew the last revision that there was at the opening
   pub lines : (w : ℕ) → w < workers → WorkerLines moment now (last_of h) (dealt workers w js) (dealt workers w answers)
   -- each revision since the opening is that of a job, whose line tells it, and no line tells that of another

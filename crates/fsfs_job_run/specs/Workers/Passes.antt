@@ -1,7 +1,6 @@
 -- What jobs of a worker do to what its pass knows. Between its turns others add revisions.
 use Rattle.std.specs.Prelude.{◌≡◌, ◌-◌, ◌<◌, ◌≤◌, ◌++◌, max, ℕ, List, [], ◌∷◌, length, true, false, None, is_some}
 use Rattle.fsfs_machine.specs.declared.machine.Recorded.{Recorded}
-use Rattle.fsfs_machine.specs.Machine.{revisions}
 use Rattle.fsfs_turn.specs.Alone.{BringsNoDoubt}
 use Rattle.fsfs_turn.specs.Views.{View, Begins}
 use Rattle.fsfs_script.specs.declared.job_lines.job.Job.{Job}
@@ -22,7 +21,7 @@ pub record IsOnward (v : View) (h : List Recorded) : Type 0 where
 -- the line tells, and no revision is left in doubt but where the line tells of that. Where it tells that the lock is stuck the pass has found it so,
 -- which it never forgets.
 pub record WorksJob (moment : ℕ) (job : Job) (answer : JobAnswer) (v u : View) : Type 0 where
-  pub line : (h : List Recorded) → IsOnward u h → LineHolds moment (revisions h) (last_known v) job answer
+  pub line : (h : List Recorded) → IsOnward u h → LineHolds moment h (last_known v) job answer
   pub grows : Begins u.seen v.seen
   pub later : last_known v ≤ last_known u
   pub shown : shown_in answer ≤ last_known u

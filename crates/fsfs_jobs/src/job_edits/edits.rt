@@ -17,7 +17,7 @@ use fsfs_txn_nodes::OwnTexts;
 use std::alloc::Global;
 
 /// The first edit that was not done.
-#[derive(Debug, Drop)]
+#[derive(Drop)]
 pub struct Stopped {
     /// The line on which it began.
     pub line: u64,

@@ -1,7 +1,8 @@
 //! Writing dumps, and records of a `children` file.
-ghost use Rattle.std.specs.Prelude.{◌≡◌, ℕ, List, OnOk, IfOk};
+ghost use Rattle.std.specs.Prelude.{◌≡◌, ◌++◌, ℕ, List, OnOk, IfOk};
+ghost use Rattle.std.specs.List.{flat_map};
 ghost use Rattle.fsfs_base.specs.Grammar.Relations.{Appends};
-ghost use Rattle.fsfs_layout.specs.Hash.Dump.{Field, Pair, Entries, IsDump, dump_text, put};
+ghost use Rattle.fsfs_layout.specs.Hash.Dump.{Field, Pair, Entries, IsDump, dump_text, pair_text, put};
 ghost use Rattle.fsfs_layout.specs.Hash.Children.{IsChildren, without};
 
 use fsfs_base::Pairs;
@@ -39,6 +40,20 @@ pub fn drop_entry(out: &mut Vec<u8>, name: &[u8]) -> Result<(), AllocError>
     Ok(())
 }
 
+/// Puts the pairs as they stand in a dump, keys in byte order, without its end.
+pub fn put_pairs(out: &mut Vec<u8>, pairs: &Pairs) -> Result<(), AllocError>
+    ensures text { OnOk result (out.new.items ≡ out.old.items ++ flat_map pair_text pairs.now) }
+    // With its end they are a dump.
+    ensures entries { OnOk result (Entries (dump_text pairs.now) pairs.now) }
+{
+    let map = pairs.as_map();
+    for (key, value) in map {
+        put_field(out, b'K', key)?;
+        put_field(out, b'V', value)?;
+    }
+    Ok(())
+}
+
 /// The dump of the pairs, keys in byte order.
 pub fn write_hash(alloc: Global, pairs: &Pairs) -> Result<Vec<u8>, AllocError>
     ensures dump { IfOk result (λ v. IsDump v.items pairs.now) }
@@ -48,10 +63,7 @@ pub fn write_hash(alloc: Global, pairs: &Pairs) -> Result<Vec<u8>, AllocError>
     let map = pairs.as_map();
     let _count = map.len();
     let mut out = Vec::new(alloc);
-    for (key, value) in map {
-        put_field(&mut out, b'K', key)?;
-        put_field(&mut out, b'V', value)?;
-    }
+    put_pairs(&mut out, pairs)?;
     out.extend_from_slice(b"END\n")?;
     Ok(out)
 }

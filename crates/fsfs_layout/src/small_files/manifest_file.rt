@@ -4,6 +4,7 @@ ghost use Rattle.std.specs.List.{flat_map};
 ghost use Rattle.fsfs_base.specs.Grammar.Numeral.{digit};
 ghost use Rattle.fsfs_base.specs.Grammar.Reading.{Gives};
 ghost use Rattle.fsfs_base.specs.Grammar.ReadErrors.{GivesOrMemory};
+ghost use Rattle.fsfs_layout.specs.Layouts.{shard_size as size_of};
 ghost use Rattle.fsfs_layout.specs.Manifest.{offset_line, DontFall, IsManifest, IsOutOfMemory, IsManifestError};
 ghost use Rattle.fsfs_layout.specs.ManifestReading.{reaches_at, starts_at, follows_at, offset_rest_at, offset_at, lines_at, manifest_at};
 
@@ -14,7 +15,7 @@ use fsfs_base::{ReadError, SmallFault, SmallFile, digit_of};
 use std::alloc::{AllocError, Global};
 
 /// A manifest was not read.
-#[derive(Clone, Copy, Debug, PartialEq, Eq)]
+#[derive(Clone, Copy)]
 pub enum ManifestError {
     OutOfMemory,
     Fault(SmallFault),
@@ -155,9 +156,9 @@ pub fn read_manifest(
     shard: u32,
     layout: Layout,
 ) -> Result<Vec<u64>, ManifestError>
-    ensures found { IfOk result (λ v. IsManifest layout.shard_size bytes.now v.items) }
-    ensures only { (offsets : List ℕ) → IsManifest layout.shard_size bytes.now offsets → MatchResult result (λ v. v.items ≡ offsets) IsOutOfMemory }
-    ensures fault { IfErr result (IsManifestError shard layout.shard_size bytes.now) }
+    ensures found { IfOk result (λ v. IsManifest (size_of layout) bytes.now v.items) }
+    ensures only { (offsets : List ℕ) → IsManifest (size_of layout) bytes.now offsets → MatchResult result (λ v. v.items ≡ offsets) IsOutOfMemory }
+    ensures fault { IfErr result (IsManifestError shard (size_of layout) bytes.now) }
 {
     match manifest(alloc, layout.shard_size(), bytes) {
         Ok(found) => Ok(found),

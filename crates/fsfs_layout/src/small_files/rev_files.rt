@@ -2,10 +2,12 @@
 ghost use Rattle.std.specs.Prelude.{◌≡◌, ℕ, ◌∷◌, [], ◌++◌, IfOk, IfErr, Ok};
 ghost use Rattle.std.specs.Fmt.{decimal};
 ghost use Rattle.fsfs_base.specs.Grammar.Reading.{Gives};
-ghost use Rattle.fsfs_layout.specs.Small.{IsRevLine, IsMinUnpackedRev, IsFaultOf, IsMinUnpackedFault};
+ghost use Rattle.fsfs_layout.specs.Small.{IsRevLine, IsMinUnpackedRevIn, IsMinUnpackedRev, IsFaultOf, IsMinUnpackedFaultIn, IsMinUnpackedFault};
+ghost use Rattle.fsfs_layout.specs.declared.format.Format.TheVariants.{Four};
 ghost use Rattle.fsfs_layout.specs.Layouts.{place_in_shard};
 ghost use Rattle.fsfs_layout.specs.Reading.{rev_line_at};
 
+use crate::format::Format;
 use crate::layout::Layout;
 use fsfs_base::{RevNum, SmallFault, SmallFile};
 use std::alloc::{AllocError, Global};
@@ -40,12 +42,11 @@ pub fn read_current(bytes: &[u8]) -> Result<RevNum, SmallFault>
     }
 }
 
-/// The oldest revision that isn't packed, from the bytes of `db/min-unpacked-rev`: a revision number and a newline.
-/// A number that isn't of the first revision of a shard is refused at byte 0.
-pub fn read_min_unpacked_rev(layout: Layout, bytes: &[u8]) -> Result<RevNum, SmallFault>
-    ensures found { IfOk result (IsMinUnpackedRev layout bytes.now) }
-    ensures only { (n : ℕ) → IsMinUnpackedRev layout bytes.now n → result ≡ Ok n }
-    ensures fault { IfErr result (IsMinUnpackedFault layout bytes.now) }
+// The oldest revision that isn't packed, from the bytes of `db/min-unpacked-rev` of format 4.
+fn read_floor(layout: Layout, bytes: &[u8]) -> Result<RevNum, SmallFault>
+    ensures found { IfOk result (IsMinUnpackedRevIn Four layout bytes.now) }
+    ensures only { (n : ℕ) → IsMinUnpackedRevIn Four layout bytes.now n → result ≡ Ok n }
+    ensures fault { IfErr result (IsMinUnpackedFaultIn Four layout bytes.now) }
 {
     match rev_line(bytes) {
         Ok(rev) => {
@@ -61,6 +62,20 @@ pub fn read_min_unpacked_rev(layout: Layout, bytes: &[u8]) -> Result<RevNum, Sma
             file: SmallFile::MinUnpackedRev,
             at: bytes.len() - left,
         }),
+    }
+}
+
+/// The oldest revision that isn't packed, from the bytes of `db/min-unpacked-rev`: a revision number and a newline. A number that
+/// isn't of the first revision of a shard is refused at byte 0, and in one folder any but 0. In format 3, which has no such file, it is 0,
+/// whatever the bytes.
+pub fn read_min_unpacked_rev(layout: Layout, bytes: &[u8]) -> Result<RevNum, SmallFault>
+    ensures found { IfOk result (IsMinUnpackedRev layout bytes.now) }
+    ensures only { (n : ℕ) → IsMinUnpackedRev layout bytes.now n → result ≡ Ok n }
+    ensures fault { IfErr result (IsMinUnpackedFault layout bytes.now) }
+{
+    match layout.format() {
+        Format::Three => Ok(RevNum::ZERO),
+        Format::Four => read_floor(layout, bytes),
     }
 }
 
@@ -81,13 +96,14 @@ pub fn write_current(alloc: Global, youngest: RevNum) -> Result<Vec<u8>, AllocEr
     write_rev_line(alloc, youngest)
 }
 
-/// The bytes of `db/min-unpacked-rev` for this oldest revision that isn't packed.
+/// The bytes of `db/min-unpacked-rev` of format 4 for this oldest revision that isn't packed.
 pub fn write_min_unpacked_rev(
     alloc: Global,
     layout: Layout,
     rev: RevNum,
 ) -> Result<Vec<u8>, AllocError>
-    requires { place_in_shard layout rev ≡ 0 }
+    requires format { layout.format ≡ Four }
+    requires whole { place_in_shard layout rev ≡ 0 }
     ensures grammar { IfOk result (λ v. IsMinUnpackedRev layout v.items rev) }
     ensures text { IfOk result (λ v. v.items ≡ decimal rev ++ 10 ∷ []) }
 {

@@ -1,12 +1,12 @@
 -- The properties of a revision, as they are read of its property file. (The libsvn_fs_fs structure file, "Revision properties file
 -- format".)
-use Rattle.std.specs.Prelude.{◌≡◌, ℕ, List, [], ◌∷◌, Some, Result}
+use Rattle.std.specs.Prelude.{ℕ, List, [], ◌∷◌, Result}
 use Rattle.fsfs_revision.specs.declared.damage.DamageKind.TheVariants as what
 use Rattle.fsfs_revision.specs.declared.wrong.Wrong.{Wrong}
 use Rattle.fsfs_revision.specs.Damage.Checks.{Check, must, Judged}
 use Rattle.fsfs_revision.specs.Damage.Damages.{place_of, damaged}
 use Rattle.fsfs_revision.specs.Damage.Readings.{AndThen}
-use Rattle.fsfs_revision.specs.Told.{RevisionBytes, Telling, BytesOf}
+use Rattle.fsfs_revision.specs.RevProps.{MayRead, FileRead}
 use Rattle.fsfs_layout.specs.Hash.Dump.{IsDump}
 
 -- names and values, in the order of the names' bytes
@@ -20,10 +20,6 @@ file_checks rev bytes = must ((pairs : Pairs) × IsDump bytes pairs) (damaged (p
 abbrev pub RevPropsIn : ℕ → List ℕ → Result Pairs Wrong → Type 0
 RevPropsIn rev bytes = Judged (IsDump bytes) (file_checks rev bytes)
 
--- the properties of a revision; `files` gives the bytes of the property files
-abbrev pub RevPropsOf : RevisionBytes → ℕ → Result Pairs Wrong → Type 0
-RevPropsOf files rev = AndThen (BytesOf files rev) (RevPropsIn rev)
-
--- files gives what is told of the revision's property file
-abbrev pub IsToldProps : {Below : Type 0} → Telling Below → RevisionBytes → ℕ → Type 0
-IsToldProps told files rev = told.props rev ≡ Some (files rev)
+-- the properties of a revision, of one text that may be read of its property file
+abbrev pub RevPropsOf : MayRead → ℕ → Result Pairs Wrong → Type 0
+RevPropsOf may rev = AndThen (FileRead (may rev)) (RevPropsIn rev)

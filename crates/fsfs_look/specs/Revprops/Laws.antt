@@ -4,6 +4,7 @@ use Rattle.fsfs_tree.specs.Dated.{IsDated}
 use Rattle.fsfs_tree.specs.PropTexts.{author_text, date_text, log_text, info_text}
 use Rattle.fsfs_layout.specs.Hash.Dump.{IsDump}
 use Rattle.fsfs_revision.specs.Told.{RevisionBytes}
+use Rattle.fsfs_revision.specs.RevProps.{MayRead, only}
 use Rattle.fsfs_look.specs.Revprops.Files.{Pairs}
 use Rattle.fsfs_stands.specs.Texts.{End}
 use Rattle.fsfs_stands.specs.Agreeing.{HasOneText}
@@ -12,8 +13,8 @@ use Rattle.fsfs_look.specs.Revprops.Texts.{AuthorText, DateText, LogText, InfoTe
 
 -- ---- one text
 
-abbrev pub HaveOneText : (RevisionBytes → ℕ → List ℕ → End → Type 0) → Type 0
-HaveOneText T = (files : RevisionBytes) (rev : ℕ) → HasOneText (T files rev)
+abbrev pub HaveOneText : (MayRead → ℕ → List ℕ → End → Type 0) → Type 0
+HaveOneText T = (files : RevisionBytes) (rev : ℕ) → HasOneText (T (only files) rev)
 
 -- ---- by the properties
 
@@ -24,8 +25,8 @@ pub record ShowsProps (files : RevisionBytes) (rev : ℕ) (pairs : Pairs) : Type
   pub dump : IsDump file pairs
   pub dated : IsDated pairs
 
-abbrev pub AreByProps : (RevisionBytes → ℕ → List ℕ → End → Type 0) → (Pairs → List ℕ → End → Type 0) → Type 0
-AreByProps T P = (files : RevisionBytes) (rev : ℕ) (pairs : Pairs) → ShowsProps files rev pairs → (text : List ℕ) (end : End) → T files rev text end → P pairs text end
+abbrev pub AreByProps : (MayRead → ℕ → List ℕ → End → Type 0) → (Pairs → List ℕ → End → Type 0) → Type 0
+AreByProps T P = (files : RevisionBytes) (rev : ℕ) (pairs : Pairs) → ShowsProps files rev pairs → (text : List ℕ) (end : End) → T (only files) rev text end → P pairs text end
 
 abbrev pub AuthorsAreByProps : Type 0
 AuthorsAreByProps = AreByProps AuthorText (λ pairs. IsOf (author_text pairs))

@@ -10,7 +10,7 @@ use Rattle.fsfs_revision.specs.declared.wrong.Wrong.{Wrong}
 use Rattle.fsfs_revision.specs.Damage.Checks.{Check, must, Judged}
 use Rattle.fsfs_revision.specs.Damage.Damages.{place_of, damaged}
 use Rattle.fsfs_revision.specs.Damage.Readings.{AndThen}
-use Rattle.fsfs_revision.specs.Told.{RevisionBytes}
+use Rattle.fsfs_revision.specs.RevProps.{MayRead}
 use Rattle.fsfs_look.specs.Revprops.Files.{Pairs, RevPropsOf}
 use Rattle.fsfs_look.specs.Revprops.Dates.{shown_date}
 use Rattle.fsfs_stands.specs.declared.look_fault.LookFault.TheVariants as faults
@@ -38,19 +38,19 @@ ReadText R text end =
     Nothing Stopped text end
     ⊎ ((R (Ok text) × (end ≡ Whole)) ⊎ ((w : Wrong) × R (Err w) × Nothing (Refused (faults.Wrong w)) text end))
 
--- what is read of the properties of a revision
-abbrev pub PropText : (Pairs → Result (List ℕ) Wrong → Type 0) → RevisionBytes → ℕ → List ℕ → End → Type 0
-PropText R files rev = ReadText (AndThen (RevPropsOf files rev) R)
+-- what is read of the properties of a revision, by one text that may be read of its property file
+abbrev pub PropText : (Pairs → Result (List ℕ) Wrong → Type 0) → MayRead → ℕ → List ℕ → End → Type 0
+PropText R may rev = ReadText (AndThen (RevPropsOf may rev) R)
 
-abbrev pub AuthorText : RevisionBytes → ℕ → List ℕ → End → Type 0
+abbrev pub AuthorText : MayRead → ℕ → List ℕ → End → Type 0
 AuthorText = PropText (λ pairs r. r ≡ Ok (value_line (value_of pairs author_name)))
 
-abbrev pub LogText : RevisionBytes → ℕ → List ℕ → End → Type 0
+abbrev pub LogText : MayRead → ℕ → List ℕ → End → Type 0
 LogText = PropText (λ pairs r. r ≡ Ok (value_line (value_of pairs log_name)))
 
-abbrev pub DateText : RevisionBytes → ℕ → List ℕ → End → Type 0
-DateText files rev = PropText (λ pairs. DateLine rev (value_of pairs date_name)) files rev
+abbrev pub DateText : MayRead → ℕ → List ℕ → End → Type 0
+DateText may rev = PropText (λ pairs. DateLine rev (value_of pairs date_name)) may rev
 
 -- the date is read before anything is written, so a bad one leaves no line
-abbrev pub InfoText : RevisionBytes → ℕ → List ℕ → End → Type 0
-InfoText files rev = PropText (λ pairs. AndThen (DateLine rev (value_of pairs date_name)) (λ line r. r ≡ Ok (info_lines pairs line))) files rev
+abbrev pub InfoText : MayRead → ℕ → List ℕ → End → Type 0
+InfoText may rev = PropText (λ pairs. AndThen (DateLine rev (value_of pairs date_name)) (λ line r. r ≡ Ok (info_lines pairs line))) may rev

@@ -6,7 +6,7 @@ ghost use Rattle.fsfs_base.specs.Fields.Dates.{two_digits, four_digits};
 ghost use Rattle.fsfs_tree.specs.ShownDates.{year_digits, numbered_day, time_of_day, named_day};
 ghost use Rattle.fsfs_look.specs.Revprops.Dates.{shown_date};
 
-use jiff::civil::{Date, DateTime, Time, Weekday};
+use jiff_core::civil::{Date, DateTime, Time, Weekday};
 use std::alloc::AllocError;
 
 fn put_text(out: &mut Vec<u8>, text: &str) -> Result<(), AllocError>
@@ -29,7 +29,7 @@ fn put_two(out: &mut Vec<u8>, number: u8) -> Result<(), AllocError>
 fn put_year(out: &mut Vec<u8>, date: Date) -> Result<(), AllocError>
     ensures { OnOk result (out.new.items ≡ out.old.items ++ year_digits date.year) }
 {
-    let year = date.year().unsigned_abs();
+    let year = date.year.unsigned_abs();
     put_two(out, (year / 100) as u8)?;
     put_two(out, (year % 100) as u8)?;
     Ok(())
@@ -41,9 +41,9 @@ fn put_numbered_day(out: &mut Vec<u8>, date: Date) -> Result<(), AllocError>
 {
     put_year(out, date)?;
     put_text(out, "-")?;
-    put_two(out, date.month() as u8)?;
+    put_two(out, date.month)?;
     put_text(out, "-")?;
-    put_two(out, date.day() as u8)?;
+    put_two(out, date.day)?;
     Ok(())
 }
 
@@ -51,11 +51,11 @@ fn put_numbered_day(out: &mut Vec<u8>, date: Date) -> Result<(), AllocError>
 fn put_time(out: &mut Vec<u8>, time: Time) -> Result<(), AllocError>
     ensures { OnOk result (out.new.items ≡ out.old.items ++ time_of_day time.hour time.minute time.second) }
 {
-    put_two(out, time.hour() as u8)?;
+    put_two(out, time.hour)?;
     put_text(out, ":")?;
-    put_two(out, time.minute() as u8)?;
+    put_two(out, time.minute)?;
     put_text(out, ":")?;
-    put_two(out, time.second() as u8)?;
+    put_two(out, time.second)?;
     Ok(())
 }
 
@@ -99,9 +99,9 @@ fn put_named_day(out: &mut Vec<u8>, date: Date) -> Result<(), AllocError>
 {
     put_text(out, weekday_name(date.weekday()))?;
     put_text(out, ", ")?;
-    put_two(out, date.day() as u8)?;
+    put_two(out, date.day)?;
     put_text(out, " ")?;
-    put_text(out, month_name(date.month() as u8))?;
+    put_text(out, month_name(date.month))?;
     put_text(out, " ")?;
     put_year(out, date)?;
     Ok(())
@@ -111,11 +111,11 @@ fn put_named_day(out: &mut Vec<u8>, date: Date) -> Result<(), AllocError>
 pub fn put_date(out: &mut Vec<u8>, date_time: DateTime) -> Result<(), AllocError>
     ensures { OnOk result (out.new.items ≡ out.old.items ++ shown_date date_time) }
 {
-    put_numbered_day(out, date_time.date())?;
+    put_numbered_day(out, date_time.date)?;
     put_text(out, " ")?;
-    put_time(out, date_time.time())?;
+    put_time(out, date_time.time)?;
     put_text(out, " +0000 (")?;
-    put_named_day(out, date_time.date())?;
+    put_named_day(out, date_time.date)?;
     put_text(out, ")")?;
     Ok(())
 }

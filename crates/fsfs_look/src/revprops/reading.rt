@@ -1,57 +1,56 @@
 //! Reading a revision's property file.
-ghost use Rattle.std.specs.Prelude.{◌≡◌, ◌≤◌, ℕ, List, Some, Ok, Err, length, take, drop, IfOk, MatchResult};
+ghost use Rattle.std.specs.Prelude.{◌≡◌, ◌≤◌, ℕ, List, Result, Ok, Err, length, IfOk, MatchResult};
 ghost use Rattle.fsfs_revision.specs.declared.wrong.Refusal.{Refusal};
 ghost use Rattle.fsfs_revision.specs.Damage.Causes.{HasCause, IsQuiet};
 ghost use Rattle.fsfs_revision.specs.Damage.Readings.{Answers, IfWrong};
-ghost use Rattle.fsfs_revision.specs.Told.{RevisionBytes, Keeps};
-ghost use Rattle.fsfs_revision.specs.Rep.Faults.{IsRefusedFor};
-ghost use Rattle.fsfs_look.specs.Revprops.Files.{RevPropsIn, RevPropsOf, IsToldProps};
+ghost use Rattle.fsfs_revision.specs.Told.{Keeps};
+ghost use Rattle.fsfs_revision.specs.RevProps.{IsLook, FileRead};
+ghost use Rattle.fsfs_look.specs.Revprops.Files.{RevPropsIn, RevPropsOf};
 
 use fsfs_base::{Pairs, RevNum};
 use fsfs_layout::{HashError, read_hash};
-use fsfs_revision::{Book, BookFault, DamageKind, ReadError, RevOffset, Wrong};
+use fsfs_revision::{BookFault, DamageKind, ReadError, RevOffset, RevProps, Wrong};
 use std::alloc::Global;
 
-// How many bytes are read at a time. Few property files are longer.
-const PIECE: usize = 4096;
+// How many bytes fit into the first look. Few property files are longer.
+const FIRST_LOOK: usize = 4096;
 
-// Reads a revision's property file from an offset on, as much as there is and as fits; nothing past the end.
-fn window<B: Book>(
-    book: &mut B,
-    rev: RevNum,
-    offset: u64,
-    buffer: &mut [u8],
-) -> Result<usize, ReadError>
+// One look at a revision's property file, from its beginning.
+fn look<B: RevProps>(book: &mut B, rev: RevNum, buffer: &mut [u8]) -> Result<usize, ReadError>
     ensures bound { IfOk result (λ n. n ≤ length buffer.new) }
-    ensures bytes { (file : List ℕ) → (B.told book.old).props rev ≡ Some (Ok file) → MatchResult result (λ n. take n buffer.new ≡ take (length buffer.old) (drop offset file)) (IfWrong (λ _. ⊥)) }
-    ensures refused { (why : Refusal) → (B.told book.old).props rev ≡ Some (Err why) → MatchResult result (λ _. ⊥) (IsRefusedFor why) }
+    ensures read { MatchResult result (λ n. (text : List ℕ) × B.may_read book.old rev (Ok text) × IsLook text buffer.old buffer.new n) (IfWrong (λ w. FileRead (B.may_read book.old rev) (Err w))) }
+    ensures fewer { (r : ℕ) (read : Result (List ℕ) Refusal) → B.may_read book.new r read → B.may_read book.old r read }
     ensures kept { Keeps (B.told book.old) (B.told book.new) }
     ensures cause { HasCause (B.faults book.old) (B.faults book.new) result }
 {
-    match book.read_props(rev, offset, buffer) {
+    match book.read_props(rev, buffer) {
         Ok(count) => Ok(count),
-        Err(BookFault::Short { .. }) => Ok(0),
         Err(BookFault::Refused(refusal)) => Err(ReadError::Wrong(Wrong::Refused(refusal))),
+        Err(BookFault::Short { .. }) => unreachable!(),
         Err(BookFault::DiskFault) => Err(ReadError::DiskFault),
         Err(BookFault::OutOfMemory) => Err(ReadError::OutOfMemory),
     }
 }
 
-// All bytes of a revision's property file.
-fn file_bytes<B: Book>(alloc: Global, book: &mut B, rev: RevNum) -> Result<Vec<u8>, ReadError>
-    ensures bytes { (file : List ℕ) → (B.told book.old).props rev ≡ Some (Ok file) → MatchResult result (λ v. v.items ≡ file) (IfWrong (λ _. ⊥)) }
-    ensures refused { (why : Refusal) → (B.told book.old).props rev ≡ Some (Err why) → MatchResult result (λ _. ⊥) (IsRefusedFor why) }
+// All bytes of a revision's property file, as one look gave them. Bytes that fill the buffer may not be all: then a look
+// into one of twice the size reads the file anew, which may have other properties by then.
+fn file_bytes<B: RevProps>(alloc: Global, book: &mut B, rev: RevNum) -> Result<Vec<u8>, ReadError>
+    ensures read { Answers (λ v. v.items) (FileRead (B.may_read book.old rev)) result }
     ensures kept { Keeps (B.told book.old) (B.told book.new) }
     ensures cause { HasCause (B.faults book.old) (B.faults book.new) result }
 {
-    let mut bytes = Vec::new(alloc);
-    let mut piece = [0u8; PIECE];
-    for _ in 0..u64::MAX {
-        let count = window(book, rev, bytes.len() as u64, &mut piece)?;
-        bytes.extend_from_slice(&piece[..count])?;
-        if count < PIECE {
+    let mut size = FIRST_LOOK;
+    for _ in 0..usize::BITS {
+        let mut bytes = vec![in alloc; 0u8; size]?;
+        let count = look(book, rev, &mut bytes)?;
+        if count < size {
+            bytes.truncate(count);
             return Ok(bytes);
         }
+        let Some(twice) = size.checked_mul(2) else {
+            return Err(ReadError::OutOfMemory);
+        };
+        size = twice;
     }
     Err(ReadError::OutOfMemory)
 }
@@ -70,10 +69,10 @@ fn pairs_in(alloc: Global, rev: RevNum, bytes: &[u8]) -> Result<Pairs, ReadError
     }
 }
 
-/// The properties of a revision. Its whole property file is in memory for a while, and the pairs are then; a file that is
-/// no dump is Props at 0.
-pub fn rev_props<B: Book>(alloc: Global, book: &mut B, rev: RevNum) -> Result<Pairs, ReadError>
-    ensures told { (files : RevisionBytes) → IsToldProps (B.told book.old) files rev → Answers (λ pairs. pairs) (RevPropsOf files rev) result }
+/// The properties of a revision, of one text that may be read of its property file. The whole file is in memory for a while,
+/// and the pairs are then; a file that is no dump is Props at 0.
+pub fn rev_props<B: RevProps>(alloc: Global, book: &mut B, rev: RevNum) -> Result<Pairs, ReadError>
+    ensures read { Answers (λ pairs. pairs) (RevPropsOf (B.may_read book.old) rev) result }
     ensures kept { Keeps (B.told book.old) (B.told book.new) }
     ensures cause { HasCause (B.faults book.old) (B.faults book.new) result }
 {

@@ -14,13 +14,13 @@ use std::alloc::Global;
 use std::collections::BTreeMap;
 
 /// The entries of a directory. Of two of one name the first counts.
-#[derive(Debug, Drop)]
+#[derive(Drop)]
 pub(crate) struct Entries {
     pub targets: BTreeMap<String, Target>,
 }
 
 /// The entries of three directories.
-#[derive(Debug, Drop)]
+#[derive(Drop)]
 pub(crate) struct Sides {
     pub base: Entries,
     pub head: Entries,

@@ -50,7 +50,7 @@ fn root_rev(node: &NodeRev) -> RevNum
 }
 
 /// What a merge asks of the transaction's node-revision.
-#[derive(Clone, Copy, Debug)]
+#[derive(Clone, Copy)]
 pub(crate) struct Facts {
     pub kind: Kind,
     pub node: Part,

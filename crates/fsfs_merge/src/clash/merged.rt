@@ -13,7 +13,7 @@ use fsfs_noderev::{NodeId, NodeRev};
 use std::alloc::{AllocError, Global};
 
 /// What a merged directory goes on from.
-#[derive(Clone, Copy, Debug)]
+#[derive(Clone, Copy)]
 pub struct Link {
     /// The transaction's own directory.
     pub own: NodeId,
@@ -24,7 +24,7 @@ pub struct Link {
 }
 
 /// A directory that a merge writes.
-#[derive(Debug, Drop)]
+#[derive(Drop)]
 pub struct MergedDir {
     pub link: Link,
     /// What it has then.

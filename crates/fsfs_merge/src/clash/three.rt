@@ -7,14 +7,14 @@ use fsfs_dag::same_id;
 use fsfs_noderev::NodeId;
 
 /// The node-revision that an entry names.
-#[derive(Clone, Copy, Debug)]
+#[derive(Clone, Copy)]
 pub(crate) struct Target {
     pub kind: Kind,
     pub id: NodeId,
 }
 
 /// What the base, the head and the transaction have at a path; none: nothing.
-#[derive(Clone, Copy, Debug)]
+#[derive(Clone, Copy)]
 pub(crate) struct Three {
     pub base: Option<Target>,
     pub head: Option<Target>,
@@ -63,7 +63,7 @@ impl Three {
 }
 
 /// Which paths are put: those that both sides changed, or among these those that both made.
-#[derive(Clone, Copy, Debug)]
+#[derive(Clone, Copy)]
 pub(crate) enum Which {
     Changed,
     Made,
@@ -81,7 +81,7 @@ impl Which {
 }
 
 /// Whose entries are put where a merge is written.
-#[derive(Clone, Copy, Debug)]
+#[derive(Clone, Copy)]
 pub(crate) enum Side {
     Head,
     Own,

@@ -22,7 +22,7 @@ use fsfs_revision::{Book, ReadError, RevOffset, Wrong};
 use std::alloc::Global;
 
 /// The ids of three directories.
-#[derive(Clone, Copy, Debug)]
+#[derive(Clone, Copy)]
 pub(crate) struct Dirs {
     pub base: NodeId,
     pub head: NodeId,
@@ -54,7 +54,7 @@ fn as_dirs(three: &Three) -> Option<Dirs>
 }
 
 /// The entries of three directories, where the base's stands, and what the merged one goes on from.
-#[derive(Debug, Drop)]
+#[derive(Drop)]
 pub(crate) struct Listing {
     pub home: RevOffset,
     pub link: Link,
@@ -138,7 +138,7 @@ fn look_at<B: Book, N: Own>(
 }
 
 /// Why a merge goes no further at a path.
-#[derive(Clone, Copy, Debug)]
+#[derive(Clone, Copy)]
 pub(crate) enum Halt {
     Clash,
     /// What is wrong with the bytes there.
@@ -146,7 +146,7 @@ pub(crate) enum Halt {
 }
 
 /// What a merge finds at a path.
-#[derive(Debug, Drop)]
+#[derive(Drop)]
 pub(crate) enum Turn {
     Down(Listing),
     Halts(Halt),

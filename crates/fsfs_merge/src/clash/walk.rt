@@ -35,21 +35,21 @@ use std::alloc::{AllocError, Global};
 use std::cmp::Ordering;
 
 /// A path that both sides changed, and what the three have there.
-#[derive(Debug, Drop)]
+#[derive(Drop)]
 pub(crate) struct Pending {
     pub path: FsPath,
     pub three: Three,
 }
 
 /// A path at which the merge goes no further, and why.
-#[derive(Debug, Drop)]
+#[derive(Drop)]
 pub(crate) struct Found {
     pub path: FsPath,
     pub halt: Halt,
 }
 
 /// What is left to look at, and what was found so far.
-#[derive(Debug, Drop)]
+#[derive(Drop)]
 pub(crate) struct Progress {
     pub todo: Vec<Pending>,
     /// The least path at which the merge goes no further.
@@ -59,7 +59,7 @@ pub(crate) struct Progress {
 }
 
 /// What becomes of a transaction over a later revision.
-#[derive(Debug, Drop)]
+#[derive(Drop)]
 pub enum Merge {
     /// The two clash here first.
     Clash(FsPath),
@@ -68,7 +68,7 @@ pub enum Merge {
 }
 
 /// The ids of three roots: of the base, of the head, and of the transaction.
-#[derive(Clone, Copy, Debug)]
+#[derive(Clone, Copy)]
 pub(crate) struct Roots {
     pub base: NodeId,
     pub head: NodeId,

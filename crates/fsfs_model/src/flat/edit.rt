@@ -2,7 +2,7 @@
 use fsfs_base::{FsPath, PropName, RevNum};
 
 /// One edit of a transaction, with its arguments.
-#[derive(Debug, Drop)]
+#[derive(Drop)]
 pub enum Edit {
     /// Makes an empty directory.
     MakeDir {

@@ -6,7 +6,7 @@ use fsfs_tree::Change;
 use std::alloc::AllocError;
 
 /// A change while it is folded.
-#[derive(Debug, Drop)]
+#[derive(Drop)]
 pub struct Folded {
     pub change: Change,
     /// The kind of what the first delete took away, where the action is a replace.

@@ -8,7 +8,7 @@ use fsfs_base::{FsPath, Kind, RevNum};
 use std::alloc::{AllocError, Global};
 
 /// What an accepted edit did at its path.
-#[derive(Debug, Drop)]
+#[derive(Drop)]
 pub enum What {
     /// A node was put there: a new one, or a copy of the revision and path that are named.
     Make(Option<(RevNum, FsPath)>),
@@ -34,7 +34,7 @@ impl Clone for What {
 }
 
 /// One accepted edit of a transaction: its path, the kind of the node made, taken away or changed, and what was done.
-#[derive(Debug, Drop)]
+#[derive(Drop)]
 pub struct Mark {
     pub path: FsPath,
     pub kind: Kind,
@@ -54,7 +54,7 @@ impl Clone for Mark {
 }
 
 /// What a transaction's marks say of a path of its base.
-#[derive(Clone, Copy, Debug)]
+#[derive(Clone, Copy)]
 pub struct Effects {
     /// It, or something below it, was changed.
     pub touched: bool,

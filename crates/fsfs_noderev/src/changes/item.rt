@@ -4,7 +4,7 @@ use fsfs_base::{Action, FsPath, Kind};
 
 /// What happened to a path, as an item says it: `<id> <action>-<kind> <text-mod> <prop-mod> <path>` in one line, and the
 /// revision and path of the copy source, or nothing, in the next.
-#[derive(Debug, Drop)]
+#[derive(Drop)]
 pub struct ChangeItem {
     /// The node-revision at the path; of a delete the one that was deleted.
     pub id: NodeId,

@@ -14,7 +14,7 @@ const MAX_PATH: usize = 4096;
 const MAX_NAMES: usize = 128;
 
 /// The limit that a path is past.
-#[derive(Clone, Copy, Debug, PartialEq, Eq)]
+#[derive(Clone, Copy, Debug)]
 pub enum PathLimit {
     /// It has more than 128 names.
     Names,
@@ -25,7 +25,7 @@ pub enum PathLimit {
 }
 
 /// A path was not found to be within its limits.
-#[derive(Clone, Copy, Debug, PartialEq, Eq, Error)]
+#[derive(Clone, Copy, Debug, Error)]
 pub enum LimitError {
     #[error("out of memory")]
     OutOfMemory,

@@ -15,6 +15,7 @@ use Rattle.fsfs_machine.specs.declared.machine.Txn.{Txn}
 use Rattle.fsfs_machine.specs.declared.machine.Went.{Went}
 use Rattle.fsfs_machine.specs.declared.machine.Went.TheVariants.{Before}
 use Rattle.fsfs_machine.specs.Kept.{IsIn}
+use Rattle.fsfs_machine.specs.Machine.{last_name}
 use Rattle.fsfs_turn.specs.Views.{View, IsDue, Answers, Called, MayAdopt, Adopted, ReadTurn}
 use Rattle.fsfs_turn.specs.declared.adoption.Adoption.{Adoption}
 use Rattle.fsfs_turn.specs.Learning.{PropsRead, FloorRead, CounterRead, Listed, MayMake, BenchMade, MayPurge, Purged, SpentPurged}
@@ -67,7 +68,7 @@ listed_back = Back (λ m u. (ls : List Label) → Listed ls (went_of (failed_of 
 
 -- ---- a begin's first call
 
--- the number in `txn-current` was read for this base; of numbers from 2^64 - 1 on the machine has no reading
+-- the number in `txn-current` was read for this base; of the last number, behind which no name comes, the machine has no reading
 pub record DrawnBy (base : ℕ) (told : Option Trace) (went : Went) (v u : View) : Type 0 where
   pub trace : Trace
   pub told_is : told ≡ Some trace
@@ -75,8 +76,8 @@ pub record DrawnBy (base : ℕ) (told : Option Trace) (went : Went) (v u : View)
   pub number : ℕ
   pub line : IsBase36Line text number
   pub there : file_at trace (only_name TxnCurrent) ≡ Some text
-  pub turned : number < 2 ^ 64 - 1 → CounterRead base number went v u
-  pub full : 2 ^ 64 - 1 ≤ number → u ≡ v
+  pub turned : number < last_name → CounterRead base number went v u
+  pub full : last_name ≤ number → u ≡ v
 
 abbrev pub drawn_back : ℕ → At → Sat → ℕ → Sat → Type 0
 drawn_back base = Back (λ m u. DrawnBy base (trace_of (carried m.1)) (went_of (failed_of (carried m.1))) (view_of m.0) u)

@@ -1,6 +1,6 @@
 //! What a pass at the table knows. No value of these types is made: they stand in what a seat is told.
 use fsfs_layout::Layout;
-use fsfs_machine::{Line, Numbers, Pass, Section};
+use fsfs_machine::{Line, Names, Numbers, Pass, Section};
 use std::collections::LinkedList;
 use std::marker::Model;
 
@@ -80,7 +80,7 @@ pub struct SeatView {
     pub seen: Line,
     pub section: Option<Section>,
     pub sure: bool,
-    pub given: Numbers,
+    pub given: Names,
     pub told: bool,
     pub hand: Hand,
     // the trace of the disk as the pass met it last, at a look, at a reveal, or by a call of the disk

@@ -11,8 +11,7 @@ use Rattle.fsfs_turn.specs.Telling.{OwnedState}
 use Rattle.fsfs_turn.specs.Seen.{TellsRevisions}
 use Rattle.fsfs_repo.specs.Owned.Alone.{KnowsIn}
 
--- Of each revision that the pass has seen the bytes beside it, which show its tree, and its properties; and that the last of them is the
--- youngest. The pass knows this now, and after any run of readers.
+-- Of each revision that the pass has seen the bytes beside it, which show its tree; and that the last of them is the youngest. The pass knows this now, and after any run of readers.
 pub record TellsSeenAll (v : View) (told : Telling OwnedState) : Type 0 where
   pub revisions_are : TellsRevisions v told
   pub revs : ToldOf told.revs (last_of (revisions v.seen)) (bytes_of v.seen)

@@ -6,6 +6,7 @@ use Rattle.fsfs_tree.specs.Revisions.{tree_of}
 use Rattle.fsfs_draft.specs.Drafts.{Folder}
 use Rattle.fsfs_machine.specs.declared.machine.Recorded.{Recorded}
 use Rattle.fsfs_machine.specs.Machine.{revisions}
+use Rattle.fsfs_machine.specs.Kept.{AllBelow}
 use Rattle.fsfs_turn.specs.Alone.{BringsNoDoubt}
 use Rattle.fsfs_turn.specs.Bytes.{bytes_of}
 use Rattle.fsfs_turn.specs.Views.{View, Begins}
@@ -20,6 +21,8 @@ pub record BeginsTxn (name : TxnName) (base : ℕ) (settled : Folder) (v u : Vie
   pub least : v.pass.least ≤ u.pass.least
   pub all : u.pass.least < length u.seen
   pub based : base < length u.seen
+  -- each name that the pass knew to be given is below this one
+  pub above : AllBelow name.number.number v.given
   pub stands : Stands (bytes_of u.seen) (tree_of (revisions u.seen)) (last_of (revisions u.seen)) base name settled (tree_of (revisions u.seen) base) []
   pub grows : Begins u.seen v.seen
   pub steps : Steps v u
@@ -31,6 +34,7 @@ pub record BeginsTxnAmong (name : TxnName) (base : ℕ) (settled : Folder) (v u 
   pub least : v.pass.least ≤ u.pass.least
   pub all : u.pass.least < length u.seen
   pub based : base < length u.seen
+  pub above : AllBelow name.number.number v.given
   -- over each first part of what it has seen that has the base
   pub stands : (part : List Recorded) → Begins u.seen part → base < length part → Stands (bytes_of part) (tree_of (revisions part)) (last_of (revisions part)) base name settled (tree_of (revisions part) base) []
   pub doubtless : BringsNoDoubt v u

@@ -7,14 +7,14 @@ ghost use Rattle.fsfs_turn.specs.Mountings.{RoseBy};
 ghost use Rattle.fsfs_turn.specs.Views.{View};
 ghost use Rattle.fsfs_begin.specs.Steps.{Moved};
 ghost use Rattle.fsfs_begin.specs.Faults.{Cause, IfBench, IfDisk, IsAbove, LacksNumber, LeavesNone, bench_faults_in};
-ghost use Rattle.fsfs_begin.specs.Labels.{ListsNoMore};
+ghost use Rattle.fsfs_begin.specs.Labels.{IsNew, ListsNoMore};
 ghost use Rattle.fsfs_repo.specs.Txns.Begun.{BeginsTxn};
 ghost use Rattle.fsfs_repo.specs.Owned.Crashes.{CrashesLeave};
 
 use crate::begin_txn;
 use crate::owned::repo::Repo;
 use fsfs_base::RevNum;
-use fsfs_begin::{BeginFault, Numbers};
+use fsfs_begin::BeginFault;
 use fsfs_disk::Disk;
 use fsfs_draft::Own;
 use fsfs_turn::{Owned, Turns};
@@ -40,14 +40,14 @@ impl<D: Disk> Repo<D> {
         // It stands for the tree of its base, and the pass knows its name to be given.
         ensures begun { (v : View) → ⟦<Owned<D> as Turns<R>>⟧.knows self.turns v → v.section ≡ None
             → IfOk result.1 (λ txn. (u : View) × ⟦<Owned<D> as Turns<R>>⟧.knows result.0.turns u × BeginsTxn (⟦<HeldNodes<D::Bench> as Own>⟧.txn txn.own) base (⟦<HeldNodes<D::Bench> as Own>⟧.settled txn.own) v u) }
-        // Or why none was begun: then also for want of a number that the machine reads, or since its read failed.
+        // Or why none was begun. Where the last number stands in `db/txn-current` that is for want of a number, or since its read failed.
         ensures refused { (v : View) → ⟦<Owned<D> as Turns<R>>⟧.knows self.turns v → v.section ≡ None
             → IfErr result.1 (λ why. ((u : View) × ⟦<Owned<D> as Turns<R>>⟧.knows result.0.turns u × Moved v u × Cause base why u
             × IfBench why (LeavesNone base (⟦<Owned<D> as Turns<R>>⟧.labels result.0.turns) (Rose (⟦<Owned<D> as Turns<R>>⟧.faults self.turns) (⟦<Owned<D> as Turns<R>>⟧.faults result.0.turns)) v u))
             ⊎ (LacksNumber why × ((u : View) × ⟦<Owned<D> as Turns<R>>⟧.knows result.0.turns u × Moved v u))) }
         // Its label came to those that were kept, and no other came or went. Where none was begun, none came, whatever is known.
         ensures listed { IfOk result.1 (λ txn. ⟦<Owned<D> as Turns<R>>⟧.labels result.0.turns ≡ option_map (with_label (txn_label (pair_of (⟦<HeldNodes<D::Bench> as Own>⟧.txn txn.own)))) (⟦<Owned<D> as Turns<R>>⟧.labels self.turns)) }
-        ensures unlisted { OnErr result.1 (ListsNoMore base (Rose (⟦<Owned<D> as Turns<R>>⟧.faults self.turns) (⟦<Owned<D> as Turns<R>>⟧.faults result.0.turns)) (⟦<Owned<D> as Turns<R>>⟧.labels self.turns) (⟦<Owned<D> as Turns<R>>⟧.labels result.0.turns)) }
+        ensures unlisted { OnErr result.1 (ListsNoMore (IsNew (⟦<Owned<D> as Turns<R>>⟧.knows self.turns)) base (Rose (⟦<Owned<D> as Turns<R>>⟧.faults self.turns) (⟦<Owned<D> as Turns<R>>⟧.faults result.0.turns)) (⟦<Owned<D> as Turns<R>>⟧.labels self.turns) (⟦<Owned<D> as Turns<R>>⟧.labels result.0.turns)) }
         // What is known then says what a crash leaves, at each moment of the call too.
         ensures crashes { (u : View) → ⟦<Owned<D> as Turns<R>>⟧.knows result.0.turns u → CrashesLeave result.0.turns.layout (D.trace result.0.turns.disk) u }
         // Whatever the disk tells.
@@ -59,7 +59,7 @@ impl<D: Disk> Repo<D> {
         ensures cause { IfErr result.1 (λ why. IfDisk why (Rose (⟦<Owned<D> as Turns<R>>⟧.faults self.turns) (⟦<Owned<D> as Turns<R>>⟧.faults result.0.turns))) }
     {
         let Repo { turns } = self;
-        let (back, begun) = begin_txn(rt, alloc, turns, base, Numbers::OfMachine);
+        let (back, begun) = begin_txn(rt, alloc, turns, base);
         (Repo { turns: back }, begun)
     }
 }

@@ -2,13 +2,14 @@
 ghost use Rattle.std.specs.Prelude.{◌≡◌, option_map};
 ghost use Rattle.fsfs_disk.specs.Trace.{labels_now};
 ghost use Rattle.fsfs_turn.specs.Views.{View};
+ghost use Rattle.fsfs_turn.specs.Seen.{ReadsSeen};
 ghost use Rattle.fsfs_repo.specs.Owned.Alone.{KnowsIn};
 ghost use Rattle.fsfs_repo.specs.Owned.Readers.{TellsSeenAll};
 
 use crate::owned::repo::Repo;
 use fsfs_disk::Disk;
 use fsfs_fetch::Direct;
-use fsfs_revision::Book;
+use fsfs_revision::{Book, RevProps};
 use fsfs_turn::{Owned, TurnReads, Turns, over_turns, turns_of};
 use std::alloc::Global;
 
@@ -19,8 +20,10 @@ pub type Reader<'a, R, D> = Direct<TurnReads<'a, R, Owned<D>>>;
 impl<D: Disk> Repo<D> {
     /// A reader, which takes the repository until it gives it back.
     pub fn reader<'a, R>(self, rt: &'a R, alloc: Global) -> Direct<TurnReads<'a, R, Owned<D>>>
-        // Of each revision up to the youngest it tells the bytes beside it, which show its tree, and a dump of its properties.
+        // Of each revision up to the youngest it tells the bytes beside it, which show its tree.
         ensures told { (v : View) → ⟦<Owned<D> as Turns<R>>⟧.knows self.turns v → TellsSeenAll v (⟦<Direct<TurnReads<'a, R, Owned<D>>> as Book>⟧.told result) }
+        // Of its property file nothing is read but a dump of its properties.
+        ensures props { (v : View) → ⟦<Owned<D> as Turns<R>>⟧.knows self.turns v → ReadsSeen v (⟦<Direct<TurnReads<'a, R, Owned<D>>> as RevProps>⟧.may_read result) }
         ensures below { (⟦<Direct<TurnReads<'a, R, Owned<D>>> as Book>⟧.told result).below ≡ (⟦<Owned<D> as Turns<R>>⟧.store self.turns).below }
         // The labels that are kept are of what no reading changes.
         ensures listed { option_map labels_now (⟦<Direct<TurnReads<'a, R, Owned<D>>> as Book>⟧.told result).below.trace ≡ ⟦<Owned<D> as Turns<R>>⟧.labels self.turns }

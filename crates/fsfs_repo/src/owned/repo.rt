@@ -40,7 +40,7 @@ impl<D: Disk> Repo<D> {
         // Where the files stand for a history, packed or not, and each file that is left over of a packed revision has the same bytes,
         // its pass has seen all of that history, and is in no section. Of images it is spoken from then on.
         ensures known { IfSome (D.trace disk) (λ t. (h : List Revision) (stands : StandsFor (files_now t) h) → LeftoversAgree stands
-            → IfOk result (λ o. HasSeenAll (⟦<Owned<D> as Turns<()>>⟧.knows o.repo.turns) t stands.opened.min_unpacked_rev h)) }
+            → IfOk result (λ o. HasSeenAll (⟦<Owned<D> as Turns<()>>⟧.knows o.repo.turns) t stands.opened.min_unpacked_rev stands.opened.next_txn.number h)) }
         ensures refused { IfErr result (λ e. OpensBecause (Rose (D.faults disk) (D.faults e.disk)) (D.trace disk) e.why) }
         // Where it is opened or refused is decided by the files alone.
         ensures decided { IfSome (D.trace disk) (λ t. DecidesSo (small_texts (files_now t)) result (λ o. o.said) (λ e. e.why)) }

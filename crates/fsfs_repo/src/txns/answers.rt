@@ -8,7 +8,7 @@ use fsfs_noderev::PathLimit;
 use fsfs_revision::Wrong;
 
 /// Why nothing was added, of a transaction that is handed back.
-#[derive(Debug, Drop)]
+#[derive(Drop)]
 pub enum CommitBar {
     /// It clashes with this revision, the youngest, first at this path.
     Conflict { path: FsPath, head: RevNum },

@@ -9,14 +9,13 @@ ghost use Rattle.fsfs_disk.specs.Transactions.Txns.{pair_of, txn_label};
 ghost use Rattle.fsfs_turn.specs.Labels.{Relabels};
 ghost use Rattle.fsfs_turn.specs.Mountings.{RoseBy};
 ghost use Rattle.fsfs_turn.specs.Views.{View};
-ghost use Rattle.fsfs_begin.specs.Steps.{MeetsPastNumbers, Moved};
+ghost use Rattle.fsfs_begin.specs.Steps.{MeetsLastName, Moved};
 ghost use Rattle.fsfs_begin.specs.Faults.{Cause, IfBench, IfDisk, IsAbove, LacksNumber, LeavesNone, bench_faults_in};
-ghost use Rattle.fsfs_begin.specs.Labels.{IsUnlisted, ListsNoMore};
-ghost use Rattle.fsfs_begin.specs.declared.numbers.Numbers.TheVariants.{OfMachine};
+ghost use Rattle.fsfs_begin.specs.Labels.{IsNew, IsUnlisted, ListsNoMore};
 ghost use Rattle.fsfs_repo.specs.Txns.Begun.{BeginsTxn, BeginsTxnAmong};
 
 use fsfs_base::{RevNum, TxnName};
-use fsfs_begin::{BeginFault, Begun, Numbers, begin};
+use fsfs_begin::{BeginFault, Begun, begin};
 use fsfs_disk::{Bench, Label};
 use fsfs_draft::Own;
 use fsfs_turn::Turns;
@@ -57,15 +56,13 @@ fn forget<R, T: Turns<R>>(rt: &R, turns: &mut T, name: &TxnName, bench: T::Bench
 
 /// Begins a transaction on a revision, and gives the turns back, whatever is answered. Its name is drawn first, by a section of its own;
 /// then the root of the base is read, and last its bench is made and filled. No name is given twice, and whatever fails the lock is given,
-/// unless it was found stuck. Of the numbers that a name may have it draws these.
+/// unless it was found stuck.
 pub fn begin_txn<R, T: Turns<R>>(
     rt: &R,
     alloc: Global,
     turns: T,
     base: RevNum,
-    numbers: Numbers,
 ) -> (T, Result<Txn<HeldNodes<T::Bench>>, BeginFault>)
-    requires few { T.bound turns ≡ true → numbers ≡ OfMachine }
     requires due { T.bound turns ≡ true → (v : View) × T.knows turns v × (v.section ≡ None) }
     ensures base { IfOk result.1 (λ txn. txn.base ≡ base) }
     ensures named { IfOk result.1 (λ txn. (⟦<HeldNodes<T::Bench> as Own>⟧.txn txn.own).base ≡ base) }
@@ -73,24 +70,22 @@ pub fn begin_txn<R, T: Turns<R>>(
     ensures sound { IfOk result.1 (λ txn. ⟦<HeldNodes<T::Bench> as Own>⟧.faults txn.own ≡ 0) }
     // Its label is kept.
     ensures kept { IfSome (T.labels result.0) (λ ls. IfOk result.1 (λ txn. has_label (txn_label (pair_of (⟦<HeldNodes<T::Bench> as Own>⟧.txn txn.own))) ls ≡ true)) }
-    // It stands for the tree of its base, and the pass knows its name to be given. Or a number stood in `db/txn-current`, as a call met it,
-    // that the machine doesn't read: where only those that it reads are drawn, none was begun then.
+    // It stands for the tree of its base, and the pass knows its name to be given.
     ensures begun { (v : View) → T.knows turns v → v.section ≡ None
-        → IfOk result.1 (λ txn. ((u : View) × T.knows result.0 u × BeginsTxnAmong (⟦<HeldNodes<T::Bench> as Own>⟧.txn txn.own) base (⟦<HeldNodes<T::Bench> as Own>⟧.settled txn.own) v u)
-        ⊎ (MeetsPastNumbers T.store turns × (numbers ≡ OfMachine → ⊥))) }
-    // Or why none was begun: then also for want of a number, or since its read failed.
+        → IfOk result.1 (λ txn. (u : View) × T.knows result.0 u × BeginsTxnAmong (⟦<HeldNodes<T::Bench> as Own>⟧.txn txn.own) base (⟦<HeldNodes<T::Bench> as Own>⟧.settled txn.own) v u) }
+    // Or why none was begun. Where the last number stood in `db/txn-current`, as a call met it, that is for want of a number or since its read
+    // failed.
     ensures refused { (v : View) → T.knows turns v → v.section ≡ None
         → IfErr result.1 (λ why. ((u : View) × T.knows result.0 u × Moved v u × Cause base why u
         × IfBench why (LeavesNone base (T.labels result.0) (Rose (T.faults turns) (T.faults result.0)) v u))
-        ⊎ (MeetsPastNumbers T.store turns × (numbers ≡ OfMachine → LacksNumber why × ((u : View) × T.knows result.0 u × Moved v u)))) }
+        ⊎ (MeetsLastName T.store turns × LacksNumber why × ((u : View) × T.knows result.0 u × Moved v u))) }
     // Where what is known is of what no reading changes, as it is for a pass that is alone, reading tells it nothing.
     ensures alone { ((old new : T) (v : View) → (T.store new).below ≡ (T.store old).below → T.knows old v → T.knows new v)
         → (v : View) → T.knows turns v → v.section ≡ None
-        → IfOk result.1 (λ txn. ((u : View) × T.knows result.0 u × BeginsTxn (⟦<HeldNodes<T::Bench> as Own>⟧.txn txn.own) base (⟦<HeldNodes<T::Bench> as Own>⟧.settled txn.own) v u)
-        ⊎ (MeetsPastNumbers T.store turns × (numbers ≡ OfMachine → ⊥))) }
+        → IfOk result.1 (λ txn. (u : View) × T.knows result.0 u × BeginsTxn (⟦<HeldNodes<T::Bench> as Own>⟧.txn txn.own) base (⟦<HeldNodes<T::Bench> as Own>⟧.settled txn.own) v u) }
     // Its label came to those that the call met, and no other came or went by it. Where nobody else has turns and none was begun, none came.
     ensures listed { IfOk result.1 (λ txn. Relabels (T.bound turns) (with_label (txn_label (pair_of (⟦<HeldNodes<T::Bench> as Own>⟧.txn txn.own)))) (T.labels turns) (T.labels result.0)) }
-    ensures unlisted { OnErr result.1 (T.bound turns ≡ false → ListsNoMore base (Rose (T.faults turns) (T.faults result.0)) (T.labels turns) (T.labels result.0)) }
+    ensures unlisted { OnErr result.1 (T.bound turns ≡ false → ListsNoMore (IsNew (T.knows turns)) base (Rose (T.faults turns) (T.faults result.0)) (T.labels turns) (T.labels result.0)) }
     // Whatever the disk tells.
     ensures above { IfErr result.1 (IsAbove base) }
     ensures duty { T.bound result.0 ≡ T.bound turns }
@@ -100,7 +95,7 @@ pub fn begin_txn<R, T: Turns<R>>(
     ensures later { T.faults turns ≤ T.faults result.0 }
     ensures cause { IfErr result.1 (λ why. IfDisk why (Rose (T.faults turns) (T.faults result.0))) }
 {
-    let (back, begun) = begin(alloc, rt, turns, base, numbers);
+    let (back, begun) = begin(alloc, rt, turns, base);
     let mut turns = back;
     let begun = match begun {
         Ok(begun) => begun,

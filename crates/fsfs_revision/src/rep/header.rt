@@ -7,7 +7,7 @@ use fsfs_base::decimals::decimal;
 use fsfs_base::pieces::text;
 
 /// The line that a representation begins with.
-#[derive(Clone, Copy, Debug, PartialEq, Eq)]
+#[derive(Clone, Copy, Debug)]
 pub(crate) enum Header {
     Plain,
     Delta,

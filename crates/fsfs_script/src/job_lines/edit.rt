@@ -3,7 +3,7 @@ use crate::job_lines::texts::Text;
 use fsfs_base::{FsPath, PropName};
 
 /// An edit of a transaction.
-#[derive(Debug, Drop)]
+#[derive(Drop)]
 pub enum Edit {
     /// `mkdir`: a new directory.
     MakeDir(FsPath),
@@ -20,7 +20,7 @@ pub enum Edit {
 }
 
 /// What stood at a path in a revision comes to stand at another.
-#[derive(Debug, Drop)]
+#[derive(Drop)]
 pub struct CopyFrom {
     /// The revision's number, as it is written: there may be no such revision.
     pub rev: u64,
@@ -29,14 +29,14 @@ pub struct CopyFrom {
 }
 
 /// A file gets a text.
-#[derive(Debug, Drop)]
+#[derive(Drop)]
 pub struct PutText {
     pub path: FsPath,
     pub text: Text,
 }
 
 /// A property gets a value, or is taken away.
-#[derive(Debug, Drop)]
+#[derive(Drop)]
 pub struct SetProp {
     pub path: FsPath,
     pub name: PropName,

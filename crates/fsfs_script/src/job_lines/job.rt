@@ -8,7 +8,7 @@ use std::alloc::{AllocError, Global};
 use std::marker::Model;
 
 /// The revision that a job is about.
-#[derive(Clone, Copy, Debug, PartialEq, Eq)]
+#[derive(Clone, Copy)]
 pub enum Base {
     /// `head`: the youngest as the job starts.
     Youngest,
@@ -17,7 +17,7 @@ pub enum Base {
 }
 
 /// A job of a script.
-#[derive(Debug, Drop)]
+#[derive(Drop)]
 pub enum Job {
     /// `job` to `commit`: edits that are committed together.
     Commit(CommitJob),
@@ -26,7 +26,7 @@ pub enum Job {
 }
 
 /// Edits over a revision, in their order, and what is said of them.
-#[derive(Debug, Drop)]
+#[derive(Drop)]
 pub struct CommitJob {
     /// The line of `job`; the first line of a script is 1.
     pub line: u64,
@@ -37,7 +37,7 @@ pub struct CommitJob {
 }
 
 /// The text of a file in a revision.
-#[derive(Debug, Drop)]
+#[derive(Drop)]
 pub struct ReadJob {
     /// The line of `read`.
     pub line: u64,
@@ -46,14 +46,14 @@ pub struct ReadJob {
 }
 
 /// An edit, and the line on which it began.
-#[derive(Debug, Drop)]
+#[derive(Drop)]
 pub struct Step {
     pub line: u64,
     pub edit: Edit,
 }
 
 /// The edits of a job in their order. A contract sees their list.
-#[derive(Debug, Drop)]
+#[derive(Drop)]
 pub struct Steps {
     steps: Vec<Step>,
 }

@@ -20,7 +20,7 @@ pub const MAX_TEXT: u64 = 1_073_741_824;
 pub const MAX_PROP: u64 = 1_048_576;
 
 /// What the first line of a job says.
-#[derive(Debug, Drop)]
+#[derive(Drop)]
 pub enum OpeningLine {
     Job(Base),
     /// All of a job.
@@ -28,7 +28,7 @@ pub enum OpeningLine {
 }
 
 /// What the first line of a command inside a job says. Where a number stands, so many bytes and a newline follow.
-#[derive(Debug, Drop)]
+#[derive(Drop)]
 pub enum CommandLine {
     Author(Author),
     Log(u64),

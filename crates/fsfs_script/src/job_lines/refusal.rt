@@ -37,7 +37,7 @@ pub enum Refusal {
 }
 
 /// A line was refused, or memory ran out.
-#[derive(Clone, Copy, Debug, PartialEq, Eq)]
+#[derive(Clone, Copy)]
 pub enum LineError {
     OutOfMemory,
     Refused(Refusal),

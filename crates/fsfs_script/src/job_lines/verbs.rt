@@ -3,14 +3,14 @@ ghost use Rattle.std.specs.Prelude.{◌≡◌};
 ghost use Rattle.fsfs_script.specs.JobLines.Verbs.{opening_named, edit_named, command_named};
 
 /// The word that begins a job.
-#[derive(Clone, Copy, Debug, PartialEq, Eq)]
+#[derive(Clone, Copy)]
 pub(crate) enum OpeningVerb {
     Job,
     Read,
 }
 
 /// The word of a command inside a job.
-#[derive(Clone, Copy, Debug, PartialEq, Eq)]
+#[derive(Clone, Copy)]
 pub(crate) enum Verb {
     Author,
     Log,
@@ -25,7 +25,7 @@ pub(crate) enum Verb {
 }
 
 /// How far a job has come.
-#[derive(Clone, Copy, Debug, PartialEq, Eq)]
+#[derive(Clone, Copy)]
 pub enum Stage {
     /// Behind `job`.
     AfterJob,

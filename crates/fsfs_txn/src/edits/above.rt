@@ -12,7 +12,7 @@ use fsfs_revision::Book;
 use std::alloc::Global;
 
 /// What stands above a path.
-#[derive(Debug, Drop)]
+#[derive(Drop)]
 pub(crate) enum Above {
     /// So many names of the path above lead to nothing.
     NotFound(usize),

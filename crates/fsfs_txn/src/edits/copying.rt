@@ -21,7 +21,7 @@ use fsfs_txn_nodes::OwnFiles;
 use std::alloc::Global;
 
 /// What became of a copy: it was put, or why it can't be.
-#[derive(Clone, Copy, Debug, PartialEq, Eq)]
+#[derive(Clone, Copy)]
 pub enum Copied {
     Done,
     /// So many names of the path above the target lead to nothing.

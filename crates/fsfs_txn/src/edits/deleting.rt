@@ -19,7 +19,7 @@ use fsfs_txn_nodes::OwnFiles;
 use std::alloc::Global;
 
 /// What became of a delete: it was done, or why it can't be.
-#[derive(Clone, Copy, Debug, PartialEq, Eq)]
+#[derive(Clone, Copy)]
 pub enum Deleted {
     Done,
     /// So many names of the path above lead to nothing.

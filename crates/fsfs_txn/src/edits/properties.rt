@@ -19,7 +19,7 @@ use fsfs_txn_nodes::OwnFiles;
 use std::alloc::Global;
 
 /// What became of a property: it was set or removed, or why it can't be.
-#[derive(Clone, Copy, Debug, PartialEq, Eq)]
+#[derive(Clone, Copy)]
 pub enum PropertySet {
     Done,
     /// A node was made, copied or taken away since it was opened, or the transaction landed on a later revision: so many such moves

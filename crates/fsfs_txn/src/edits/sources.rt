@@ -13,7 +13,7 @@ use fsfs_revision::Book;
 use std::alloc::Global;
 
 /// What stands where a copy is to be taken.
-#[derive(Debug, Drop)]
+#[derive(Drop)]
 pub(crate) enum Source {
     /// There is no such revision; this is the youngest.
     NoRev(RevNum),

@@ -6,7 +6,7 @@ use thiserror::Error;
 pub const MAX_TEXT: u64 = 1_073_741_824;
 
 /// Why a text was not put.
-#[derive(Clone, Copy, Debug, PartialEq, Eq, Error)]
+#[derive(Clone, Copy, Debug, Error)]
 pub enum TextError {
     /// A call of the source failed, and its count of faults rose.
     #[error("the source of the text failed")]

@@ -6,7 +6,7 @@ ghost use Rattle.fsfs_txn_nodes.specs.Memory.Keys.{part_of};
 use fsfs_noderev::{NodeId, Part};
 
 /// A part of an id, by its numbers.
-#[derive(Clone, Copy, Debug, PartialEq, Eq, Hash)]
+#[derive(Clone, Copy, PartialEq, Eq, Hash)]
 pub(crate) enum KeyPart {
     New(u128),
     Old(u128),
@@ -14,7 +14,7 @@ pub(crate) enum KeyPart {
 }
 
 /// What a transaction names the files of an own node-revision by.
-#[derive(Clone, Copy, Debug, PartialEq, Eq, Hash)]
+#[derive(Clone, Copy, PartialEq, Eq, Hash)]
 pub(crate) struct NodeKey {
     pub(crate) node: KeyPart,
     pub(crate) copy: KeyPart,

@@ -21,7 +21,7 @@ use fsfs_cli::{Fault, OutsideFault};
 use fsfs_draft::Own;
 use fsfs_job_run::{barred, of_begin, stopped};
 use fsfs_jobs::{JobAnswer, Stopped, properties_of};
-use fsfs_repo::{CommitAnswer, HeldNodes, Numbers, Txn, begin_txn, commit_txn, purge_txn};
+use fsfs_repo::{CommitAnswer, HeldNodes, Txn, begin_txn, commit_txn, purge_txn};
 use fsfs_script::CommitJob;
 use fsfs_turn::Turns;
 use std::alloc::Global;
@@ -147,7 +147,7 @@ fn edit_and_commit<R, T: Turns<R>, G: Gate>(
     }
 }
 
-/// Does the edits of a job in a transaction of its own, and commits it. The number of its name is one that the machine reads.
+/// Does the edits of a job in a transaction of its own, and commits it.
 pub(crate) fn commit_job<R, T: Turns<R>, G: Gate>(
     rt: &R,
     alloc: Global,
@@ -173,7 +173,7 @@ pub(crate) fn commit_job<R, T: Turns<R>, G: Gate>(
         Ok(base) => base,
         Err(fault) => return (turns, JobAnswer::Stopped { line, fault }),
     };
-    let (turns, begun) = begin_txn(rt, alloc, turns, base, Numbers::OfMachine);
+    let (turns, begun) = begin_txn(rt, alloc, turns, base);
     match begun {
         Ok(txn) => edit_and_commit(rt, alloc, turns, txn, job, youngest, micros, gate),
         Err(why) => {

@@ -1,18 +1,19 @@
-use Rattle.std.proofs.Common.{◌≤◌, inl, refl, ⊎_elim, sym, ap, ◌∙◌, arith}
+use Rattle.std.proofs.Common.{◌≡◌, ◌≤◌, ℕ, inl, refl, ⊎_elim, sym, ap, subst, ◌∙◌, arith}
 use Rattle.std.proofs.lemmas.Bool.Decides.{nat_tests}
 use Rattle.fsfs_base.specs.Failures.{Rose}
 use Rattle.fsfs_turn.specs.Views.{View}
 use Rattle.fsfs_begin.proofs.Among.{all_among, relabels_begun, unlisted_among}
-use Rattle.fsfs_begin.proofs.Reading.{met_before, either_way, ok_either, err_either}
+use Rattle.fsfs_begin.proofs.Reading.{met_before, either_way, ok_drawn, err_drawn}
 use Rattle.fsfs_begin.proofs.Moving.{by_look, moved_on}
-use Rattle.fsfs_begin.proofs.Parts.{least_at_look, may_make, begun_all, refused_all, no_bench}
+use Rattle.fsfs_machine.specs.Kept.{AllBelow}
+use Rattle.fsfs_begin.specs.Labels.{IsNew}
+use Rattle.fsfs_begin.proofs.Parts.{above_given, least_at_look, may_make, begun_all, refused_all, no_bench}
 use Rattle.fsfs_begin.proofs.beginning.begin.Goals as goal
 
 -- ---- the calls are due
 
 pub draw-requires : goal.draw-requires
 draw-requires g c = record {
-  few = λ bound. c.requires.few (sym c.look-youngest.ensures.duty ∙ bound);
   due = λ bound.
       let w = c.requires.due (sym c.look-youngest.ensures.duty ∙ bound) in
       let a = c.look-youngest.ensures.turned w.0 w.1 in
@@ -29,7 +30,7 @@ begin_named-requires g c = record {
       let le : c.args.base ≤ c.look-youngest.result = grind (arith, nat_tests, c.lt.ensures, c.if-lt.false) in
       let name = c.in-Ok.name in
       let below : name.base ≤ c.look-youngest.result = omega (arith, le, c.in-Ok.ensures.base) in
-      ⊎_elim (λ d. (d.0, d.1, may_make c.look-youngest.result w.0 a.0 d.0 name.number.number a.2 d.2 name.base below)) (λ past. absurd (past.1 (c.requires.few was)).0)
+      ⊎_elim (λ d. (d.0, d.1, may_make c.look-youngest.result w.0 a.0 d.0 name.number.number a.2 d.2 name.base below)) (λ past. absurd past.1)
       (c.in-Ok.ensures.drew a.0 a.1 (ap {A = View} (λ z. z.section) a.2.is ∙ w.2) (least_at_look c.args.base c.look-youngest.result w.0 a.0 a.2 le));
 }
 
@@ -45,7 +46,7 @@ returns-in-Err-clause-refused g c = λ v known none.
     let a = c.look-youngest.ensures.turned v known in
     let le : c.args.base ≤ c.look-youngest.result = grind (arith, nat_tests, c.lt.ensures, c.if-lt.false) in
     either_way (λ d. (d.0, d.1, moved_on v a.0 d.0 (by_look c.look-youngest.result v a.0 none a.2) d.2, d.3, no_bench _ c.in-Err.fault c.in-Err.ensures.there))
-    (λ past. (met_before g.T.Turns.store c.args.turns c.look-youngest.new.self c.look-youngest.ensures.later.below past.0, λ few. let p = past.1 few in let q = p.2 in (p.1, (q.0, q.1, moved_on v a.0 q.0 (by_look c.look-youngest.result v a.0 none a.2) q.2))))
+    (λ past. (met_before g.T.Turns.store c.args.turns c.look-youngest.new.self c.look-youngest.ensures.later.below past.0, past.2, let q = past.3 in (q.0, q.1, moved_on v a.0 q.0 (by_look c.look-youngest.result v a.0 none a.2) q.2)))
     (c.in-Err.ensures.drew a.0 a.1 (ap {A = View} (λ z. z.section) a.2.is ∙ none) (least_at_look c.args.base c.look-youngest.result v a.0 a.2 le))
 
 pub returns-in-Ok-clause-begun : goal.returns-in-Ok-clause-begun
@@ -54,9 +55,9 @@ returns-in-Ok-clause-begun g c = λ v known none.
     let le : c.args.base ≤ c.look-youngest.result = grind (arith, nat_tests, c.lt.ensures, c.if-lt.false) in
     let name = c.in-Ok.name in
     let below : name.base ≤ c.look-youngest.result = omega (arith, le, c.in-Ok.ensures.base) in
-    ok_either c.begin_named.result.1 _ (λ d. all_among (λ begun. begun.name) (λ begun. begun.root) (λ begun. g.T.Bench.Bench.contents begun.bench) (g.T.Turns.knows c.begin_named.result.0) c.look-youngest.result v a.0 d.0 name a.2 d.2 below c.begin_named.result.1
+    ok_drawn c.begin_named.result.1 _ (λ d. all_among (λ begun. begun.name) (λ begun. begun.root) (λ begun. g.T.Bench.Bench.contents begun.bench) (g.T.Turns.knows c.begin_named.result.0) c.look-youngest.result v a.0 d.0 name a.2 d.2 below c.begin_named.result.1
     c.begin_named.ensures.name (c.begin_named.ensures.begun d.0 d.1 (may_make c.look-youngest.result v a.0 d.0 name.number.number a.2 d.2 name.base below)))
-    (λ past. (met_before g.T.Turns.store c.args.turns c.look-youngest.new.self c.look-youngest.ensures.later.below past.0, λ few. (past.1 few).0))
+    (λ past. past.1)
     (c.in-Ok.ensures.drew a.0 a.1 (ap {A = View} (λ z. z.section) a.2.is ∙ none) (least_at_look c.args.base c.look-youngest.result v a.0 a.2 le))
 
 pub returns-in-Ok-clause-alone : goal.returns-in-Ok-clause-alone
@@ -65,9 +66,9 @@ returns-in-Ok-clause-alone g c = λ still v known none.
     let le : c.args.base ≤ c.look-youngest.result = grind (arith, nat_tests, c.lt.ensures, c.if-lt.false) in
     let name = c.in-Ok.name in
     let below : name.base ≤ c.look-youngest.result = omega (arith, le, c.in-Ok.ensures.base) in
-    ok_either c.begin_named.result.1 _ (λ d. begun_all (λ begun. begun.name) (λ begun. begun.root) (λ begun. g.T.Bench.Bench.contents begun.bench) (g.T.Turns.knows c.begin_named.result.0) c.look-youngest.result v a.0 d.0 name a.2 d.2 below c.begin_named.result.1
+    ok_drawn c.begin_named.result.1 _ (λ d. begun_all (λ begun. begun.name) (λ begun. begun.root) (λ begun. g.T.Bench.Bench.contents begun.bench) (g.T.Turns.knows c.begin_named.result.0) c.look-youngest.result v a.0 d.0 name a.2 d.2 below c.begin_named.result.1
     c.begin_named.ensures.name (c.begin_named.ensures.alone still d.0 d.1 (may_make c.look-youngest.result v a.0 d.0 name.number.number a.2 d.2 name.base below)))
-    (λ past. (met_before g.T.Turns.store c.args.turns c.look-youngest.new.self c.look-youngest.ensures.later.below past.0, λ few. (past.1 few).0))
+    (λ past. past.1)
     (c.in-Ok.ensures.drew a.0 a.1 (ap {A = View} (λ z. z.section) a.2.is ∙ none) (least_at_look c.args.base c.look-youngest.result v a.0 a.2 le))
 
 pub returns-in-Ok-clause-refused : goal.returns-in-Ok-clause-refused
@@ -76,11 +77,11 @@ returns-in-Ok-clause-refused g c = λ v known none.
     let le : c.args.base ≤ c.look-youngest.result = grind (arith, nat_tests, c.lt.ensures, c.if-lt.false) in
     let name = c.in-Ok.name in
     let below : name.base ≤ c.look-youngest.result = omega (arith, le, c.in-Ok.ensures.base) in
-    err_either c.begin_named.result.1 _ _ (λ d. refused_all (g.T.Turns.knows c.begin_named.result.0) c.look-youngest.result v a.0 d.0 name c.args.base a.2 d.2 none c.in-Ok.ensures.base (g.T.Turns.labels c.begin_named.result.0)
+    err_drawn c.begin_named.result.1 _ _ (λ d. refused_all (g.T.Turns.knows c.begin_named.result.0) c.look-youngest.result v a.0 d.0 name c.args.base a.2 d.2 none c.in-Ok.ensures.base (g.T.Turns.labels c.begin_named.result.0)
     (Rose (g.T.Turns.faults c.draw.new.turns) (g.T.Turns.faults c.begin_named.result.0)) (Rose (g.T.Turns.faults c.args.turns) (g.T.Turns.faults c.begin_named.result.0))
     (λ rose. omega (arith, rose, c.draw.ensures.later, c.look-youngest.ensures.faults)) c.begin_named.result.1
     (c.begin_named.ensures.refused d.0 d.1 (may_make c.look-youngest.result v a.0 d.0 name.number.number a.2 d.2 name.base below)) c.begin_named.ensures.dropped)
-    (λ why past. (met_before g.T.Turns.store c.args.turns c.look-youngest.new.self c.look-youngest.ensures.later.below past.0, λ few. absurd (past.1 few).0))
+    (λ past. past.1)
     (c.in-Ok.ensures.drew a.0 a.1 (ap {A = View} (λ z. z.section) a.2.is ∙ none) (least_at_look c.args.base c.look-youngest.result v a.0 a.2 le))
 
 -- ---- the labels
@@ -98,6 +99,12 @@ returns-in-Ok-clause-listed g c =
 
 pub returns-in-Ok-clause-unlisted : goal.returns-in-Ok-clause-unlisted
 returns-in-Ok-clause-unlisted g c =
-    unlisted_among c.begin_named.result.1 (g.T.Turns.bound c.args.turns) (g.T.Turns.bound c.draw.new.turns) c.args.base c.in-Ok.name.base (Rose (g.T.Turns.faults c.draw.new.turns) (g.T.Turns.faults c.begin_named.result.0)) (Rose (g.T.Turns.faults c.args.turns) (g.T.Turns.faults c.begin_named.result.0))
+    unlisted_among c.begin_named.result.1 (g.T.Turns.bound c.args.turns) (g.T.Turns.bound c.draw.new.turns) (λ n. n ≡ c.in-Ok.name.number.number) (IsNew (g.T.Turns.knows c.args.turns)) c.args.base c.in-Ok.name.base (Rose (g.T.Turns.faults c.draw.new.turns) (g.T.Turns.faults c.begin_named.result.0)) (Rose (g.T.Turns.faults c.args.turns) (g.T.Turns.faults c.begin_named.result.0))
     (g.T.Turns.labels c.args.turns) (g.T.Turns.labels c.draw.new.turns) (g.T.Turns.labels c.begin_named.result.0) c.in-Ok.ensures.base (c.draw.ensures.duty ∙ c.look-youngest.ensures.duty)
-    (λ free. c.draw.ensures.listed (c.look-youngest.ensures.duty ∙ free) ∙ c.look-youngest.ensures.listed free) (λ rose. omega (arith, rose, c.draw.ensures.later, c.look-youngest.ensures.faults)) c.begin_named.ensures.unlisted
+    (λ free. c.draw.ensures.listed (c.look-youngest.ensures.duty ∙ free) ∙ c.look-youngest.ensures.listed free)
+    (λ n same v known none.
+    let a = c.look-youngest.ensures.turned v known in
+    let le : c.args.base ≤ c.look-youngest.result = grind (arith, nat_tests, c.lt.ensures, c.if-lt.false) in
+    ⊎_elim (λ d. subst (λ (k : ℕ). AllBelow k v.given) (sym same) (above_given c.look-youngest.result v a.0 d.0 c.in-Ok.name.number.number a.2 d.2)) (λ past. absurd past.1)
+    (c.in-Ok.ensures.drew a.0 a.1 (ap {A = View} (λ z. z.section) a.2.is ∙ none) (least_at_look c.args.base c.look-youngest.result v a.0 a.2 le)))
+    (λ rose. omega (arith, rose, c.draw.ensures.later, c.look-youngest.ensures.faults)) c.begin_named.ensures.unlisted

@@ -1,4 +1,4 @@
-use Rattle.std.proofs.Common.{inl, sym, subst, arith, ◌∙◌}
+use Rattle.std.proofs.Common.{◌≡◌, inl, sym, subst, arith, ◌∙◌}
 use Rattle.std.specs.Prelude.{Result}
 use Rattle.fsfs_base.specs.Failures.{Rose}
 use Rattle.fsfs_dag.specs.declared.node.PlacedNode.{PlacedNode}
@@ -62,7 +62,7 @@ returns-in-Ok-clause-listed g c =
 pub returns-in-Ok-clause-unlisted : goal.returns-in-Ok-clause-unlisted
 returns-in-Ok-clause-unlisted g c =
     let mid = c.base_root-back.result.0 in
-    no_more_among c.make-begun.result (g.T.Turns.bound c.args.turns) (g.T.Turns.bound mid) c.args.name.base (Rose (g.T.Turns.faults mid) (g.T.Turns.faults c.make-begun.new.turns)) (Rose (g.T.Turns.faults c.args.turns) (g.T.Turns.faults c.make-begun.new.turns))
+    no_more_among c.make-begun.result (g.T.Turns.bound c.args.turns) (g.T.Turns.bound mid) (λ n. n ≡ c.args.name.number.number) c.args.name.base (Rose (g.T.Turns.faults mid) (g.T.Turns.faults c.make-begun.new.turns)) (Rose (g.T.Turns.faults c.args.turns) (g.T.Turns.faults c.make-begun.new.turns))
     (g.T.Turns.labels c.args.turns) (g.T.Turns.labels mid) (g.T.Turns.labels c.make-begun.new.turns) c.base_root-back.ensures.duty c.base_root-back.ensures.listed (λ rose. omega (arith, rose, c.base_root-back.ensures.later)) c.make-begun.ensures.unlisted
 
 pub returns-in-Err-clause-unlisted : goal.returns-in-Err-clause-unlisted

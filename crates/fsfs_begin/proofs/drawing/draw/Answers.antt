@@ -10,7 +10,6 @@ use Rattle.fsfs_begin.proofs.drawing.draw.Goals as goal
 
 pub next_name-drawn-requires : goal.next_name-drawn-requires
 next_name-drawn-requires g c = record {
-  few = λ bound. c.requires.few (sym c.in-Ok.ensures.duty ∙ bound);
   due = λ bound.
       let w = c.requires.due (sym c.in-Ok.ensures.duty ∙ bound) in
       let m = c.in-Ok.ensures.ok w.0 w.1 w.2 in
@@ -23,7 +22,7 @@ give_lock-requires g c = record {
       let was = sym c.in-Ok.ensures.duty ∙ sym c.next_name-drawn.ensures.duty ∙ bound in
       let w = c.requires.due was in
       let m = c.in-Ok.ensures.ok w.0 w.1 w.2 in
-      give_due (g.T.Turns.knows c.next_name-drawn.new.turns) c.args.base c.next_name-drawn.result m.0 _ _ (begun_at w.0 m.0 m.2) (c.requires.few was) (c.next_name-drawn.ensures.drawn m.0 m.1 (begun_at w.0 m.0 m.2) (least_at c.args.base w.0 m.0 m.2 w.3));
+      give_due (g.T.Turns.knows c.next_name-drawn.new.turns) c.args.base c.next_name-drawn.result m.0 _ (begun_at w.0 m.0 m.2) (c.next_name-drawn.ensures.drawn m.0 m.1 (begun_at w.0 m.0 m.2) (least_at c.args.base w.0 m.0 m.2 w.3));
 }
 
 -- ---- what they come to
@@ -39,7 +38,7 @@ returns-in-Ok-drawn-clause-drew g c = λ v known none le.
     let n = c.in-Ok-drawn.name.number.number in
     either_way (λ d.
     let l = c.give_lock.ensures.turned d.0 d.1 (given_over n m.0 d.0 d.2) in
-    (l.0, l.1, has_name v m.0 d.0 l.0 m.2 l.2 d.2.grows d.2.steps n d.2 d.3)) (λ past. (met_before g.T.Turns.store c.args.turns.now c.take_lock.new.self c.take_lock.ensures.same past.0, λ few. absurd (past.1 few).0))
+    (l.0, l.1, has_name v m.0 d.0 l.0 m.2 l.2 d.2.grows d.2.steps n d.2 d.3 d.4)) (λ past. absurd past.1)
     (c.in-Ok-drawn.ensures.drawn m.0 m.1 (begun_at v m.0 m.2) (least_at c.args.base v m.0 m.2 le))
 
 pub returns-in-Err-drawn-clause-drew : goal.returns-in-Err-drawn-clause-drew
@@ -50,10 +49,9 @@ returns-in-Err-drawn-clause-drew g c = λ v known none le.
     let p = undrawn c.args.base v m.0 d.0 l.0 c.in-Err-drawn.fault m.2 d.2 l.2 in
     (l.0, l.1, p.0, subst (λ f. Cause c.args.base f l.0) (sym c.named_fault.ensures) p.1)) (λ past. (
       met_before g.T.Turns.store c.args.turns.now c.take_lock.new.self c.take_lock.ensures.same past.0,
-      λ few.
-          let k = past.1 few in
-          let l = c.give_lock.ensures.turned m.0 k.2 (held_begun m.0 (begun_at v m.0 m.2)) in
-          (tt, subst (λ f. LacksNumber f) (sym c.named_fault.ensures) (lacks_named c.in-Err-drawn.fault k.1), (l.0, l.1, undrawn_moved v m.0 l.0 m.2 l.2)),
+      tt,
+      subst (λ f. LacksNumber f) (sym c.named_fault.ensures) (lacks_named c.in-Err-drawn.fault past.2),
+      let l = c.give_lock.ensures.turned m.0 past.3 (held_begun m.0 (begun_at v m.0 m.2)) in (l.0, l.1, undrawn_moved v m.0 l.0 m.2 l.2),
     )) (c.in-Err-drawn.ensures.drawn m.0 m.1 (begun_at v m.0 m.2) (least_at c.args.base v m.0 m.2 le))
 
 -- ---- the labels stay

@@ -9,31 +9,25 @@ use Rattle.fsfs_begin.proofs.drawing.next_name.Goals as goal
 pub read_number-requires : goal.read_number-requires
 read_number-requires g c = record { due = λ bound. c.requires.due bound }
 
--- where others rest on it the machine reads the number
 pub raise-requires : goal.raise-requires
 raise-requires g c = record {
   due = λ bound.
       let n = c.in-Ok.number.number in
       let was = sym c.in-Ok.ensures.duty ∙ bound in
       let w = c.requires.due was in
-      let small : n < 18446744073709551615 = c.may_draw.ensures.few (c.requires.few was) c.if-not-may_draw.false in
       let line = line_of c.deref.result.now c.in-Ok-write_txn_current.text.items (n + 1) c.in-Some.next.number c.deref.ensures.value c.in-Some.ensures c.in-Ok-write_txn_current.ensures in
-      ⊎_elim (λ m. (m.0, drawn_of c.args.base n, m.1, section_on (CountRead (drawn_of c.args.base n)) w.0 m.0 m.2.reached, line)) (λ past. absurd (omega (arith, past.1, small))) (c.in-Ok.ensures.counted w.0 w.1 w.2 w.3);
+      ⊎_elim (λ m. (m.0, drawn_of c.args.base n, m.1, section_on (CountRead (drawn_of c.args.base n)) w.0 m.0 m.2.reached, line)) (λ past. absurd (omega (arith, past.1, c.in-Some.ensures, c.in-Some.next.small))) (c.in-Ok.ensures.counted w.0 w.1 w.2 w.3);
 }
 
 pub returns-in-Err-clause-drawn : goal.returns-in-Err-clause-drawn
-returns-in-Err-clause-drawn g c = λ v known at le. either_way (λ a. a) (λ past. (past.3, λ few. (tt, past.2, past.0))) (c.in-Err.ensures.counted v known at le)
-
-pub returns-then-not-may_draw-clause-drawn : goal.returns-then-not-may_draw-clause-drawn
-returns-then-not-may_draw-clause-drawn g c = λ v known at le.
-    either_way (λ m. absurd (omega (arith, m.2.small, c.may_draw.ensures.many c.if-not-may_draw.true))) (λ past. (past.3, λ few. (tt, tt, past.0))) (c.in-Ok.ensures.counted v known at le)
+returns-in-Err-clause-drawn g c = λ v known at le. either_way (λ a. a) (λ past. (past.3, tt, past.2, past.0)) (c.in-Err.ensures.counted v known at le)
 
 pub returns-in_default-clause-drawn : goal.returns-in_default-clause-drawn
-returns-in_default-clause-drawn g c = λ v known at le. either_way (λ m. absurd (omega (arith, m.2.small, c.in_default.ensures))) (λ past. (past.3, λ few. (tt, tt, past.0))) (c.in-Ok.ensures.counted v known at le)
+returns-in_default-clause-drawn g c = λ v known at le. either_way (λ m. absurd (omega (arith, m.2.small, c.in_default.ensures))) (λ past. (past.3, tt, tt, past.0)) (c.in-Ok.ensures.counted v known at le)
 
 pub returns-in-Err-write_txn_current-clause-drawn : goal.returns-in-Err-write_txn_current-clause-drawn
 returns-in-Err-write_txn_current-clause-drawn g c = λ v known at le.
-    either_way (λ m. unwritten _ c.args.base c.in-Ok.number.number v m.0 m.1 m.2) (λ past. (past.3, λ few. let small : c.in-Ok.number.number < 18446744073709551615 = c.may_draw.ensures.few few c.if-not-may_draw.false in absurd (omega (arith, past.1, small)))) (c.in-Ok.ensures.counted v known at le)
+    either_way (λ m. unwritten _ c.args.base c.in-Ok.number.number v m.0 m.1 m.2) (λ past. absurd (omega (arith, past.1, c.in-Some.ensures, c.in-Some.next.small))) (c.in-Ok.ensures.counted v known at le)
 
 pub returns-in-Ok-raise-clause-drawn : goal.returns-in-Ok-raise-clause-drawn
 returns-in-Ok-raise-clause-drawn g c = λ v known at le.
@@ -41,7 +35,7 @@ returns-in-Ok-raise-clause-drawn g c = λ v known at le.
     let line = line_of c.deref.result.now c.in-Ok-write_txn_current.text.items (n + 1) c.in-Some.next.number c.deref.ensures.value c.in-Some.ensures c.in-Ok-write_txn_current.ensures in
     either_way (λ m. draws_on _ c.args.base n (record { base = c.args.base; number = c.in-Ok.number }) v refl m.0 m.2
     (c.in-Ok-raise.ensures.raised m.0 (drawn_of c.args.base n) m.1 (section_on (CountRead (drawn_of c.args.base n)) v m.0 m.2.reached) line))
-    (λ past. (past.3, λ few. let small : n < 18446744073709551615 = c.may_draw.ensures.few few c.if-not-may_draw.false in absurd (omega (arith, past.1, small)))) (c.in-Ok.ensures.counted v known at le)
+    (λ past. absurd (omega (arith, past.1, c.in-Some.ensures, c.in-Some.next.small))) (c.in-Ok.ensures.counted v known at le)
 
 pub returns-clause-drawn : goal.returns-clause-drawn
 returns-clause-drawn g c = λ v known at le.
@@ -49,7 +43,7 @@ returns-clause-drawn g c = λ v known at le.
     let line = line_of c.deref.result.now c.in-Ok-write_txn_current.text.items (n + 1) c.in-Some.next.number c.deref.ensures.value c.in-Some.ensures c.in-Ok-write_txn_current.ensures in
     either_way (λ m. undrawn_on _ c.args.base n c.in-Err-raise.place v m.0 m.2
     (c.in-Err-raise.ensures.raised m.0 (drawn_of c.args.base n) m.1 (section_on (CountRead (drawn_of c.args.base n)) v m.0 m.2.reached) line))
-    (λ past. (past.3, λ few. let small : n < 18446744073709551615 = c.may_draw.ensures.few few c.if-not-may_draw.false in absurd (omega (arith, past.1, small)))) (c.in-Ok.ensures.counted v known at le)
+    (λ past. absurd (omega (arith, past.1, c.in-Some.ensures, c.in-Some.next.small))) (c.in-Ok.ensures.counted v known at le)
 
 pub returns-in-Ok-raise-clause-listed : goal.returns-in-Ok-raise-clause-listed
 returns-in-Ok-raise-clause-listed g c = λ free. c.in-Ok-raise.ensures.listed (c.in-Ok.ensures.duty ∙ free) ∙ c.in-Ok.ensures.listed free

@@ -35,4 +35,4 @@ pub returns-in_default-write_noderev-clause-unlisted : goal.returns-in_default-w
 returns-in_default-write_noderev-clause-unlisted g c = λ free. inl refl
 
 pub returns-in-Err-clause-unlisted : goal.returns-in-Err-clause-unlisted
-returns-in-Err-clause-unlisted g c = λ free. inr (c.args.name.number.number, c.in-Err.ensures.unlisted free)
+returns-in-Err-clause-unlisted g c = λ free. inr (c.args.name.number.number, refl, c.in-Err.ensures.unlisted free)

@@ -27,5 +27,5 @@ returns c =
     let w8 : List NamedFile = w7 ++ (codes "db/txn-current-lock", []) ∷ [] in
     let k8 = added _ _ w7 _ _ (codes "db/txn-current-lock") ([]) c.in_ok-add-8.ensures k7 c.name-8.ensures c.new-2.ensures.items in
     let w9 : List NamedFile = w8 ++ (codes "db/revs/0/0", first_bytes) ∷ [] in
-    let k9 = added _ _ w8 _ _ (codes "db/revs/0/0") (first_bytes) c.in_ok-add-9.ensures k8 (first_name (codes "db/revs") _ c.args.layout c.name-9.ensures) c.in_ok-revision.ensures in
-    added _ _ w9 _ _ (codes "db/revprops/0/0") (date_properties c.args.date.now) c.in_ok-add-10.ensures k9 (first_name (codes "db/revprops") _ c.args.layout c.name-10.ensures) c.in_ok-props.ensures
+    let k9 = added _ _ w8 _ _ (codes "db/revs/0/0") (first_bytes) c.in_ok-add-9.ensures k8 (first_name (codes "db/revs") _ c.args.layout c.requires.packs.sharded c.name-9.ensures) c.in_ok-revision.ensures in
+    added _ _ w9 _ _ (codes "db/revprops/0/0") (date_properties c.args.date.now) c.in_ok-add-10.ensures k9 (first_name (codes "db/revprops") _ c.args.layout c.requires.packs.sharded c.name-10.ensures) c.in_ok-props.ensures

@@ -18,7 +18,7 @@ pub loop-name-init : goal.loop-name-init
 loop-name-init g c = record {
   deep = refl;
   later = omega arith;
-  kept = record { revs = λ r read e. e; props = λ r read e. e; youngest = λ y e. e; below = refl };
+  kept = record { revs = λ r read e. e; youngest = λ y e. e; below = refl };
   draft = λ look trees top base nodes v knows shown le draft here same dir. ([], c.names-name-items.ensures, refl, (v, here, same), own_has look top base trees shown le (g.N.Own.txn c.args.own.now) (g.N.Own.folder c.args.own.now) nodes draft [] v Dir here dir);
 }
 

@@ -12,7 +12,7 @@ use Rattle.fsfs_history.proofs.history.write_behind.Goals as goal
 
 pub loop-left-init : goal.loop-left-init
 loop-left-init g c = record {
-  kept = record { revs = λ r read h. h; props = λ r read h. h; youngest = λ y h. h; below = refl };
+  kept = record { revs = λ r read h. h; youngest = λ y h. h; below = refl };
   later = omega arith;
   sink = omega arith;
   within = λ top w. w;

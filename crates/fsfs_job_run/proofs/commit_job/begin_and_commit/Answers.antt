@@ -16,7 +16,7 @@ use Rattle.fsfs_job_run.specs.Serial.Jobs.{bench_told}
 use Rattle.fsfs_job_run.proofs.BenchCauses.{begin_told}
 use Rattle.fsfs_job_run.proofs.Begun.{lacking_so, unbegun_so}
 use Rattle.fsfs_job_run.proofs.Composed.{begun_so}
-use Rattle.fsfs_job_run.proofs.Listing.{begun_lists, unbegun_lists}
+use Rattle.fsfs_job_run.proofs.Listing.{begun_lists, new_from, unbegun_lists}
 use Rattle.fsfs_job_run.proofs.Seen.{trees_seen}
 use Rattle.fsfs_job_run.proofs.Whole.{root_whole}
 use Rattle.fsfs_job_run.proofs.commit_job.begin_and_commit.Goals as goal
@@ -56,14 +56,18 @@ returns-in-Err-clause-cause g c =
     (begin_fails rose job.line c.in-Err.why (if_err c.begin-repo.result.1 c.in-Err.why (λ why. IfDisk why rose) c.in-Err.is c.begin-repo.ensures.cause))
 
 pub returns-in-Ok-clause-listed : goal.returns-in-Ok-clause-listed
-returns-in-Ok-clause-listed g c =
+returns-in-Ok-clause-listed g c = λ least has.
     let start = g.D.Disk.faults c.args.repo.turns.disk in
     let mid = g.D.Disk.faults c.begin-repo.result.0.turns.disk in
     let now = g.D.Disk.faults c.edit_and_commit.result.0.turns.disk in
-    begun_lists (Rose mid now) (Rose start now) _ _ _ _ (λ r. omega (arith, r, c.begin-repo.ensures.later)) (if_ok c.begin-repo.result.1 c.in-Ok.txn _ c.in-Ok.is c.begin-repo.ensures.listed) c.edit_and_commit.ensures.listed
+    let s = c.args.repo.turns in
+    begun_lists (Rose mid now) (Rose start now) least _ _ _ _
+    (new_from (KnowsAlone s.layout s.young s.stuck (g.D.Disk.trace s.disk)) least c.in-Ok.txn.own.txn.number.number has (λ v known none. let d = if_ok c.begin-repo.result.1 c.in-Ok.txn _ c.in-Ok.is (c.begin-repo.ensures.begun v known none) in d.2.above)) (λ r. omega (arith, r, c.begin-repo.ensures.later)) (if_ok c.begin-repo.result.1 c.in-Ok.txn _ c.in-Ok.is c.begin-repo.ensures.listed) c.edit_and_commit.ensures.listed
 
 pub returns-in-Err-clause-listed : goal.returns-in-Err-clause-listed
-returns-in-Err-clause-listed g c = unbegun_lists _ c.args.base _ _ (on_err c.begin-repo.result.1 c.in-Err.why _ c.in-Err.is c.begin-repo.ensures.unlisted)
+returns-in-Err-clause-listed g c = λ least has.
+    let s = c.args.repo.turns in
+    unbegun_lists _ (KnowsAlone s.layout s.young s.stuck (g.D.Disk.trace s.disk)) least c.args.base _ _ has (on_err c.begin-repo.result.1 c.in-Err.why _ c.in-Err.is c.begin-repo.ensures.unlisted)
 
 pub returns-in-Ok-clause-benches : goal.returns-in-Ok-clause-benches
 returns-in-Ok-clause-benches g c =

@@ -13,7 +13,9 @@ use Rattle.fsfs_job_run.proofs.Based.{no_base, no_base_outside, no_base_counted}
 use Rattle.fsfs_job_run.proofs.Causes.{fails_on, request_fails}
 use Rattle.fsfs_job_run.proofs.BenchCauses.{request_told}
 use Rattle.fsfs_job_run.proofs.Composed.{commits_behind}
-use Rattle.fsfs_job_run.proofs.Listing.{lists_behind}
+use Rattle.fsfs_machine.specs.Kept.{IsIn}
+use Rattle.fsfs_job_run.proofs.Listing.{given_on, lists_behind}
+use Rattle.fsfs_job_run.proofs.SerialJobLemmas.{among}
 use Rattle.fsfs_job_run.proofs.commit_job.commit_job.Goals as goal
 
 pub returns-in-Ok-clause-does : goal.returns-in-Ok-clause-does
@@ -44,14 +46,17 @@ pub returns-in-Err-clause-cause : goal.returns-in-Err-clause-cause
 returns-in-Err-clause-cause g c = request_fails _ c.args.job.now.line c.in-Err.fault c.in-Err.ensures.asked
 
 pub returns-in-Ok-clause-listed : goal.returns-in-Ok-clause-listed
-returns-in-Ok-clause-listed g c =
+returns-in-Ok-clause-listed g c = λ least has.
     let start = g.D.Disk.faults c.args.repo.turns.disk in
     let mid = g.D.Disk.faults c.base_of.new.repo.turns.disk in
     let now = g.D.Disk.faults c.begin_and_commit.result.0.turns.disk in
-    lists_behind (Rose mid now) (Rose start now) 1 _ _ _ (λ r. omega (arith, r, c.in-Ok.ensures.faults)) (ap (λ (s : OwnedState). option_map labels_now s.trace) c.in-Ok.ensures.same) c.begin_and_commit.ensures.listed
+    let s = c.args.repo.turns in
+    let m = c.base_of.new.repo.turns in
+    lists_behind (Rose mid now) (Rose start now) least 1 _ _ _ (λ r. omega (arith, r, c.in-Ok.ensures.faults)) (ap (λ (s : OwnedState). option_map labels_now s.trace) c.in-Ok.ensures.same)
+    (c.begin_and_commit.ensures.listed least (given_on (KnowsAlone s.layout s.young s.stuck (g.D.Disk.trace s.disk)) (KnowsAlone m.layout m.young m.stuck (g.D.Disk.trace m.disk)) least (λ v known none. let l = c.in-Ok.ensures.looked v known none in (l.0, l.1, l.2.stays.outside, λ k there. subst (λ (xs : List ℕ). IsIn k xs) (sym l.2.stays.given) (among k l.2.stays.more v.given there))) has))
 
 pub returns-in-Err-clause-listed : goal.returns-in-Err-clause-listed
-returns-in-Err-clause-listed g c = inl (none_begun 1 _ _ (ap (λ (s : OwnedState). option_map labels_now s.trace) c.in-Err.ensures.same))
+returns-in-Err-clause-listed g c = λ least has. inl (none_begun least 1 _ _ (ap (λ (s : OwnedState). option_map labels_now s.trace) c.in-Err.ensures.same))
 
 pub returns-in-Ok-clause-benches : goal.returns-in-Ok-clause-benches
 returns-in-Ok-clause-benches g c = let same = ap (λ (s : OwnedState). s.bench_faults) c.in-Ok.ensures.same in omega (arith, same, c.begin_and_commit.ensures.benches)

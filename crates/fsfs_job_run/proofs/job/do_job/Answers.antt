@@ -35,4 +35,4 @@ pub returns-in-Commit-clause-listed : goal.returns-in-Commit-clause-listed
 returns-in-Commit-clause-listed g c = c.commit_job.ensures.listed
 
 pub returns-in-Read-clause-listed : goal.returns-in-Read-clause-listed
-returns-in-Read-clause-listed g c = inl (none_begun 1 _ _ c.read_text.ensures.listed)
+returns-in-Read-clause-listed g c = λ least has. inl (none_begun least 1 _ _ c.read_text.ensures.listed)

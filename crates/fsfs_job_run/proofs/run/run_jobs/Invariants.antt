@@ -1,4 +1,4 @@
-use Rattle.std.proofs.Common.{◌≡◌, ◌⊎◌, ◌≤◌, take, length}
+use Rattle.std.proofs.Common.{◌≡◌, ◌⊎◌, ◌≤◌, ℕ, take, length}
 use Rattle.std.specs.Prelude.{None, vec_len, option_map}
 use Rattle.fsfs_disk.specs.Trace.{labels_now}
 use Rattle.fsfs_turn.specs.Mountings.{RoseBy}
@@ -9,7 +9,7 @@ use Rattle.fsfs_turn.specs.Alone.{KnowsAlone}
 use Rattle.fsfs_turn.specs.Views.{View}
 use Rattle.fsfs_base.specs.Failures.{Rose}
 use Rattle.fsfs_job_run.specs.Workers.Lines.{disk_faults_in}
-use Rattle.fsfs_job_run.specs.Running.{DoAll}
+use Rattle.fsfs_job_run.specs.Running.{DoAll, HasGiven}
 use Rattle.fsfs_job_run.proofs.run.run_jobs.Given as goal
 
 -- so many jobs were done
@@ -23,7 +23,8 @@ invariant-loop-job g l = record {
   mounted : g.D.Disk.mount_path l.repo.turns.disk ≡ g.D.Disk.mount_path l.fn.repo.turns.disk;
   benches : RoseBy (bench_faults_in l.answers.items) (g.D.Disk.bench_faults l.fn.repo.turns.disk) (g.D.Disk.bench_faults l.repo.turns.disk);
   later : g.D.Disk.faults l.fn.repo.turns.disk ≤ g.D.Disk.faults l.repo.turns.disk;
-  listed : LeavesListed l.job-index (option_map labels_now (g.D.Disk.trace l.fn.repo.turns.disk)) (option_map labels_now (g.D.Disk.trace l.repo.turns.disk))
+  listed : (least : ℕ) → HasGiven (KnowsAlone l.fn.repo.turns.layout l.fn.repo.turns.young l.fn.repo.turns.stuck (g.D.Disk.trace l.fn.repo.turns.disk)) least
+      → LeavesListed least l.job-index (option_map labels_now (g.D.Disk.trace l.fn.repo.turns.disk)) (option_map labels_now (g.D.Disk.trace l.repo.turns.disk))
       ⊎ Rose (g.D.Disk.faults l.fn.repo.turns.disk) (g.D.Disk.faults l.repo.turns.disk);
   cause : RoseBy (disk_faults_in l.answers.items) (g.D.Disk.faults l.fn.repo.turns.disk) (g.D.Disk.faults l.repo.turns.disk);
 }

@@ -38,21 +38,21 @@ returns-in-Ok-clause-benches g c =
     omega (arith, rose, c.youngest-youngest.ensures.benches, back)
 
 pub returns-in-Ok-clause-listed : goal.returns-in-Ok-clause-listed
-returns-in-Ok-clause-listed g c =
+returns-in-Ok-clause-listed g c = λ least has.
     let count = g.D.Disk.faults in
     let told = g.D.Disk.trace in
     let start = count c.args.repo.turns.disk in
     let mid = count c.run_jobs-repo.result.0.turns.disk in
     let now = count c.close-disk.result in
     let back : now ≡ count c.youngest-youngest.new.self.turns.disk = ap count c.close-disk.ensures in
-    lists_then (Rose start mid) (Rose start now) (length c.args.jobs.now) _ _ _ (λ r. omega (arith, r, c.youngest-youngest.ensures.faults, back)) (ap (λ d. option_map labels_now (told d)) c.close-disk.ensures ∙ c.youngest-youngest.ensures.listed) c.run_jobs-repo.ensures.listed
+    lists_then (Rose start mid) (Rose start now) least (length c.args.jobs.now) _ _ _ (λ r. omega (arith, r, c.youngest-youngest.ensures.faults, back)) (ap (λ d. option_map labels_now (told d)) c.close-disk.ensures ∙ c.youngest-youngest.ensures.listed) (c.run_jobs-repo.ensures.listed least has)
 
 pub returns-in-Err-clause-listed : goal.returns-in-Err-clause-listed
-returns-in-Err-clause-listed g c =
+returns-in-Err-clause-listed g c = λ least has.
     let count = g.D.Disk.faults in
     let told = g.D.Disk.trace in
     let start = count c.args.repo.turns.disk in
     let mid = count c.run_jobs-repo.result.0.turns.disk in
     let now = count c.close-disk.result in
     let back : now ≡ count c.youngest-youngest.new.self.turns.disk = ap count c.close-disk.ensures in
-    lists_then (Rose start mid) (Rose start now) (length c.args.jobs.now) _ _ _ (λ r. omega (arith, r, c.youngest-youngest.ensures.faults, back)) (ap (λ d. option_map labels_now (told d)) c.close-disk.ensures ∙ c.youngest-youngest.ensures.listed) c.run_jobs-repo.ensures.listed
+    lists_then (Rose start mid) (Rose start now) least (length c.args.jobs.now) _ _ _ (λ r. omega (arith, r, c.youngest-youngest.ensures.faults, back)) (ap (λ d. option_map labels_now (told d)) c.close-disk.ensures ∙ c.youngest-youngest.ensures.listed) (c.run_jobs-repo.ensures.listed least has)

@@ -1,18 +1,19 @@
-use Rattle.std.proofs.Common.{◌≡◌, ◌⊎◌, ◌∙◌, List, length, refl, sym, ap, subst, arith}
+use Rattle.std.proofs.Common.{◌≡◌, ◌⊎◌, ◌∙◌, ℕ, List, length, refl, sym, ap, subst, arith}
 use Rattle.std.specs.Prelude.{option_map}
 use Rattle.fsfs_disk.specs.Trace.{FirmNames, FailsAt, labels_now}
 use Rattle.fsfs_script.specs.declared.job_lines.job.Job.{Job}
 use Rattle.fsfs_base.specs.Failures.{Rose}
 use Rattle.fsfs_base.proofs.ResultLemmas.{if_ok, on_err}
 use Rattle.fsfs_machine.specs.Machine.{revisions}
+use Rattle.fsfs_turn.specs.Alone.{KnowsAlone}
 use Rattle.fsfs_turn.specs.Mountings.{RoseBy}
 use Rattle.fsfs_job_run.specs.Serial.Jobs.{bench_faults_in}
 use Rattle.fsfs_job_run.specs.Serial.Listed.{LeavesListed}
 use Rattle.fsfs_job_run.specs.Workers.Lines.{disk_faults_in}
 use Rattle.fsfs_job_run.proofs.DiskCounts.{calm_all}
 use Rattle.fsfs_job_run.proofs.Listing.{lists_behind}
-use Rattle.fsfs_job_run.specs.Runs.{NoRoom, Done, Ran}
-use Rattle.fsfs_job_run.proofs.RunLemmas.{firm_fails, not_opened, not_read, ran_over}
+use Rattle.fsfs_job_run.specs.Runs.{NoRoom, Done, IsNextName, Ran}
+use Rattle.fsfs_job_run.proofs.RunLemmas.{firm_fails, not_opened, not_read, opened_given, ran_over}
 use Rattle.fsfs_job_run.proofs.running.run_script.Goals as goal
 
 pub returns-in-Err-clause-ran : goal.returns-in-Err-clause-ran
@@ -38,8 +39,10 @@ returns-in-Ok-done-clause-ran g c =
     let now = count c.do_jobs-disk.result.0 in
     let told_of = if_ok c.do_jobs-disk.result.1 c.in-Ok-done.done _ c.in-Ok-done.is c.do_jobs-disk.ensures.cause in
     let failed : RoseBy (disk_faults_in answers) (count c.args.disk) now = omega (arith, told_of, c.in-Ok.ensures.later) in
-    let listed = subst (λ (l : List Job). LeavesListed (length l) (option_map labels_now (told c.args.disk)) (option_map labels_now (told c.do_jobs-disk.result.0)) ⊎ Rose (count c.args.disk) now) given
-    (lists_behind (Rose (count c.in-Ok.field-0.repo.turns.disk) now) (Rose (count c.args.disk) now) (length c.as_slice.result.now) _ _ _ (λ r. omega (arith, r, c.in-Ok.ensures.later)) c.in-Ok.ensures.listed c.do_jobs-disk.ensures.listed) in
+    let listed = λ (least : ℕ) (next : IsNextName (told c.args.disk) least).
+    subst (λ (l : List Job). LeavesListed least (length l) (option_map labels_now (told c.args.disk)) (option_map labels_now (told c.do_jobs-disk.result.0)) ⊎ Rose (count c.args.disk) now) given
+    (lists_behind (Rose (count c.in-Ok.field-0.repo.turns.disk) now) (Rose (count c.args.disk) now) least (length c.as_slice.result.now) _ _ _ (λ r. omega (arith, r, c.in-Ok.ensures.later)) c.in-Ok.ensures.listed
+    (c.do_jobs-disk.ensures.listed least (let s = c.in-Ok.field-0.repo.turns in opened_given (KnowsAlone s.layout s.young s.stuck (g.D.Disk.trace s.disk)) (told c.args.disk) least c.in-Ok.ensures.known next))) in
     let rose = if_ok c.do_jobs-disk.result.1 c.in-Ok-done.done _ c.in-Ok-done.is c.do_jobs-disk.ensures.benches in
     let benches : RoseBy (bench_faults_in answers) 0 (g.D.Disk.bench_faults c.do_jobs-disk.result.0) = omega (arith, rose) in
     Done c.in-Ok.field-0.said js answers c.in-Ok-done.done.youngest c.tell.result c.in-Ok.ensures.opened c.in-Ok-read_script.ensures.read c.in-Ok-read_script.ensures.whole each failed (calm_all answers (count c.args.disk) now failed) benches listed over c.tell.ensures.printed

@@ -36,15 +36,15 @@ returns-clause-ran g c =
     inr (
       c.micros-micros.result,
       c.micros-micros.ensures.value,
-      subst (λ (x : Option Trace). RunsBy c.args.workers c.args.known c.micros-micros.result (g.H.Host.disk_faults c.args.host.now) (g.H.Host.disk_faults c.unmount.new.self) rose
+      subst (λ (x : Option Trace). RunsBy c.args.job_run.now c.args.known c.micros-micros.result (g.H.Host.disk_faults c.args.host.now) (g.H.Host.disk_faults c.unmount.new.self) rose
           (run_scene x (g.I.Source.remaining c.args.input.now) (g.I.Source.faults c.args.input.now) (g.O.Sink.written c.args.out.now) (g.O.Sink.faults c.args.out.now))
           (run_scene (g.H.Host.disk_at c.unmount.new.self c.args.repos.now) (g.I.Source.remaining c.run_on-disk.new.input) (g.I.Source.faults c.run_on-disk.new.input) (g.O.Sink.written c.run_on-disk.new.out) (g.O.Sink.faults c.run_on-disk.new.out)) c.run_on-disk.result.1)
           c.in-Ok.ensures.disk
-          (subst (λ (y : Option Trace). RunsBy c.args.workers c.args.known c.micros-micros.result (g.H.Host.disk_faults c.args.host.now) (g.H.Host.disk_faults c.unmount.new.self) rose
+          (subst (λ (y : Option Trace). RunsBy c.args.job_run.now c.args.known c.micros-micros.result (g.H.Host.disk_faults c.args.host.now) (g.H.Host.disk_faults c.unmount.new.self) rose
           (run_scene (told c.in-Ok.disk) (g.I.Source.remaining c.args.input.now) (g.I.Source.faults c.args.input.now) (g.O.Sink.written c.args.out.now) (g.O.Sink.faults c.args.out.now))
           (run_scene y (g.I.Source.remaining c.run_on-disk.new.input) (g.I.Source.faults c.run_on-disk.new.input) (g.O.Sink.written c.run_on-disk.new.out) (g.O.Sink.faults c.run_on-disk.new.out)) c.run_on-disk.result.1)
           (sym back)
-          (run_by_host c.args.known c.micros-micros.result (count c.in-Ok.disk) (count c.run_on-disk.result.0) (g.H.Host.disk_faults c.args.host.now) (g.H.Host.disk_faults c.unmount.new.self) c.in-Ok.ensures.new counted (λ n. RoseBy n 0 (benches c.run_on-disk.result.0)) rose (λ n risen. by_host n 0 (benches c.run_on-disk.result.0) old new refl counts risen) _ _ c.args.workers
+          (run_by_host c.args.known c.micros-micros.result (count c.in-Ok.disk) (count c.run_on-disk.result.0) (g.H.Host.disk_faults c.args.host.now) (g.H.Host.disk_faults c.unmount.new.self) c.in-Ok.ensures.new counted (λ n. RoseBy n 0 (benches c.run_on-disk.result.0)) rose (λ n risen. by_host n 0 (benches c.run_on-disk.result.0) old new refl counts risen) _ _ c.args.job_run.now
           c.run_on-disk.result.1 c.run_on-disk.ensures.ran)),
     )
 
@@ -58,5 +58,5 @@ returns-clause-decided g c =
     let ran = c.run_on-disk.result in
     let before = run_scene (told c.in-Ok.disk) (g.I.Source.remaining c.args.input.now) (g.I.Source.faults c.args.input.now) (g.O.Sink.written c.args.out.now) (g.O.Sink.faults c.args.out.now) in
     let after = run_scene (told ran.0) (g.I.Source.remaining c.run_on-disk.new.input) (g.I.Source.faults c.run_on-disk.new.input) (g.O.Sink.written c.run_on-disk.new.out) (g.O.Sink.faults c.run_on-disk.new.out) in
-    subst (λ (x : Option Trace). RunIsDecided c.args.workers c.args.known x ran.1) c.in-Ok.ensures.disk
-    (run_decided c.args.workers c.args.known c.micros-micros.result (count c.in-Ok.disk) (count ran.0) (λ n. RoseBy n 0 (g.H.Mounted.Disk.bench_faults ran.0)) before after ran.1 c.run_on-disk.ensures.ran)
+    subst (λ (x : Option Trace). RunIsDecided c.args.job_run.now c.args.known x ran.1) c.in-Ok.ensures.disk
+    (run_decided c.args.job_run.now c.args.known c.micros-micros.result (count c.in-Ok.disk) (count ran.0) (λ n. RoseBy n 0 (g.H.Mounted.Disk.bench_faults ran.0)) before after ran.1 c.run_on-disk.ensures.ran)

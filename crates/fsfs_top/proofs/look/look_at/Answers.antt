@@ -9,12 +9,12 @@ use Rattle.fsfs_top.proofs.LooksPrint.{look_now, look_printed, open_refused}
 use Rattle.fsfs_top.proofs.look.look_at.Goals as goal
 
 pub returns-in-Ok-open-clause-printed : goal.returns-in-Ok-open-clause-printed
-returns-in-Ok-open-clause-printed g c =
+returns-in-Ok-open-clause-printed g c = λ input.
     let told = g.H.Mounted.Disk.trace in
     let count = g.H.Mounted.Disk.faults in
     let disk = Rose (g.H.Host.disk_faults c.args.host.now) (g.H.Host.disk_faults c.unmount.new.self) in
     let counted : Rose (count c.open.new.disk) (count c.look_into-disk.result.0) → disk = λ rose. omega (arith, rose, c.in-Ok.ensures.new, c.in-Ok.ensures.same_faults, c.unmount.ensures.faults) in
-    look_printed c.args.repos.now c.args.look.now (scene g.H.Host g.O.Sink c.args.host.now c.args.out.now) (scene g.H.Host g.O.Sink c.unmount.new.self c.look_into-disk.new.out) c.in-Ok-open.opened (told c.in-Ok.disk)
+    look_printed c.args.repos.now c.args.look.now (scene g.H.Host g.O.Sink c.args.host.now c.args.out.now input) (scene g.H.Host g.O.Sink c.unmount.new.self c.look_into-disk.new.out input) c.in-Ok-open.opened (told c.in-Ok.disk)
     (fault_of c.look_into-disk.result.1) c.in-Ok.ensures.disk c.in-Ok-open.ensures.opened
     (look_now (Rose (count c.open.new.disk) (count c.look_into-disk.result.0)) disk c.args.look.now c.in-Ok-open.opened (told c.in-Ok.disk) (told c.open.new.disk)
     (sink_scene g.O.Sink c.args.out.now) (sink_scene g.O.Sink c.look_into-disk.new.out) (fault_of c.look_into-disk.result.1) c.in-Ok-open.ensures.same counted c.look_into-disk.ensures.printed)
@@ -30,12 +30,12 @@ returns-in-Ok-open-clause-decided g c =
     (sink_scene g.O.Sink c.args.out.now) (sink_scene g.O.Sink c.look_into-disk.new.out) (fault_of c.look_into-disk.result.1) c.in-Ok-open.ensures.same (λ r. r) c.look_into-disk.ensures.printed)
 
 pub returns-in-Err-open-clause-printed : goal.returns-in-Err-open-clause-printed
-returns-in-Err-open-clause-printed g c =
+returns-in-Err-open-clause-printed g c = λ input.
     let told = g.H.Mounted.Disk.trace in
     let count = g.H.Mounted.Disk.faults in
     let disk = Rose (g.H.Host.disk_faults c.args.host.now) (g.H.Host.disk_faults c.unmount-in-Err-open.new.self) in
     let counted : Rose (count c.in-Ok.disk) (count c.open.new.disk) → disk = λ rose. omega (arith, rose, c.in-Ok.ensures.new, c.in-Ok.ensures.same_faults, c.unmount-in-Err-open.ensures.faults) in
-    inl (open_refused c.args.repos.now (scene g.H.Host g.O.Sink c.args.host.now c.args.out.now) (scene g.H.Host g.O.Sink c.unmount-in-Err-open.new.self c.args.out.now) (Rose (count c.in-Ok.disk) (count c.open.new.disk))
+    inl (open_refused c.args.repos.now (scene g.H.Host g.O.Sink c.args.host.now c.args.out.now input) (scene g.H.Host g.O.Sink c.unmount-in-Err-open.new.self c.args.out.now input) (Rose (count c.in-Ok.disk) (count c.open.new.disk))
     (told c.in-Ok.disk) c.in-Err-open.fault c.from.result c.in-Ok.ensures.disk c.from.ensures counted refl c.in-Err-open.ensures.refused c.in-Err-open.ensures.decided)
 
 pub returns-in-Err-open-clause-decided : goal.returns-in-Err-open-clause-decided

@@ -1,5 +1,6 @@
 use Rattle.std.proofs.Common.{sym, subst, arith}
 use Rattle.fsfs_look.specs.Written.{Writes}
+use Rattle.fsfs_look.proofs.LookLemmas.{author_only, date_only, log_only, info_only}
 use Rattle.fsfs_top.specs.Looks.{TextOf}
 use Rattle.fsfs_cli.specs.declared.request.Printed.{Printed}
 use Rattle.fsfs_top.proofs.look.print_look.Goals as goal
@@ -17,22 +18,22 @@ returns-in-Text-clause-told g c = λ bytes knows.
 pub returns-in-Author-clause-told : goal.returns-in-Author-clause-told
 returns-in-Author-clause-told g c = λ bytes knows.
     subst (λ (p : Printed). Writes (TextOf p bytes c.args.rev) (g.O.Sink.written c.args.out.now) (g.O.Sink.written c.author.new.sink) c.author.result) (sym c.in-Author.is)
-    (c.author.ensures.told bytes.props (knows.1 c.args.rev (omega arith)))
+    (author_only (g.B.RevProps.may_read c.args.book.now) bytes.props c.args.rev (knows.1 c.args.rev (omega arith)) (g.O.Sink.written c.args.out.now) (g.O.Sink.written c.author.new.sink) c.author.result c.author.ensures.read)
 
 pub returns-in-Date-clause-told : goal.returns-in-Date-clause-told
 returns-in-Date-clause-told g c = λ bytes knows.
     subst (λ (p : Printed). Writes (TextOf p bytes c.args.rev) (g.O.Sink.written c.args.out.now) (g.O.Sink.written c.date.new.sink) c.date.result) (sym c.in-Date.is)
-    (c.date.ensures.told bytes.props (knows.1 c.args.rev (omega arith)))
+    (date_only (g.B.RevProps.may_read c.args.book.now) bytes.props c.args.rev (knows.1 c.args.rev (omega arith)) (g.O.Sink.written c.args.out.now) (g.O.Sink.written c.date.new.sink) c.date.result c.date.ensures.read)
 
 pub returns-in-Log-clause-told : goal.returns-in-Log-clause-told
 returns-in-Log-clause-told g c = λ bytes knows.
     subst (λ (p : Printed). Writes (TextOf p bytes c.args.rev) (g.O.Sink.written c.args.out.now) (g.O.Sink.written c.log.new.sink) c.log.result) (sym c.in-Log.is)
-    (c.log.ensures.told bytes.props (knows.1 c.args.rev (omega arith)))
+    (log_only (g.B.RevProps.may_read c.args.book.now) bytes.props c.args.rev (knows.1 c.args.rev (omega arith)) (g.O.Sink.written c.args.out.now) (g.O.Sink.written c.log.new.sink) c.log.result c.log.ensures.read)
 
 pub returns-in-Info-clause-told : goal.returns-in-Info-clause-told
 returns-in-Info-clause-told g c = λ bytes knows.
     subst (λ (p : Printed). Writes (TextOf p bytes c.args.rev) (g.O.Sink.written c.args.out.now) (g.O.Sink.written c.info.new.sink) c.info.result) (sym c.in-Info.is)
-    (c.info.ensures.told bytes.props (knows.1 c.args.rev (omega arith)))
+    (info_only (g.B.RevProps.may_read c.args.book.now) bytes.props c.args.rev (knows.1 c.args.rev (omega arith)) (g.O.Sink.written c.args.out.now) (g.O.Sink.written c.info.new.sink) c.info.result c.info.ensures.read)
 
 pub returns-in-Changed-clause-told : goal.returns-in-Changed-clause-told
 returns-in-Changed-clause-told g c = λ bytes knows.

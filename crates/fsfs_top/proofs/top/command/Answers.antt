@@ -5,6 +5,7 @@ use Rattle.fsfs_cli.specs.declared.request.Task.TheVariants.{RunJobs}
 use Rattle.fsfs_cli.specs.declared.tool.Tool.{Tool}
 use Rattle.fsfs_top.specs.Scenes.{scene, source_scene}
 use Rattle.fsfs_top.proofs.JobsTold.{jobs_list}
+use Rattle.fsfs_top.proofs.OthersTold.{did_others, jobs_others}
 use Rattle.fsfs_top.proofs.TaskDone.{no_creation, no_removal}
 use Rattle.fsfs_top.proofs.top.command.Goals as goal
 
@@ -26,8 +27,8 @@ returns-in-Ok-clause-answer g c = λ apart. absurd (apart c.in-Jobs.is)
 pub returns-in-Ok-clause-replies : goal.returns-in-Ok-clause-replies
 returns-in-Ok-clause-replies g c = λ apart. absurd (apart c.in-Jobs.is)
 
-pub returns-in-Ok-clause-others : goal.returns-in-Ok-clause-others
-returns-in-Ok-clause-others g c = λ apart. absurd (apart c.in-Jobs.is)
+pub returns-in-Ok-clause-files : goal.returns-in-Ok-clause-files
+returns-in-Ok-clause-files g c = λ apart. absurd (apart c.in-Jobs.is)
 
 pub returns-in-Ok-clause-labels : goal.returns-in-Ok-clause-labels
 returns-in-Ok-clause-labels g c = λ apart. absurd (apart c.in-Jobs.is)
@@ -59,8 +60,8 @@ returns-in-Err-clause-answer g c = λ apart. absurd (apart c.in-Jobs.is)
 pub returns-in-Err-clause-replies : goal.returns-in-Err-clause-replies
 returns-in-Err-clause-replies g c = λ apart. absurd (apart c.in-Jobs.is)
 
-pub returns-in-Err-clause-others : goal.returns-in-Err-clause-others
-returns-in-Err-clause-others g c = λ apart. absurd (apart c.in-Jobs.is)
+pub returns-in-Err-clause-files : goal.returns-in-Err-clause-files
+returns-in-Err-clause-files g c = λ apart. absurd (apart c.in-Jobs.is)
 
 pub returns-in-Err-clause-labels : goal.returns-in-Err-clause-labels
 returns-in-Err-clause-labels g c = λ apart. absurd (apart c.in-Jobs.is)
@@ -94,14 +95,41 @@ returns-in-Err-clause-jobs g c = λ jobs. (Err c.in-Err.fault, c.tell.ensures.st
 
 pub returns-in-Ok-clause-listed : goal.returns-in-Ok-clause-listed
 returns-in-Ok-clause-listed g c = λ jobs one.
-    jobs_list (map string_bytes c.args.words.now) c.args.known (g.C.Clock.next c.args.clock.now) (scene g.H.Host g.O.Sink c.args.host.now c.args.out.now) (source_scene g.I.Source c.args.input.now) (scene g.H.Host g.O.Sink c.run_jobs.new.host c.run_jobs.new.out) (source_scene g.I.Source c.run_jobs.new.input)
-    (Ok c.in-Ok.status) c.in-Ok.ensures.did (λ repos workers asks. one repos workers (subst (λ (t : Tool). Asks t (map string_bytes c.args.words.now) repos (RunJobs workers)) (sym jobs) asks))
+    jobs_list (map string_bytes c.args.words.now) c.args.known (g.C.Clock.next c.args.clock.now) (scene g.H.Host g.O.Sink c.args.host.now c.args.out.now (source_scene g.I.Source c.args.input.now)) (scene g.H.Host g.O.Sink c.run_jobs.new.host c.run_jobs.new.out (source_scene g.I.Source c.run_jobs.new.input))
+    (Ok c.in-Ok.status) c.in-Ok.ensures.did (λ repos run asks. one repos run (subst (λ (t : Tool). Asks t (map string_bytes c.args.words.now) repos (RunJobs run)) (sym jobs) asks))
 
 pub returns-in-Err-clause-listed : goal.returns-in-Err-clause-listed
 returns-in-Err-clause-listed g c = λ jobs one.
-    jobs_list (map string_bytes c.args.words.now) c.args.known (g.C.Clock.next c.args.clock.now) (scene g.H.Host g.O.Sink c.args.host.now c.args.out.now) (source_scene g.I.Source c.args.input.now) (scene g.H.Host g.O.Sink c.run_jobs.new.host c.run_jobs.new.out) (source_scene g.I.Source c.run_jobs.new.input)
-    (Err c.in-Err.fault) c.in-Err.ensures.did (λ repos workers asks. one repos workers (subst (λ (t : Tool). Asks t (map string_bytes c.args.words.now) repos (RunJobs workers)) (sym jobs) asks))
+    jobs_list (map string_bytes c.args.words.now) c.args.known (g.C.Clock.next c.args.clock.now) (scene g.H.Host g.O.Sink c.args.host.now c.args.out.now (source_scene g.I.Source c.args.input.now)) (scene g.H.Host g.O.Sink c.run_jobs.new.host c.run_jobs.new.out (source_scene g.I.Source c.run_jobs.new.input))
+    (Err c.in-Err.fault) c.in-Err.ensures.did (λ repos run asks. one repos run (subst (λ (t : Tool). Asks t (map string_bytes c.args.words.now) repos (RunJobs run)) (sym jobs) asks))
 
 pub run_jobs-requires-clause-knows : goal.run_jobs-requires-clause-knows
-run_jobs-requires-clause-knows g c = λ κs within known repos workers asks.
-    c.requires.knows known repos workers (subst (λ (t : Tool). Asks t (map string_bytes c.args.words.now) repos (RunJobs workers)) (sym c.in-Jobs.is) asks)
+run_jobs-requires-clause-knows g c = λ κs within known repos run asks.
+    c.requires.knows known repos run (subst (λ (t : Tool). Asks t (map string_bytes c.args.words.now) repos (RunJobs run)) (sym c.in-Jobs.is) asks)
+
+-- ---- the input and the paths of a command, and of a run
+
+pub returns-in_default-clause-answer : goal.returns-in_default-clause-answer
+returns-in_default-clause-answer g c = λ apart.
+    let told = c.do_command.ensures.answer in
+    (told.0, told.1, told.2, told.3 (source_scene g.I.Source c.args.input.now))
+
+pub returns-in_default-clause-replies : goal.returns-in_default-clause-replies
+returns-in_default-clause-replies g c = λ apart. c.do_command.ensures.replies (source_scene g.I.Source c.args.input.now)
+
+pub returns-in_default-clause-others : goal.returns-in_default-clause-others
+returns-in_default-clause-others g c =
+    let input = source_scene g.I.Source c.args.input.now in
+    let told = c.do_command.ensures.answer in
+    did_others c.args.tool (map string_bytes c.args.words.now) (g.C.Clock.next c.args.clock.now) (g.R.Dice.next c.args.dice.now) (scene g.H.Host g.O.Sink c.args.host.now c.args.out.now input) (scene g.H.Host g.O.Sink c.do_command.new.host c.do_command.new.out input) told.0
+    (told.3 input)
+
+pub returns-in-Ok-clause-others : goal.returns-in-Ok-clause-others
+returns-in-Ok-clause-others g c =
+    jobs_others c.args.tool (map string_bytes c.args.words.now) c.args.known (g.C.Clock.next c.args.clock.now) (scene g.H.Host g.O.Sink c.args.host.now c.args.out.now (source_scene g.I.Source c.args.input.now)) (scene g.H.Host g.O.Sink c.run_jobs.new.host c.run_jobs.new.out (source_scene g.I.Source c.run_jobs.new.input))
+    (Ok c.in-Ok.status) c.in-Jobs.is c.in-Ok.ensures.did
+
+pub returns-in-Err-clause-others : goal.returns-in-Err-clause-others
+returns-in-Err-clause-others g c =
+    jobs_others c.args.tool (map string_bytes c.args.words.now) c.args.known (g.C.Clock.next c.args.clock.now) (scene g.H.Host g.O.Sink c.args.host.now c.args.out.now (source_scene g.I.Source c.args.input.now)) (scene g.H.Host g.O.Sink c.run_jobs.new.host c.run_jobs.new.out (source_scene g.I.Source c.run_jobs.new.input))
+    (Err c.in-Err.fault) c.in-Jobs.is c.in-Err.ensures.did

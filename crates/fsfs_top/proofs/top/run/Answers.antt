@@ -16,11 +16,11 @@ use Rattle.fsfs_top.proofs.TxnsTold.{labels_firm, same_labels}
 use Rattle.fsfs_top.proofs.top.run.Goals as goal
 
 pub returns-in-Create-clause-did : goal.returns-in-Create-clause-did
-returns-in-Create-clause-did g c =
+returns-in-Create-clause-did g c = λ input.
     let words = map string_bytes c.args.words.now in
     let repos = c.in_ok-request.request.repos.now in
     let asks = subst (Asks c.args.tool words repos) c.in-Create.is c.in_ok-request.ensures in
-    inl (repos, Create c.in-Create.shard, asks, (c.create_at.ensures.created, refl))
+    inl (repos, Create c.in-Create.shard, asks, (c.create_at.ensures.created, refl, refl), λ path none. c.create_at.ensures.others path none.0)
 
 pub returns-in-Create-clause-there_same : goal.returns-in-Create-clause-there_same
 returns-in-Create-clause-there_same g c = λ r n t also here has.
@@ -48,19 +48,19 @@ returns-in-Create-clause-firm g c = λ r n also.
     let asks = subst (Asks c.args.tool words repos) c.in-Create.is c.in_ok-request.ensures in
     at_creation (λ p k. OnOk c.create_at.result (IsFirm (g.H.Host.disk_at c.create_at.new.host p))) c.args.tool words repos c.in-Create.shard asks c.create_at.ensures.firm r n also
 
-pub returns-in-Create-clause-others : goal.returns-in-Create-clause-others
-returns-in-Create-clause-others g c = λ path none.
+pub returns-in-Create-clause-files : goal.returns-in-Create-clause-files
+returns-in-Create-clause-files g c = λ path none.
     let words = map string_bytes c.args.words.now in
     let repos = c.in_ok-request.request.repos.now in
     let asks = subst (Asks c.args.tool words repos) c.in-Create.is c.in_ok-request.ensures in
     ap (option_map files_now) (c.create_at.ensures.others path (λ e. none c.in-Create.shard (subst (λ (p : List ℕ). Asks c.args.tool words p (Create c.in-Create.shard)) (sym e) asks)))
 
 pub returns-in-Look-clause-did : goal.returns-in-Look-clause-did
-returns-in-Look-clause-did g c =
+returns-in-Look-clause-did g c = λ input.
     let words = map string_bytes c.args.words.now in
     let repos = c.in_ok-request.request.repos.now in
     let asks = subst (Asks c.args.tool words repos) c.in-Look.is c.in_ok-request.ensures in
-    inl (repos, Look c.in-Look.look, asks, (c.look_at.ensures.printed, c.look_at.ensures.decided))
+    inl (repos, Look c.in-Look.look, asks, (c.look_at.ensures.printed input, c.look_at.ensures.decided, refl), λ path none. c.look_at.ensures.others path none.0)
 
 pub returns-in-Look-clause-there_same : goal.returns-in-Look-clause-there_same
 returns-in-Look-clause-there_same g c = λ r n t also here has.
@@ -80,8 +80,8 @@ returns-in-Look-clause-firm g c = λ r n also.
     let repos = c.in_ok-request.request.repos.now in
     absurd (looks_alone c.args.tool words repos r c.in-Look.look n (subst (Asks c.args.tool words repos) c.in-Look.is c.in_ok-request.ensures) also)
 
-pub returns-in-Look-clause-others : goal.returns-in-Look-clause-others
-returns-in-Look-clause-others g c = λ path none.
+pub returns-in-Look-clause-files : goal.returns-in-Look-clause-files
+returns-in-Look-clause-files g c = λ path none.
     same_files (g.H.Host.disk_at c.args.host.now) (g.H.Host.disk_at c.look_at.new.host) c.in_ok-request.request.repos.now path c.look_at.ensures.same c.look_at.ensures.others
 
 pub create_at-requires : goal.create_at-requires
@@ -119,14 +119,14 @@ returns-in-Look-clause-labels g c = λ path none nor.
 -- ---- a listing
 
 pub returns-in-ListTxns-clause-did : goal.returns-in-ListTxns-clause-did
-returns-in-ListTxns-clause-did g c =
+returns-in-ListTxns-clause-did g c = λ input.
     let words = map string_bytes c.args.words.now in
     let repos = c.in_ok-request.request.repos.now in
     let asks = subst (Asks c.args.tool words repos) c.in-ListTxns.is c.in_ok-request.ensures in
-    inl (repos, ListTxns, asks, (c.list_at.ensures.listed, c.list_at.ensures.decided))
+    inl (repos, ListTxns, asks, (c.list_at.ensures.listed input, c.list_at.ensures.decided, refl), λ path none. c.list_at.ensures.others path none.0)
 
-pub returns-in-ListTxns-clause-others : goal.returns-in-ListTxns-clause-others
-returns-in-ListTxns-clause-others g c = λ path none.
+pub returns-in-ListTxns-clause-files : goal.returns-in-ListTxns-clause-files
+returns-in-ListTxns-clause-files g c = λ path none.
     let old = g.H.Host.disk_at c.args.host.now in
     let new = g.H.Host.disk_at c.list_at.new.host in
     let repos = c.in_ok-request.request.repos.now in
@@ -184,14 +184,14 @@ returns-in-RemoveTxns-clause-firm g c = λ r n also.
 -- ---- a removal
 
 pub returns-in-RemoveTxns-clause-did : goal.returns-in-RemoveTxns-clause-did
-returns-in-RemoveTxns-clause-did g c =
+returns-in-RemoveTxns-clause-did g c = λ input.
     let words = map string_bytes c.args.words.now in
     let repos = c.in_ok-request.request.repos.now in
     let asks = subst (Asks c.args.tool words repos) c.in-RemoveTxns.is c.in_ok-request.ensures in
-    inl (repos, RemoveTxns c.in-RemoveTxns.names, asks, (c.remove_at.ensures.removed, c.remove_at.ensures.decided, refl))
+    inl (repos, RemoveTxns c.in-RemoveTxns.names, asks, (c.remove_at.ensures.removed, c.remove_at.ensures.decided, refl, refl), λ path none. c.remove_at.ensures.others path none.0)
 
-pub returns-in-RemoveTxns-clause-others : goal.returns-in-RemoveTxns-clause-others
-returns-in-RemoveTxns-clause-others g c = λ path none.
+pub returns-in-RemoveTxns-clause-files : goal.returns-in-RemoveTxns-clause-files
+returns-in-RemoveTxns-clause-files g c = λ path none.
     same_files (g.H.Host.disk_at c.args.host.now) (g.H.Host.disk_at c.remove_at.new.host) c.in_ok-request.request.repos.now path c.remove_at.ensures.same c.remove_at.ensures.others
 
 pub returns-in-RemoveTxns-clause-removal : goal.returns-in-RemoveTxns-clause-removal

@@ -9,11 +9,11 @@ use Rattle.fsfs_top.proofs.TxnsTold.{lists_told}
 use Rattle.fsfs_top.proofs.txns.list_at.Goals as goal
 
 pub returns-clause-listed : goal.returns-clause-listed
-returns-clause-listed g c =
+returns-clause-listed g c = λ input.
     let count = g.H.Mounted.Disk.faults in
     let rose = Rose (count c.in-Ok.disk) (count c.list_opened-listed.new.disk) in
     let counted : rose → Rose (g.H.Host.disk_faults c.args.host.now) (g.H.Host.disk_faults c.unmount.new.self) = λ r. omega (arith, r, c.in-Ok.ensures.new, c.in-Ok.ensures.same_faults, c.unmount.ensures.faults) in
-    lists_told rose c.args.repos.now (scene g.H.Host g.O.Sink c.args.host.now c.args.out.now) (scene g.H.Host g.O.Sink c.unmount.new.self c.list_opened-listed.new.out) (g.H.Mounted.Disk.trace c.in-Ok.disk)
+    lists_told rose c.args.repos.now (scene g.H.Host g.O.Sink c.args.host.now c.args.out.now input) (scene g.H.Host g.O.Sink c.unmount.new.self c.list_opened-listed.new.out input) (g.H.Mounted.Disk.trace c.in-Ok.disk)
     (fault_of c.list_opened-listed.result) c.in-Ok.ensures.disk counted c.list_opened-listed.ensures.listed
 
 pub returns-clause-decided : goal.returns-clause-decided

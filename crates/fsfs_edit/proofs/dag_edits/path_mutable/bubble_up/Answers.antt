@@ -17,7 +17,7 @@ use Rattle.fsfs_edit.proofs.dag_edits.path_mutable.bubble_up.Goals as goal
 
 pub loop-name-init : goal.loop-name-init
 loop-name-init g c = record {
-  kept = record { revs = λ r read e. e; props = λ r read e. e; youngest = λ y e. e; below = refl };
+  kept = record { revs = λ r read e. e; youngest = λ y e. e; below = refl };
   later = omega arith;
   bench = refl;
   proto = refl;

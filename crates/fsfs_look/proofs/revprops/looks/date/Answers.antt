@@ -13,17 +13,17 @@ use Rattle.fsfs_look.proofs.revprops.looks.date.Goals as goal
 abbrev Line : ℕ → Pairs → Result (List ℕ) Wrong → Type 0
 Line rev pairs = DateLine rev (value_of pairs date_name)
 
-pub returns-in_err-pairs-clause-told : goal.returns-in_err-pairs-clause-told
-returns-in_err-pairs-clause-told g c = λ files told.
+pub returns-in_err-pairs-clause-read : goal.returns-in_err-pairs-clause-read
+returns-in_err-pairs-clause-read g c =
     let e = err_from_is_err_and c.from_residual.result c.from_residual.ensures.1 in
-    rw (e.1, e.2) (no_props (Line c.args.rev) files c.args.rev (g.S.Sink.written c.args.sink.now) c.in_err-pairs.field-0.0 (c.in_err-pairs.ensures.told files told))
+    rw (e.1, e.2) (no_props (Line c.args.rev) (g.B.RevProps.may_read c.args.book.now) c.args.rev (g.S.Sink.written c.args.sink.now) c.in_err-pairs.field-0.0 c.in_err-pairs.ensures.read)
 
-pub returns-in_err-line-clause-told : goal.returns-in_err-line-clause-told
-returns-in_err-line-clause-told g c = λ files told.
+pub returns-in_err-line-clause-read : goal.returns-in_err-line-clause-read
+returns-in_err-line-clause-read g c =
     let e = err_from_is_err_and c.from_residual-in_err-line.result c.from_residual-in_err-line.ensures.1 in
-    rw (e.1, e.2) (no_line (Line c.args.rev) files c.args.rev c.in_ok-pairs.pairs (c.in_ok-pairs.ensures.told files told) (λ (v : Vec ℕ Global). v.items) (g.S.Sink.written c.args.sink.now) c.in_err-line.field-0.0 c.in_err-line.ensures.told)
+    rw (e.1, e.2) (no_line (Line c.args.rev) (g.B.RevProps.may_read c.args.book.now) c.args.rev c.in_ok-pairs.pairs c.in_ok-pairs.ensures.read (λ (v : Vec ℕ Global). v.items) (g.S.Sink.written c.args.sink.now) c.in_err-line.field-0.0 c.in_err-line.ensures.told)
 
-pub returns-clause-told : goal.returns-clause-told
-returns-clause-told g c = λ files told.
-    props_written (Line c.args.rev) files c.args.rev c.in_ok-pairs.pairs (c.in_ok-pairs.ensures.told files told) c.in_ok-line.line.items c.deref.result.now (g.S.Sink.written c.args.sink.now) (g.S.Sink.written c.write_piece.new.sink) c.write_piece.result
+pub returns-clause-read : goal.returns-clause-read
+returns-clause-read g c =
+    props_written (Line c.args.rev) (g.B.RevProps.may_read c.args.book.now) c.args.rev c.in_ok-pairs.pairs c.in_ok-pairs.ensures.read c.in_ok-line.line.items c.deref.result.now (g.S.Sink.written c.args.sink.now) (g.S.Sink.written c.write_piece.new.sink) c.write_piece.result
     c.in_ok-line.ensures.told c.deref.ensures.value c.write_piece.ensures.added c.write_piece.ensures.part c.write_piece.ensures.failed

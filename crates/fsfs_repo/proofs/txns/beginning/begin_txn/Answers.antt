@@ -1,15 +1,15 @@
-use Rattle.std.proofs.Common.{◌≡◌, codes, ⊎_elim, sym, subst, ◌∙◌, arith}
+use Rattle.std.proofs.Common.{◌≡◌, codes, inl, sym, subst, ◌∙◌, arith}
 use Rattle.fsfs_base.specs.Failures.{Rose}
 use Rattle.fsfs_disk.specs.Labels.{with_label}
 use Rattle.fsfs_base.specs.declared.fields.txn_name.TxnName.{TxnName}
 use Rattle.fsfs_base.proofs.ResultLemmas.{if_ok, if_err, on_err}
 use Rattle.fsfs_disk.specs.Transactions.Txns.{pair_of, txn_label}
 use Rattle.fsfs_begin.specs.Benches.{TellsRoot}
+use Rattle.fsfs_begin.specs.Labels.{IsNew}
 use Rattle.fsfs_turn.specs.Labels.{Relabels}
 use Rattle.fsfs_turn.specs.Mountings.{RoseBy}
 use Rattle.fsfs_begin.specs.Faults.{bench_faults_in}
 use Rattle.fsfs_begin.proofs.Moving.{moved_on}
-use Rattle.fsfs_begin.proofs.Reading.{either_way}
 use Rattle.fsfs_repo.proofs.Begun.{begins_as, among_as, begun_moved, begun_given}
 use Rattle.fsfs_repo.proofs.Unlisted.{forgets, relabelled}
 use Rattle.fsfs_repo.proofs.txns.beginning.begin_txn.Goals as goal
@@ -17,7 +17,7 @@ use Rattle.fsfs_repo.proofs.txns.beginning.begin_txn.Goals as goal
 -- ---- the calls are due
 
 pub begin-back-requires : goal.begin-back-requires
-begin-back-requires g c = record { few = λ bound. c.requires.few bound; due = λ bound. c.requires.due bound }
+begin-back-requires g c = record { due = λ bound. c.requires.due bound }
 
 pub hold-requires : goal.hold-requires
 hold-requires g c = if_ok c.begin-back.result.1 c.in-Ok.begun (λ z. TellsRoot z.root (g.T.Bench.Bench.contents z.bench)) c.in-Ok.is c.begin-back.ensures.tells
@@ -28,8 +28,9 @@ forget-requires g c = record {
       let was = sym c.begin-back.ensures.duty ∙ bound in
       let w = c.requires.due was in
       let begun = c.in-Ok.begun in
-      ⊎_elim (λ b. let d = begun_given begun.name begun.root (g.T.Bench.Bench.contents begun.bench) w.0 b.0 b.2 in (b.0, b.1, d.0, d.1)) (λ past. absurd (past.1 (c.requires.few was)))
-      (if_ok c.begin-back.result.1 begun _ c.in-Ok.is (c.begin-back.ensures.begun w.0 w.1 w.2));
+      let b = if_ok c.begin-back.result.1 begun _ c.in-Ok.is (c.begin-back.ensures.begun w.0 w.1 w.2) in
+      let d = begun_given begun.name begun.root (g.T.Bench.Bench.contents begun.bench) w.0 b.0 b.2 in
+      (b.0, b.1, d.0, d.1);
 }
 
 -- ---- none was begun
@@ -44,22 +45,16 @@ returns-in-Ok-hold-clause-begun g c = λ v known none.
     let turns = c.begin-back.result.0 in
     let begun = c.in-Ok.begun in
     let base : begun.name.base ≡ c.args.base = if_ok c.begin-back.result.1 begun (λ z. z.name.base ≡ c.args.base) c.in-Ok.is c.begin-back.ensures.base in
-    either_way (λ b. (
-      b.0,
-      b.1,
-      among_as begun.name begun.root (g.T.Bench.Bench.contents begun.bench) v b.0 b.2 _ (codes "rev") _ c.args.base (g.met.T.Turns.tells turns b.0 b.1).shown base c.in-Ok-hold.ensures.name c.in-Ok-hold.ensures.folder,
-    )) (λ past. past) (if_ok c.begin-back.result.1 begun _ c.in-Ok.is (c.begin-back.ensures.begun v known none))
+    let b = if_ok c.begin-back.result.1 begun _ c.in-Ok.is (c.begin-back.ensures.begun v known none) in
+    (b.0, b.1, among_as begun.name begun.root (g.T.Bench.Bench.contents begun.bench) v b.0 b.2 _ (codes "rev") _ c.args.base (g.met.T.Turns.tells turns b.0 b.1).shown base c.in-Ok-hold.ensures.name c.in-Ok-hold.ensures.folder)
 
 pub returns-in-Ok-hold-clause-alone : goal.returns-in-Ok-hold-clause-alone
 returns-in-Ok-hold-clause-alone g c = λ still v known none.
     let turns = c.begin-back.result.0 in
     let begun = c.in-Ok.begun in
     let base : begun.name.base ≡ c.args.base = if_ok c.begin-back.result.1 begun (λ z. z.name.base ≡ c.args.base) c.in-Ok.is c.begin-back.ensures.base in
-    either_way (λ b. (
-      b.0,
-      b.1,
-      begins_as begun.name _ begun.root (g.T.Bench.Bench.contents begun.bench) v b.0 b.2 (codes "rev") _ c.args.base (g.met.T.Turns.tells turns b.0 b.1).shown base c.in-Ok-hold.ensures.name c.in-Ok-hold.ensures.folder,
-    )) (λ past. past) (if_ok c.begin-back.result.1 begun _ c.in-Ok.is (c.begin-back.ensures.alone still v known none))
+    let b = if_ok c.begin-back.result.1 begun _ c.in-Ok.is (c.begin-back.ensures.alone still v known none) in
+    (b.0, b.1, begins_as begun.name _ begun.root (g.T.Bench.Bench.contents begun.bench) v b.0 b.2 (codes "rev") _ c.args.base (g.met.T.Turns.tells turns b.0 b.1).shown base c.in-Ok-hold.ensures.name c.in-Ok-hold.ensures.folder)
 
 -- ---- there was no memory to hold it
 
@@ -67,11 +62,10 @@ pub returns-in-Err-hold-clause-refused : goal.returns-in-Err-hold-clause-refused
 returns-in-Err-hold-clause-refused g c = λ v known none.
     let begun = c.in-Ok.begun in
     let held = g.T.Bench.Bench.contents begun.bench in
-    either_way (λ b.
+    let b = if_ok c.begin-back.result.1 begun _ c.in-Ok.is (c.begin-back.ensures.begun v known none) in
     let there = begun_given begun.name begun.root held v b.0 b.2 in
     let d = c.forget.ensures.moved b.0 b.1 there.0 there.1 in
-    (d.0, d.1, moved_on v b.0 d.0 (begun_moved begun.name begun.root held v b.0 b.2) d.2, tt, tt)) (λ past. (past.0, λ few. absurd (past.1 few)))
-    (if_ok c.begin-back.result.1 begun _ c.in-Ok.is (c.begin-back.ensures.begun v known none))
+    inl (d.0, d.1, moved_on v b.0 d.0 (begun_moved begun.name begun.root held v b.0 b.2) d.2, tt, tt)
 
 -- ---- the labels
 
@@ -93,8 +87,9 @@ returns-in-Err-hold-clause-unlisted g c = λ free.
     let old = g.T.Turns.labels c.args.turns in
     let mid = g.T.Turns.labels c.begin-back.result.0 in
     let came = if_ok c.begin-back.result.1 begun (λ z. Relabels bound (with_label (txn_label (pair_of z.name))) old mid) c.in-Ok.is c.begin-back.ensures.listed in
-    forgets c.args.base begun.name (Rose (g.T.Turns.faults c.begin-back.result.0) (g.T.Turns.faults c.forget.new.turns)) (Rose (g.T.Turns.faults c.args.turns) (g.T.Turns.faults c.forget.new.turns))
+    forgets (IsNew (g.T.Turns.knows c.args.turns)) c.args.base begun.name (Rose (g.T.Turns.faults c.begin-back.result.0) (g.T.Turns.faults c.forget.new.turns)) (Rose (g.T.Turns.faults c.args.turns) (g.T.Turns.faults c.forget.new.turns))
     old mid (g.T.Turns.labels c.forget.new.turns)
+    (λ v known none. let b = if_ok c.begin-back.result.1 begun _ c.in-Ok.is (c.begin-back.ensures.begun v known none) in b.2.above)
     (if_ok c.begin-back.result.1 begun (λ z. z.name.base ≡ c.args.base) c.in-Ok.is c.begin-back.ensures.base) (relabelled bound (with_label (txn_label (pair_of begun.name))) old mid free came)
     (λ rose. omega (arith, rose, c.begin-back.ensures.later)) (c.forget.ensures.unlisted (c.begin-back.ensures.duty ∙ free))
 

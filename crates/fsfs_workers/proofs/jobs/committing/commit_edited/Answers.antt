@@ -21,7 +21,7 @@ pub returns-in-Err-clause-works : goal.returns-in-Err-clause-works
 returns-in-Err-clause-works g c = λ v x k known none e on within few.
     let job = c.args.job.now in
     let left = c.purged.ensures.leaves v known none (subst (λ (n : ℕ). IsIn n v.given) e.stands.numbered e.given) (omega (arith, e.seen)) in
-    (left.0, left.1, fails_behind c.args.micros k (jobs.Commit job) (Stopped job.line Memory) v left.0 left.2 refl refl (ByMemory (jobs.Commit job) job.line), tt)
+    (left.0, left.1, fails_behind c.args.micros k (jobs.Commit job) (Stopped job.line Memory) v left.0 left.2 refl refl (ByMemory (jobs.Commit job) job.line) (λ P. tt), tt)
 
 pub returns-in-Err-clause-benches : goal.returns-in-Err-clause-benches
 returns-in-Err-clause-benches g c = omega (arith, c.purged.ensures.benches)

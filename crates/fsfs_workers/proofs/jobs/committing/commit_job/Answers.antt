@@ -19,11 +19,13 @@ use Rattle.fsfs_workers.proofs.jobs.committing.commit_job.Goals as goal
 
 -- ---- the calls are due
 
-pub begin_txn-turns-requires-clause-due : goal.begin_txn-turns-requires-clause-due
-begin_txn-turns-requires-clause-due g c = λ bound.
-    let w = c.requires.due (sym c.base_of-youngest.ensures.duty ∙ bound) in
-    let l = c.base_of-youngest.ensures.looked w.0 w.1 in
-    (l.0, l.1, looked_outside c.base_of-youngest.result.0 w.0 l.0 w.2 l.2)
+pub begin_txn-turns-requires : goal.begin_txn-turns-requires
+begin_txn-turns-requires g c = record {
+  due = λ bound.
+      let w = c.requires.due (sym c.base_of-youngest.ensures.duty ∙ bound) in
+      let l = c.base_of-youngest.ensures.looked w.0 w.1 in
+      (l.0, l.1, looked_outside c.base_of-youngest.result.0 w.0 l.0 w.2 l.2);
+}
 
 pub edit_and_commit-requires-clause-due : goal.edit_and_commit-requires-clause-due
 edit_and_commit-requires-clause-due g c = λ bound.
@@ -35,8 +37,8 @@ edit_and_commit-requires-clause-due g c = λ bound.
     let told = looked_told young w.0 l.0 l.2 in
     let base = if_ok c.base_of-youngest.result.1 c.in-Ok.base _ c.in-Ok.is c.base_of-youngest.ensures.base in
     let on = if_ok c.begin_txn-turns.result.1 c.in-Ok-begun.txn (λ z. z.base ≡ c.in-Ok.base) c.in-Ok-begun.is c.begin_txn-turns.ensures.base in
-    ⊎_elim (λ d. (l.0, d.0, d.1, omega (arith, told, d.2.least, d.2.all), omega (arith, told, d.2.least), omega (arith, on, base.1), begun_on _ c.in-Ok.base c.in-Ok-begun.txn.base _ l.0 d.0 on d.2)) (λ past. absurd (past.1 refl))
-    (if_ok c.begin_txn-turns.result.1 c.in-Ok-begun.txn _ c.in-Ok-begun.is (c.begin_txn-turns.ensures.begun l.0 l.1 out))
+    let d = if_ok c.begin_txn-turns.result.1 c.in-Ok-begun.txn _ c.in-Ok-begun.is (c.begin_txn-turns.ensures.begun l.0 l.1 out) in
+    (l.0, d.0, d.1, omega (arith, told, d.2.least, d.2.all), omega (arith, told, d.2.least), omega (arith, on, base.1), begun_on _ c.in-Ok.base c.in-Ok-begun.txn.base _ l.0 d.0 on d.2)
 
 -- ---- the base is not there
 
@@ -67,13 +69,11 @@ returns-in-Ok-begun-clause-works g c = λ v known none.
     let told = looked_told young v l.0 l.2 in
     let base = if_ok c.base_of-youngest.result.1 c.in-Ok.base _ c.in-Ok.is c.base_of-youngest.ensures.base in
     let on = if_ok c.begin_txn-turns.result.1 c.in-Ok-begun.txn (λ z. z.base ≡ c.in-Ok.base) c.in-Ok-begun.is c.begin_txn-turns.ensures.base in
-    ⊎_elim (λ d.
+    let d = if_ok c.begin_txn-turns.result.1 c.in-Ok-begun.txn _ c.in-Ok-begun.is (c.begin_txn-turns.ensures.begun l.0 l.1 out) in
     let b = begun_on _ c.in-Ok.base c.in-Ok-begun.txn.base _ l.0 d.0 on d.2 in
     works_whole (g.T.Turns.knows after) whole c.args.micros (jobs.Commit job) answer v
     (behind (g.T.Turns.knows after) rose whole c.args.micros (last_known v) (jobs.Commit job) answer v d.0 (λ r. omega (arith, r, c.begin_txn-turns.ensures.later, c.base_of-youngest.ensures.faults)) (goes_on v l.0 d.0 (by_look young v l.0 none l.2) (by_beginning _ c.in-Ok-begun.txn.base _ l.0 d.0 b))
-    (c.edit_and_commit.ensures.works l.0 d.0 (last_known v) d.1 (omega (arith, told, b.least, b.all)) (omega (arith, told, b.least)) b (on ∙ base.0) (omega (arith, on, base.1)) (looked_last young v l.0 l.2))))
-    (λ past. absurd (past.1 refl))
-    (if_ok c.begin_txn-turns.result.1 c.in-Ok-begun.txn _ c.in-Ok-begun.is (c.begin_txn-turns.ensures.begun l.0 l.1 out))
+    (c.edit_and_commit.ensures.works l.0 d.0 (last_known v) d.1 (omega (arith, told, b.least, b.all)) (omega (arith, told, b.least)) b (on ∙ base.0) (omega (arith, on, base.1)) (looked_last young v l.0 l.2)))
 
 pub returns-in-Ok-begun-clause-cause : goal.returns-in-Ok-begun-clause-cause
 returns-in-Ok-begun-clause-cause g c =
@@ -96,7 +96,7 @@ returns-in-Err-begun-clause-works g c = λ v known none.
     let disk = if_err c.begin_txn-turns.result.1 c.in-Err-begun.why (λ why. IfDisk why part) c.in-Err-begun.is c.begin_txn-turns.ensures.cause in
     let rose : IfDisk c.in-Err-begun.why whole = subst (λ n. IfDisk c.in-Err-begun.why (Rose n (g.T.Turns.faults after))) c.base_of-youngest.ensures.faults disk in
     ⊎_elim (λ d. unbegun_so (g.T.Turns.knows after) whole c.args.micros c.in-Ok.base c.args.job.now c.in-Err-begun.why c.of_begin-fault.result v l.0 d.0 d.1 look (omega (arith, told, base.1)) d.2 (g.met.T.Turns.tells after d.0 d.1).shown d.3 rose c.of_begin-fault.ensures)
-    (λ past. let m = past.1 refl in lacking_so (g.T.Turns.knows after) whole c.args.micros c.args.job.now c.in-Err-begun.why c.of_begin-fault.result v l.0 m.1.0 m.1.1 look m.1.2 m.0 rose c.of_begin-fault.ensures)
+    (λ past. let m = past.2 in lacking_so (g.T.Turns.knows after) whole c.args.micros c.args.job.now c.in-Err-begun.why c.of_begin-fault.result v l.0 m.0 m.1 look m.2 past.1 rose c.of_begin-fault.ensures)
     (if_err c.begin_txn-turns.result.1 c.in-Err-begun.why _ c.in-Err-begun.is (c.begin_txn-turns.ensures.refused l.0 l.1 out))
 
 pub returns-in-Err-begun-clause-cause : goal.returns-in-Err-begun-clause-cause

@@ -1,4 +1,4 @@
-use Rattle.std.proofs.Common.{◌≡◌, false, ⊎_elim, refl}
+use Rattle.std.proofs.Common.{◌≡◌, false, refl}
 use Rattle.std.proofs.lemmas.Bool.{both_ways}
 use Rattle.std.proofs.lemmas.Result.{IfOk-weaker, IfErr-weaker}
 use Rattle.std.specs.Prelude.{option_map}
@@ -15,16 +15,15 @@ use Rattle.fsfs_repo.proofs.owned.repo.Repo.begin.Goals as goal
 
 -- nobody rests on the turns of an owned store
 pub begin_txn-back-requires : goal.begin_txn-back-requires
-begin_txn-back-requires g c = record { few = λ bound. absurd (both_ways false refl bound); due = λ bound. absurd (both_ways false refl bound) }
+begin_txn-back-requires g c = record { due = λ bound. absurd (both_ways false refl bound) }
 
 pub returns-clause-begun : goal.returns-clause-begun
 returns-clause-begun g c = λ v known none.
-    IfOk-weaker c.begin_txn-back.result.1 _ _ (λ txn w. ⊎_elim (λ a. a) (λ past. absurd (past.1 refl)) w)
-    (c.begin_txn-back.ensures.alone (λ a b v same known. known_still (state_of a.layout a.young a.stuck (g.D.Disk.trace a.disk) (g.D.Disk.mount_path a.disk) (g.D.Disk.bench_faults a.disk)) (state_of b.layout b.young b.stuck (g.D.Disk.trace b.disk) (g.D.Disk.mount_path b.disk) (g.D.Disk.bench_faults b.disk)) v same known) v known none)
+    c.begin_txn-back.ensures.alone (λ a b v same known. known_still (state_of a.layout a.young a.stuck (g.D.Disk.trace a.disk) (g.D.Disk.mount_path a.disk) (g.D.Disk.bench_faults a.disk)) (state_of b.layout b.young b.stuck (g.D.Disk.trace b.disk) (g.D.Disk.mount_path b.disk) (g.D.Disk.bench_faults b.disk)) v same known) v known none
 
 pub returns-clause-refused : goal.returns-clause-refused
 returns-clause-refused g c = λ v known none.
-    IfErr-weaker c.begin_txn-back.result.1 _ _ (λ why w. either_way (λ a. a) (λ past. past.1 refl) w) (c.begin_txn-back.ensures.refused v known none)
+    IfErr-weaker c.begin_txn-back.result.1 _ _ (λ why w. either_way (λ a. a) (λ past. (past.1, past.2)) w) (c.begin_txn-back.ensures.refused v known none)
 
 pub returns-clause-listed : goal.returns-clause-listed
 returns-clause-listed g c =

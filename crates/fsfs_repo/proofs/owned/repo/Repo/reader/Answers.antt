@@ -20,3 +20,6 @@ returns-clause-listed g c = ap {A = OwnedState} (λ s. option_map labels_now s.t
 
 pub returns-clause-benches : goal.returns-clause-benches
 returns-clause-benches g c = ap {A = OwnedState} (λ s. s.bench_faults) c.over_turns.ensures.below
+
+pub returns-clause-props : goal.returns-clause-props
+returns-clause-props g c = λ v known. c.over_turns.ensures.props v known

@@ -1,6 +1,0 @@
-use Rattle.std.proofs.Common.{◌≡◌, ◌++◌}
-use Rattle.std.specs.VecDeque.Iter.{deque_iter_rest}
-use Rattle.fsfs_machine.proofs.machine.Numbers.of.Given as goal
-
-abbrev pub invariant-loop-number : goal.invariant-loop-number
-invariant-loop-number l = l.out ++ deque_iter_rest l.number-iterator ≡ l.numbers.items
