@@ -1,5 +1,5 @@
 //! Reading a revision's property file.
-ghost use Rattle.std.specs.Prelude.{◌≡◌, ◌≤◌, ¬◌, ℕ, List, Result, Ok, Err, length, true, IfOk, MatchResult};
+ghost use Rattle.std.specs.Prelude.{◌≡◌, ◌≤◌, ℕ, List, Result, Ok, Err, length, true, IfOk, MatchResult};
 ghost use Rattle.fsfs_revision.specs.declared.wrong.Refusal.{Refusal};
 ghost use Rattle.fsfs_revision.specs.Damage.Causes.{HasCause, IsQuiet};
 ghost use Rattle.fsfs_revision.specs.Damage.Readings.{Answers, IfWrong};
