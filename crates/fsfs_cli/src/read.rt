@@ -175,6 +175,15 @@ fn read_rmtxns<'a>(alloc: Global, words: &'a [String]) -> Result<Request<'a>, Wo
     Ok(Request { repos, task })
 }
 
+fn read_dump<'a>(alloc: Global, words: &'a [String]) -> Result<Request<'a>, WordsFault>
+    ensures { Reads (asked_by Verb.Dump (map string_bytes words.entry.now)) result }
+{
+    let matches = matches_of(look_command(alloc, "dump")?, words)?;
+    let repos = required(&matches, "REPOS");
+    let task = Task::Look(Look::Dump);
+    Ok(Request { repos, task })
+}
+
 fn read_youngest<'a>(alloc: Global, words: &'a [String]) -> Result<Request<'a>, WordsFault>
     ensures { Reads (asked_by Verb.Youngest (map string_bytes words.entry.now)) result }
 {
@@ -263,6 +272,7 @@ fn read_command<'a>(
         Some(Verb::Create) => read_create(alloc, words),
         Some(Verb::ListTxns) => read_lstxns(alloc, words),
         Some(Verb::RemoveTxns) => read_rmtxns(alloc, words),
+        Some(Verb::Dump) => read_dump(alloc, words),
         Some(Verb::Youngest) => read_youngest(alloc, words),
         Some(Verb::Uuid) => read_uuid(alloc, words),
         Some(Verb::Tree) => read_tree(alloc, words),

@@ -27,7 +27,7 @@ pub enum Task {
     RemoveTxns {
         names: TxnNames,
     },
-    /// A command of `svnlook`, which reads and prints.
+    /// A command of `svnlook`, or `svnadmin dump`: it reads and prints.
     Look(Look),
     /// `svnjobs`: the jobs of the script in the input are done.
     RunJobs(JobRun),
@@ -47,6 +47,8 @@ pub enum Look {
     Youngest,
     /// `uuid`: the identifier.
     Uuid,
+    /// `svnadmin dump`: all revisions, as Subversion's `svnadmin load` takes them.
+    Dump,
     /// One of the commands that look at a revision.
     AtRevision(RevisionLook),
 }

@@ -13,6 +13,8 @@ pub enum Verb {
     ListTxns,
     /// `svnadmin rmtxns`.
     RemoveTxns,
+    /// `svnadmin dump`.
+    Dump,
     /// `svnlook youngest`.
     Youngest,
     /// `svnlook uuid`.
@@ -55,6 +57,8 @@ fn admin_verb(word: &str) -> Option<Verb>
         Some(Verb::ListTxns)
     } else if word == "rmtxns" {
         Some(Verb::RemoveTxns)
+    } else if word == "dump" {
+        Some(Verb::Dump)
     } else {
         None
     }

@@ -1,0 +1,6 @@
+pub mod WalkLemmas
+pub mod Stops
+pub mod MayLemmas
+pub mod OneText
+pub mod StandingIds
+pub mod ByHistory

@@ -27,7 +27,7 @@ use Rattle.fsfs_stands.specs.Texts.{End}
 use Rattle.fsfs_cli.specs.Readings.{Asks}
 use Rattle.fsfs_cli.specs.Requests.{printed_path}
 use Rattle.fsfs_cli.specs.declared.request.Look.{Look as SomeLook}
-use Rattle.fsfs_cli.specs.declared.request.Look.TheVariants.{Youngest, Uuid, AtRevision}
+use Rattle.fsfs_cli.specs.declared.request.Look.TheVariants.{Youngest, Uuid, Dump, AtRevision}
 use Rattle.fsfs_cli.specs.declared.request.Printed.{Printed}
 use Rattle.fsfs_cli.specs.declared.request.Printed.TheVariants.{Tree, Text, Author, Date, Log, Info, Changed, History}
 use Rattle.fsfs_cli.specs.declared.request.RevisionLook.{RevisionLook}
@@ -35,7 +35,7 @@ use Rattle.fsfs_cli.specs.declared.request.Task.{Task}
 use Rattle.fsfs_cli.specs.declared.request.Task.TheVariants.{Create, ListTxns, RemoveTxns, Look, RunJobs}
 use Rattle.fsfs_cli.specs.declared.tool.Tool.{Tool}
 use Rattle.fsfs_cli.specs.declared.tool.Tool.TheVariants as tools
-use Rattle.fsfs_cli.proofs.TaskLemmas.{asks_task}
+use Rattle.fsfs_cli.proofs.TaskLemmas.{tool_of_look, asks_task}
 use Rattle.fsfs_top.specs.Command.{Did, Tells, answer_of}
 use Rattle.fsfs_top.specs.Looks.{all_bytes, TextOf}
 use Rattle.fsfs_top.specs.Replies.{Gives, HasNone, HasTxns, ShowsIds, AreIds, IsOfSmallFiles, look_command, answer_to, Replies}
@@ -43,7 +43,7 @@ use Rattle.fsfs_top.specs.TxnAnswers.{refuses_admin}
 use Rattle.fsfs_top.specs.Scenes.{Scene, SinkScene}
 use Rattle.fsfs_top.proofs.TaskDone.{task_done}
 use Rattle.fsfs_top.proofs.FlatTexts.{tree_is_by_tree, file_is_by_tree, author_is_by_props, date_is_by_props, log_is_by_props, info_is_by_props, changed_is_by_changes, history_is_by_trees, no_rev_line}
-use Rattle.fsfs_top.proofs.LookReplies.{last_is, Fits, given_none, given_no_listing, given_no_removal, given_listing, given_removal, given_youngest, given_uuid, given_look, given_create, given_again}
+use Rattle.fsfs_top.proofs.LookReplies.{last_is, Fits, given_none, given_no_listing, given_no_removal, given_listing, given_removal, given_youngest, given_uuid, given_dump, given_look, given_create, given_again}
 
 -- ---- a look at a revision, by what is printed
 
@@ -89,9 +89,10 @@ fits_at Info files h s rev r shown there are text end x = info_is_by_props files
 fits_at Changed files h s rev r shown there are text end x = changed_is_by_changes files h s rev r [] there text end x
 fits_at (History path) files h s rev r shown there are text end x = history_is_by_trees files h s rev r path there text end x
 
-none_of : (look : SomeLook) (shown : Path → List ℕ) → refuses_look not_repo 1 ≡ answer_to (Look look) shown None
+none_of : (look : SomeLook) (shown : Path → List ℕ) → refuses (line_of (tool_of_look look) (Request NotRepo)) 1 ≡ answer_to (Look look) shown None
 none_of Youngest shown = refl
 none_of Uuid shown = refl
+none_of Dump shown = refl
 none_of (AtRevision look) shown = none_at look.revision look.printed shown
 
 module _ (tool : Tool) (ws : List (List ℕ)) (clock : Option ℕ) (dice : Option (List ℕ)) (a b : Scene) (err_old err_new : SinkScene) (status : ℕ) (fault : Option Fault)
@@ -113,7 +114,7 @@ module _ (tool : Tool) (ws : List (List ℕ)) (clock : Option ℕ) (dice : Optio
       let looked = task_done clock dice a b fault tool ws repos (Look look) did asks in
       let by_look = asks_task tool ws repos (Look look) asks in
       subst Given (none_of look shown)
-      (given_none status tool a b err_old err_new repos t here fault ends look (refuses_look not_repo 1) (ap (λ (k : Tool). refuses (line_of k (Request NotRepo)) 1) (sym by_look)) absent looked.0)
+      (given_none status tool a b err_old err_new repos t here fault ends look (refuses (line_of (tool_of_look look) (Request NotRepo)) 1) (ap (λ (k : Tool). refuses (line_of k (Request NotRepo)) 1) (sym by_look)) absent looked.0)
   none repos (RunJobs run) t shown asks here absent = absurd absent
 
   at_revision : (repos : List ℕ) (look : RevisionLook) (t : Trace) (h : List Revision) (shown : Path → List ℕ) → Asks tool ws repos (Look (AtRevision look)) → a.host.disk_at repos ≡ Some t → (s : StandsFor (files_now t) h)
@@ -140,6 +141,7 @@ module _ (tool : Tool) (ws : List (List ℕ)) (clock : Option ℕ) (dice : Optio
   opened repos (Look Youngest) t o h shown names txns asks here small is last has =
       given_youngest status tool a b err_old err_new repos t here fault ends o h is last (task_done clock dice a b fault tool ws repos (Look Youngest) did asks).0
   opened repos (Look Uuid) t o h shown names txns asks here small is last has = given_uuid status tool a b err_old err_new repos t here fault ends o is (task_done clock dice a b fault tool ws repos (Look Uuid) did asks).0
+  opened repos (Look Dump) t o h shown names txns asks here small is last has = absurd small
   opened repos (Look (AtRevision look)) t o h shown names txns asks here small is last has = absurd small
   opened repos (RunJobs run) t o h shown names txns asks here small is last has = absurd small
 
@@ -154,6 +156,8 @@ module _ (tool : Tool) (ws : List (List ℕ)) (clock : Option ℕ) (dice : Optio
   stands repos (RemoveTxns given) t h shown names txns asks here s are has = opened repos (RemoveTxns given) t s.opened h shown names txns asks here tt s.small (last_is (files_now t) h s) has
   stands repos (Look Youngest) t h shown names txns asks here s are has = opened repos (Look Youngest) t s.opened h shown names txns asks here tt s.small (last_is (files_now t) h s) tt
   stands repos (Look Uuid) t h shown names txns asks here s are has = opened repos (Look Uuid) t s.opened h shown names txns asks here tt s.small (last_is (files_now t) h s) tt
+  stands repos (Look Dump) t h shown names txns asks here s are has =
+      given_dump status tool a b err_old err_new repos t here fault ends h s (asks_task tool ws repos (Look Dump) asks) (task_done clock dice a b fault tool ws repos (Look Dump) did asks).0
   stands repos (Look (AtRevision look)) t h shown names txns asks here s are has = subst Given (answer_at look.revision look.printed shown h) (at_revision repos look t h shown asks here s are)
   stands repos (RunJobs run) t h shown names txns asks here s are has = absurd are
 

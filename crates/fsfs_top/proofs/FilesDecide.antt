@@ -1,5 +1,5 @@
 -- What the files decide of a look, as the top call tells it.
-use Rattle.std.proofs.Common.{◌≡◌, ◌≤◌, ℕ, List, ◌⊎◌, ⊎_elim, inl, inr, refl, sym, ap, subst, ◌∙◌, arith}
+use Rattle.std.proofs.Common.{◌≡◌, ◌≤◌, ℕ, List, [], ◌⊎◌, ⊎_elim, inl, inr, refl, sym, ap, subst, ◌∙◌, arith}
 use Rattle.std.specs.Prelude.{Option, Some, None, IfSome, option_map, unwrap_or, Result, Ok, Err}
 use Rattle.std.proofs.lemmas.Option.{same_Some}
 use Rattle.fsfs_base.specs.Failures.{Rose}
@@ -14,7 +14,7 @@ use Rattle.fsfs_layout.specs.declared.layout.Layout.{Layout}
 use Rattle.fsfs_layout.specs.Folders.{AreShards}
 use Rattle.fsfs_layout.specs.declared.small_files.format_file.FormatFile.TheVariants.{Known, Other}
 use Rattle.fsfs_layout.proofs.Files.{one_format}
-use Rattle.fsfs_layout.proofs.OpeningLemmas.{one_youngest, one_layout, says_one}
+use Rattle.fsfs_layout.proofs.OpeningLemmas.{one_youngest, one_layout, same_uuid, says_one}
 use Rattle.fsfs_look.specs.declared.look_error.LookError.TheVariants as errors
 use Rattle.fsfs_look.specs.declared.look_error.LookError.{LookError}
 use Rattle.fsfs_look.specs.Written.{Writes}
@@ -29,14 +29,14 @@ use Rattle.fsfs_base.specs.declared.places.open_fault.OpenFault.TheVariants as o
 use Rattle.fsfs_stands.specs.Texts.{End, Whole, Refused}
 use Rattle.fsfs_stands.specs.declared.look_fault.LookFault.{LookFault}
 use Rattle.fsfs_stands.specs.declared.look_fault.LookFault.TheVariants as refusal
-use Rattle.fsfs_top.specs.Looks.{AllBytes, all_bytes, TextOf, TextIn, revision_line, uuid_line, looked_revision, LacksRevision, IsFaultOf, PrintsLine, LooksInto, IsOutside, Agrees, DecidesRevision, DecidesOpened, DecidesOpening, LookIsDecided}
+use Rattle.fsfs_top.specs.Looks.{AllBytes, all_bytes, TextOf, TextIn, revision_line, uuid_line, looked_revision, LacksRevision, IsFaultOf, DumpIn, PrintsLine, LooksInto, IsOutside, Agrees, DecidesRevision, DecidesDump, DecidesOpened, DecidesOpening, LookIsDecided}
 use Rattle.fsfs_workers.specs.Openings.{OpensAs, DoesNotOpen}
 use Rattle.fsfs_workers.proofs.Unopened.{formatted, refused_behind}
 use Rattle.fsfs_top.specs.Transactions.{OpeningIsDecided}
 use Rattle.fsfs_top.specs.Scenes.{SinkScene}
 use Rattle.fsfs_cli.specs.Requests.{printed_path}
 use Rattle.fsfs_cli.specs.declared.request.Look.{Look}
-use Rattle.fsfs_cli.specs.declared.request.Look.TheVariants.{Youngest, Uuid, AtRevision}
+use Rattle.fsfs_cli.specs.declared.request.Look.TheVariants.{Youngest, Uuid, Dump, AtRevision}
 use Rattle.fsfs_cli.specs.declared.request.Printed.{Printed}
 use Rattle.fsfs_cli.specs.declared.request.Printed.TheVariants.{Tree, Text, Author, Date, Log, Info, Changed, History}
 use Rattle.fsfs_cli.specs.declared.request.RevisionLook.{RevisionLook}
@@ -46,6 +46,10 @@ use Rattle.fsfs_look.proofs.OneText.{authors_one, dates_one, logs_one, infos_one
 use Rattle.fsfs_stands.proofs.ChangedOneText.{changed_one}
 use Rattle.fsfs_stands.proofs.OnePoint.{histories_one}
 use Rattle.fsfs_stands.proofs.Prefixes.{whole_or_refused, refusals_same}
+use Rattle.fsfs_revision.specs.RevBytes.{rev_bytes, props_bytes}
+use Rattle.fsfs_revision.specs.RevProps.{only}
+use Rattle.fsfs_dump.specs.Texts.{DumpText}
+use Rattle.fsfs_dump.proofs.OneText.{dumps_one}
 
 -- ---- failures of the outside
 
@@ -66,6 +70,7 @@ open_agrees why want (inr h) = inr (outside_of_open why h)
 opened_outside : (look : Look) (o : Opened) (m : Files) (fault : Fault) → IsOutside fault → DecidesOpened look o m (Some fault)
 opened_outside Youngest o m fault out = inr out
 opened_outside Uuid o m fault out = inr out
+opened_outside Dump o m fault out = record { whole = λ text is. inr out; refused = λ text why is. inr out }
 opened_outside (AtRevision look) o m fault out = record { lacking = λ rev lacks. inr out; whole = λ text there is. inr out; refused = λ text why there is. inr out }
 
 pub look_outside : (look : Look) (at : Option Trace) (fault : Fault) → IsOutside fault → LookIsDecided look at (Some fault)
@@ -187,28 +192,26 @@ look_or_memory path (refusal.Wrong wrong) fault h = inl h
 outside_agrees : (decided fault : Option Fault) (told : Fault) → fault ≡ Some told → IsOutside told → Agrees decided fault
 outside_agrees decided fault told is out = subst (Agrees decided) (sym is) (inr out)
 
-whole_agrees : (disk write : Type 0) (look : RevisionLook) (o : Opened) (m : Files) (old new : Option (List ℕ)) (r : Result (Unit {0}) LookError) (fault : Option Fault) → Writes (TextIn look o m) old new r → IsFaultOf disk write (printed_path look.printed) r fault
-    → (text : List ℕ) → TextIn look o m text Whole → Agrees None fault
-whole_agrees disk write look o m old new (Ok done) fault w is text t = subst (Agrees None) (sym is) refl
-whole_agrees disk write look o m old new (Err (errors.Fault why)) fault w is text t =
-    absurd (whole_or_refused (TextIn look o m) (in_one look o m) text w.0 why t w.1)
-whole_agrees disk write look o m old new (Err errors.DiskFault) fault w (told, is, at, d, e) text t = outside_agrees None fault told is (subst IsOutside (sym at) tt)
-whole_agrees disk write look o m old new (Err errors.WriteFault) fault w (told, is, at, d, e) text t = outside_agrees None fault told is (subst IsOutside (sym at) tt)
-whole_agrees disk write look o m old new (Err errors.OutOfMemory) fault w (told, is, at, d, e) text t = outside_agrees None fault told is (subst IsOutside (sym at) tt)
+-- of a text that has one end at most
+module _ (disk write : Type 0) (R : List ℕ → End → Type 0) (one : HasOneText R) (path : Path) (old new : Option (List ℕ)) where
+  whole_agrees : (r : Result (Unit {0}) LookError) (fault : Option Fault) → Writes R old new r → IsFaultOf disk write path r fault → (text : List ℕ) → R text Whole → Agrees None fault
+  whole_agrees (Ok done) fault w is text t = subst (Agrees None) (sym is) refl
+  whole_agrees (Err (errors.Fault why)) fault w is text t = absurd (whole_or_refused R one text w.0 why t w.1)
+  whole_agrees (Err errors.DiskFault) fault w (told, is, at, d, e) text t = outside_agrees None fault told is (subst IsOutside (sym at) tt)
+  whole_agrees (Err errors.WriteFault) fault w (told, is, at, d, e) text t = outside_agrees None fault told is (subst IsOutside (sym at) tt)
+  whole_agrees (Err errors.OutOfMemory) fault w (told, is, at, d, e) text t = outside_agrees None fault told is (subst IsOutside (sym at) tt)
 
-refused_agrees : (disk write : Type 0) (look : RevisionLook) (o : Opened) (m : Files) (old new : Option (List ℕ)) (r : Result (Unit {0}) LookError) (fault : Option Fault) → Writes (TextIn look o m) old new r → IsFaultOf disk write (printed_path look.printed) r fault
-    → (text : List ℕ) (why : LookFault) → TextIn look o m text (Refused why) → Agrees (Some (fault_from_look (printed_path look.printed) why)) fault
-refused_agrees disk write look o m old new (Ok done) fault w is text why t =
-    absurd (whole_or_refused (TextIn look o m) (in_one look o m) w.0 text why w.1 t)
-refused_agrees disk write look o m old new (Err (errors.Fault other)) fault w (told, is, from, d, e) text why t =
-    let same = (refusals_same (TextIn look o m) (in_one look o m) text w.0 why other t w.1).1 in
-    let Want : Option Fault → Type 0 = Agrees (Some (fault_from_look (printed_path look.printed) why)) in
-    subst Want (sym is)
-    (⊎_elim (λ k. subst Want (ap (λ (f : Fault). Some f) (sym k)) (inl (ap (λ (f : LookFault). Some (fault_from_look (printed_path look.printed) f)) same)))
-    (λ k. subst Want (ap (λ (f : Fault). Some f) (sym k)) (inr tt)) (look_or_memory (printed_path look.printed) other told from))
-refused_agrees disk write look o m old new (Err errors.DiskFault) fault w (told, is, at, d, e) text why t = outside_agrees (Some (fault_from_look (printed_path look.printed) why)) fault told is (subst IsOutside (sym at) tt)
-refused_agrees disk write look o m old new (Err errors.WriteFault) fault w (told, is, at, d, e) text why t = outside_agrees (Some (fault_from_look (printed_path look.printed) why)) fault told is (subst IsOutside (sym at) tt)
-refused_agrees disk write look o m old new (Err errors.OutOfMemory) fault w (told, is, at, d, e) text why t = outside_agrees (Some (fault_from_look (printed_path look.printed) why)) fault told is (subst IsOutside (sym at) tt)
+  refused_agrees : (r : Result (Unit {0}) LookError) (fault : Option Fault) → Writes R old new r → IsFaultOf disk write path r fault → (text : List ℕ) (why : LookFault) → R text (Refused why) → Agrees (Some (fault_from_look path why)) fault
+  refused_agrees (Ok done) fault w is text why t = absurd (whole_or_refused R one w.0 text why w.1 t)
+  refused_agrees (Err (errors.Fault other)) fault w (told, is, from, d, e) text why t =
+      let same = (refusals_same R one text w.0 why other t w.1).1 in
+      let Want : Option Fault → Type 0 = Agrees (Some (fault_from_look path why)) in
+      subst Want (sym is)
+      (⊎_elim (λ k. subst Want (ap (λ (f : Fault). Some f) (sym k)) (inl (ap (λ (f : LookFault). Some (fault_from_look path f)) same)))
+      (λ k. subst Want (ap (λ (f : Fault). Some f) (sym k)) (inr tt)) (look_or_memory path other told from))
+  refused_agrees (Err errors.DiskFault) fault w (told, is, at, d, e) text why t = outside_agrees (Some (fault_from_look path why)) fault told is (subst IsOutside (sym at) tt)
+  refused_agrees (Err errors.WriteFault) fault w (told, is, at, d, e) text why t = outside_agrees (Some (fault_from_look path why)) fault told is (subst IsOutside (sym at) tt)
+  refused_agrees (Err errors.OutOfMemory) fault w (told, is, at, d, e) text why t = outside_agrees (Some (fault_from_look path why)) fault told is (subst IsOutside (sym at) tt)
 
 revision_done : (disk : Type 0) (look : RevisionLook) (m : Files) (o p : Opened) (old new : SinkScene) (fault : Option Fault) → IsOpened (small_texts m) o → IsOpened (small_texts m) p → LooksInto disk (AtRevision look) o (Some m) old new fault
     → DecidesRevision look p m fault
@@ -221,8 +224,27 @@ revision_done disk look m o p old new fault opened w (inl (rev, lacks, is, kept)
 })
 revision_done disk look m o p old new fault opened w (inr looked) = record {
   lacking = λ rev lacks. absurd (lacks_or_has look p o rev lacks (one_youngest (small_texts m) p o w opened) looked.there);
-  whole = λ text there t. whole_agrees disk (Rose old.faults new.faults) look o m old.written new.written looked.result fault looked.writes looked.fault_is text (same_text look o p m text Whole (one_layout (small_texts m) o p opened w) (one_youngest (small_texts m) o p opened w) t);
-  refused = λ text why there t. refused_agrees disk (Rose old.faults new.faults) look o m old.written new.written looked.result fault looked.writes looked.fault_is text why (same_text look o p m text (Refused why) (one_layout (small_texts m) o p opened w) (one_youngest (small_texts m) o p opened w) t);
+  whole = λ text there t. whole_agrees disk (Rose old.faults new.faults) (TextIn look o m) (in_one look o m) (printed_path look.printed) old.written new.written looked.result fault looked.writes looked.fault_is text (same_text look o p m text Whole (one_layout (small_texts m) o p opened w) (one_youngest (small_texts m) o p opened w) t);
+  refused = λ text why there t. refused_agrees disk (Rose old.faults new.faults) (TextIn look o m) (in_one look o m) (printed_path look.printed) old.written new.written looked.result fault looked.writes looked.fault_is text why (same_text look o p m text (Refused why) (one_layout (small_texts m) o p opened w) (one_youngest (small_texts m) o p opened w) t);
+}
+
+-- ---- a repository that was dumped
+
+pub dump_one : (o : Opened) (m : Files) → HasOneText (DumpIn o m)
+dump_one o m = dumps_one (rev_bytes o.layout m) (props_bytes o.layout m) o.uuid o.youngest
+
+-- the text is by what every opening says
+pub same_dump : (o p : Opened) (m : Files) (text : List ℕ) (end : End) → IsOpened (small_texts m) o → IsOpened (small_texts m) p → DumpIn p m text end → DumpIn o m text end
+same_dump o p m text end opened also is =
+    let s = small_texts m in
+    subst (λ (l : Layout). DumpText (rev_bytes l m) (only (props_bytes l m)) o.uuid o.youngest text end) (sym (one_layout s o p opened also))
+    (subst (λ (u : List ℕ). DumpText (rev_bytes p.layout m) (only (props_bytes p.layout m)) u o.youngest text end) (sym (same_uuid s.uuid o.uuid p.uuid opened.behind.uuid also.behind.uuid))
+    (subst (λ (y : ℕ). DumpText (rev_bytes p.layout m) (only (props_bytes p.layout m)) p.uuid y text end) (sym (one_youngest s o p opened also)) is))
+
+dump_done : (disk : Type 0) (m : Files) (o p : Opened) (old new : SinkScene) (fault : Option Fault) → IsOpened (small_texts m) o → IsOpened (small_texts m) p → LooksInto disk Dump o (Some m) old new fault → DecidesDump p m fault
+dump_done disk m o p old new fault opened w dumped = record {
+  whole = λ text t. whole_agrees disk (Rose old.faults new.faults) (DumpIn o m) (dump_one o m) [] old.written new.written dumped.result fault dumped.writes dumped.fault_is text (same_dump o p m text Whole opened w t);
+  refused = λ text why t. refused_agrees disk (Rose old.faults new.faults) (DumpIn o m) (dump_one o m) [] old.written new.written dumped.result fault dumped.writes dumped.fault_is text why (same_dump o p m text (Refused why) opened w t);
 }
 
 -- ---- a look at an opened repository
@@ -234,6 +256,7 @@ line_agrees line old new fault (inr (is, rose, part)) = subst (Agrees None) (sym
 opened_done : (disk : Type 0) (look : Look) (m : Files) (o p : Opened) (old new : SinkScene) (fault : Option Fault) → IsOpened (small_texts m) o → IsOpened (small_texts m) p → LooksInto disk look o (Some m) old new fault → DecidesOpened look p m fault
 opened_done disk Youngest m o p old new fault opened w into = line_agrees (revision_line o.youngest) old new fault into
 opened_done disk Uuid m o p old new fault opened w into = line_agrees (uuid_line o.uuid) old new fault into
+opened_done disk Dump m o p old new fault opened w into = dump_done disk m o p old new fault opened w into
 opened_done disk (AtRevision look) m o p old new fault opened w into = revision_done disk look m o p old new fault opened w into
 
 pub look_decided : (disk : Type 0) (look : Look) (told at : Option Trace) (o : Opened) (old new : SinkScene) (fault : Option Fault) → told ≡ at → IfSome told (λ t. IsOpened (small_texts (files_now t)) o)

@@ -41,10 +41,10 @@ use Rattle.fsfs_stands.specs.Agreeing.{IsFront}
 use Rattle.fsfs_stands.specs.Texts.{End, Whole, Refused, Stopped}
 use Rattle.fsfs_cli.specs.Requests.{printed_path}
 use Rattle.fsfs_cli.specs.declared.request.Look.{Look}
-use Rattle.fsfs_cli.specs.declared.request.Look.TheVariants.{Youngest, Uuid, AtRevision}
+use Rattle.fsfs_cli.specs.declared.request.Look.TheVariants.{Youngest, Uuid, Dump, AtRevision}
 use Rattle.fsfs_cli.specs.declared.request.RevisionLook.{RevisionLook}
 use Rattle.fsfs_top.specs.Command.{Created, Tells, answer_of, identifier_of}
-use Rattle.fsfs_top.specs.Looks.{all_bytes, TextOf, TextIn, revision_line, uuid_line, looked_revision, LacksRevision, IsFaultOf, Looked, LooksInto, NotOpened, PrintsLine, PrintsLook}
+use Rattle.fsfs_top.specs.Looks.{all_bytes, TextOf, TextIn, revision_line, uuid_line, looked_revision, LacksRevision, IsFaultOf, DumpIn, IsDumped, Looked, LooksInto, NotOpened, PrintsLine, PrintsLook}
 use Rattle.fsfs_workers.specs.Openings.{OpensAs, DoesNotOpen}
 use Rattle.fsfs_top.specs.Replies.{Gives, OutsideFailed}
 use Rattle.fsfs_top.specs.TxnAnswers.{first_missing, removal_reply, ListingAnswer, RemovalAnswer, names_text}
@@ -52,7 +52,15 @@ use Rattle.fsfs_top.specs.Transactions.{txns_of, ListsTxns, RemovesTxns}
 use Rattle.fsfs_top.specs.Scenes.{Scene, SinkScene}
 use Rattle.fsfs_top.proofs.TxnsTold.{first_same}
 use Rattle.fsfs_layout.proofs.OpeningLemmas.{one_youngest, one_layout, same_uuid}
-use Rattle.fsfs_top.proofs.FilesDecide.{same_text, look_or_memory}
+use Rattle.fsfs_top.specs.DumpAnswers.{stops, dump_reply, DumpAnswer}
+use Rattle.fsfs_top.proofs.FilesDecide.{same_text, same_dump, look_or_memory}
+use Rattle.fsfs_revision.specs.Damage.Damages.{place_of}
+use Rattle.fsfs_revision.specs.declared.wrong.Wrong.TheVariants as wrongs
+use Rattle.fsfs_stands.specs.declared.look_fault.LookFault.{LookFault}
+use Rattle.fsfs_stands.specs.declared.look_fault.LookFault.TheVariants as faults
+use Rattle.fsfs_dump.specs.Flat.{CutText, history_dump}
+use Rattle.fsfs_dump.specs.Laws.{IsCut}
+use Rattle.fsfs_dump.proofs.ByHistory.{dumps_by}
 use Rattle.fsfs_cli.specs.declared.tool.Tool.{Tool}
 use Rattle.fsfs_cli.specs.declared.tool.Tool.TheVariants as tools
 
@@ -96,10 +104,37 @@ no_some (Some bytes) e h = cc
 
 -- ---- a text and its end are those of a reply
 
+-- all before what is refused was printed
+abbrev pub EndsFit : Tool → Path → Reply → List ℕ → End → Type 0
+EndsFit tool path reply text Whole = reply ≡ prints text
+EndsFit tool path reply text (Refused why) = reply ≡ stops text (line_of tool (fault_from_look path why)) (status_of (fault_from_look path why))
+EndsFit tool path reply text Stopped = IsFront text reply.output
+
+-- of a look that prints nothing where it is refused
 abbrev pub Fits : Tool → Path → Reply → List ℕ → End → Type 0
 Fits tool path reply text Whole = reply ≡ prints text
 Fits tool path reply text (Refused why) = (text ≡ []) × (reply ≡ refuses (line_of tool (fault_from_look path why)) (status_of (fault_from_look path why)))
 Fits tool path reply text Stopped = IsFront text reply.output
+
+ends_fit : (tool : Tool) (path : Path) (reply : Reply) (text : List ℕ) (end : End) → Fits tool path reply text end → EndsFit tool path reply text end
+ends_fit tool path reply text Whole fit = fit
+ends_fit tool path reply text (Refused why) fit =
+    subst (λ (t : List ℕ). reply ≡ stops t (line_of tool (fault_from_look path why)) (status_of (fault_from_look path why))) (sym fit.0) fit.1
+ends_fit tool path reply text Stopped fit = fit
+
+-- a dump up to a text that is not read
+delta_fits : (text front : List ℕ) (at : ℕ × ℕ) (why : LookFault) → text ≡ front → why ≡ faults.Wrong (wrongs.Delta (place_of at.0 at.1)) → EndsFit tools.Admin [] (dump_reply (front, Some at)) text (Refused why)
+delta_fits text front at why same is =
+    subst (λ (t : List ℕ). EndsFit tools.Admin [] (dump_reply (front, Some at)) t (Refused why)) (sym same)
+    (subst (λ (w : LookFault). EndsFit tools.Admin [] (dump_reply (front, Some at)) front (Refused w)) (sym is) refl)
+
+dump_fits : (cut : CutText) (text : List ℕ) (end : End) → IsCut cut text end → EndsFit tools.Admin [] (dump_reply cut) text end
+dump_fits (whole, None) text Whole is = ap prints (sym is)
+dump_fits (whole, None) text (Refused why) is = absurd is
+dump_fits (whole, None) text Stopped is = is
+dump_fits (front, Some at) text Whole is = absurd is
+dump_fits (front, Some at) text (Refused why) is = delta_fits text front at why is.0 is.1
+dump_fits (front, Some at) text Stopped is = is
 
 -- ---- where the outside failed
 
@@ -128,6 +163,9 @@ module _ (status : ℕ) (tool : Tool) (a b : Scene) (err_old err_new : SinkScene
 
   refused_line : (reply : Reply) (fault : Fault) → reply ≡ refuses (line_of tool fault) (status_of fault) → Ended (Some fault) → Adds a.out.written b.out.written [] → Given reply
   refused_line reply fault is ends adds = subst Given (sym is) (inl (ends.0, adds, ends.1))
+
+  stopped_line : (reply : Reply) (text : List ℕ) (fault : Fault) → reply ≡ stops text (line_of tool fault) (status_of fault) → Ended (Some fault) → Adds a.out.written b.out.written text → Given reply
+  stopped_line reply text fault is ends adds = subst Given (sym is) (inl (ends.0, adds, ends.1))
 
   printed_text : (reply : Reply) (text : List ℕ) → reply ≡ prints text → Ended None → Adds a.out.written b.out.written text → Given reply
   printed_text reply text is ends adds = subst Given (sym is) (inl (ends.0, adds, inl (adds_nothing err_old.written err_new.written (ap (λ (s : SinkScene). s.written) ends.1))))
@@ -247,20 +285,20 @@ module _ (status : ℕ) (tool : Tool) (a b : Scene) (err_old err_new : SinkScene
 
     -- at a revision
 
-    front_of : (path : Path) (reply : Reply) (text : List ℕ) (end : End) → Fits tool path reply text end → IsFront text reply.output
+    front_of : (path : Path) (reply : Reply) (text : List ℕ) (end : End) → EndsFit tool path reply text end → IsFront text reply.output
     front_of path reply text Whole fit = same_front text reply.output (ap (λ (r : Reply). r.output) (sym fit))
-    front_of path reply text (Refused why) fit = (reply.output, ap (λ (t : List ℕ). t ++ reply.output) (sym fit.0))
+    front_of path reply text (Refused why) fit = same_front text reply.output (ap (λ (r : Reply). r.output) (sym fit))
     front_of path reply text Stopped fit = fit
 
     -- a look that ended so
-    ended_look : (R : List ℕ → End → Type 0) (path : Path) (reply : Reply) (r : Result (Unit {0}) LookError) → ((text : List ℕ) (end : End) → R text end → Fits tool path reply text end)
+    ended_look : (R : List ℕ → End → Type 0) (path : Path) (reply : Reply) (r : Result (Unit {0}) LookError) → ((text : List ℕ) (end : End) → R text end → EndsFit tool path reply text end)
         → Writes R a.out.written b.out.written r → IsFaultOf (Rose a.host.disk_faults b.host.disk_faults) (Rose a.out.faults b.out.faults) path r fault → Given reply
     ended_look R path reply (Ok done) fits (text, t, adds) is = printed_text reply text (fits text Whole t) (moved fault None is ends) adds
     ended_look R path reply (Err (errors.Fault why)) fits (text, t, adds) (said, is, from, d, w) =
         let fit = fits text (Refused why) t in
         let Here : Fault → Type 0 = λ f. Ended (Some f) in
         let now : Here said = moved fault (Some said) is ends in
-        ⊎_elim (λ e. refused_line reply (fault_from_look path why) fit.1 (subst Here e now) (subst (λ (x : List ℕ). Adds a.out.written b.out.written x) fit.0 adds))
+        ⊎_elim (λ e. stopped_line reply text (fault_from_look path why) fit (subst Here e now) adds)
         (λ e. inr (front_more a.out.written b.out.written text reply.output (front_of path reply text (Refused why) fit) (whole_front a.out.written b.out.written text adds), inr (subst Here e now).0)) (look_or_memory path why said from)
     ended_look R path reply (Err errors.DiskFault) fits (text, end, t, front) (said, is, at, d, w) =
         inr (front_more a.out.written b.out.written text reply.output (front_of path reply text end (fits text end t)) front, inl ((moved fault (Some (Outside (Disk Read))) (is ∙ ap (λ (f : Fault). Some f) at) ends).0, inr (inl d)))
@@ -268,6 +306,18 @@ module _ (status : ℕ) (tool : Tool) (a b : Scene) (err_old err_new : SinkScene
         inr (front_more a.out.written b.out.written text reply.output (front_of path reply text end (fits text end t)) front, inl ((moved fault (Some (Outside Write)) (is ∙ ap (λ (f : Fault). Some f) at) ends).0, inr (inr w)))
     ended_look R path reply (Err errors.OutOfMemory) fits (text, end, t, front) (said, is, at, d, w) =
         inr (front_more a.out.written b.out.written text reply.output (front_of path reply text end (fits text end t)) front, inr (moved fault (Some Memory) (is ∙ ap (λ (f : Fault). Some f) at) ends).0)
+
+    -- a dump
+    pub given_dump : (h : List Revision) (s : StandsFor (files_now t) h) → tool ≡ tools.Admin → PrintsLook repos Dump a b fault → Given (DumpAnswer (Some (s.opened.uuid, h)))
+    given_dump h s admin (inl not) = not_opened (DumpAnswer (Some (s.opened.uuid, h))) s.opened s.small not
+    given_dump h s admin (inr (o, opens, into)) =
+        let there = subst (λ (x : Option Trace). OpensAs x o) here opens in
+        let cut = history_dump s.opened.uuid h in
+        let dumped = subst (λ (x : Option Trace). LooksInto (Rose a.host.disk_faults b.host.disk_faults) Dump o (option_map files_now x) a.out b.out fault) here into in
+        ended_look (DumpIn o (files_now t)) [] (dump_reply cut) dumped.result
+        (λ text end x. subst (λ (k : Tool). EndsFit k [] (dump_reply cut) text end) (sym admin)
+          (dump_fits cut text end (dumps_by (files_now t) h s s.opened.uuid text end (same_dump s.opened o (files_now t) text end s.small there x))))
+        dumped.writes dumped.fault_is
 
     -- of a history, whose reply is by the revision
     module _ (look : RevisionLook) (h : List Revision) (s : StandsFor (files_now t) h) (reply : Revision → Reply) where
@@ -295,9 +345,9 @@ module _ (status : ℕ) (tool : Tool) (a b : Scene) (err_old err_new : SinkScene
           let there = there_is h asked (omega (arith, looked.there, also, is, youngest, s.count)) in
           let same : of_revision look.revision h reply ≡ reply there.0 = ap (in_revision reply asked (last_of h)) there.1 in
           subst Given (sym same) (ended_look (TextIn look o (files_now t)) (printed_path look.printed) (reply there.0) looked.result
-          (λ text end x. fits asked there.0 refl there.1 text end
+          (λ text end x. ends_fit tool (printed_path look.printed) (reply there.0) text end (fits asked there.0 refl there.1 text end
           (subst (λ (n : ℕ). TextOf look.printed (all_bytes s.opened.layout (files_now t)) n text end) is
-          (same_text look p o (files_now t) text end (one_layout (small_texts (files_now t)) p o s.small opens) youngest x)))
+          (same_text look p o (files_now t) text end (one_layout (small_texts (files_now t)) p o s.small opens) youngest x))))
           looked.writes looked.fault_is)
 
       pub given_look : ((rev : ℕ) (r : Revision) → rev ≡ asked_revision look.revision h → slice_get h rev ≡ Some r → (text : List ℕ) (end : End) → TextOf look.printed (all_bytes s.opened.layout (files_now t)) rev text end

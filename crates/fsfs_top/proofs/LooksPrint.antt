@@ -1,17 +1,20 @@
 -- What a look printed and left, as the top call tells it.
-use Rattle.std.proofs.Common.{◌≡◌, ◌≤◌, ℕ, List, inl, inr, refl, ap, subst, arith}
+use Rattle.std.proofs.Common.{◌≡◌, ◌≤◌, ℕ, List, [], inl, inr, refl, ap, subst, arith}
 use Rattle.std.specs.Prelude.{Option, Some, None, IfSome, option_map, Result, Ok, Err}
 use Rattle.fsfs_base.specs.Files.{Files}
 use Rattle.fsfs_base.specs.Paths.{Path}
-use Rattle.fsfs_revision.specs.Told.{Telling}
-use Rattle.fsfs_revision.specs.RevProps.{MayRead, ReadsOnly}
+use Rattle.fsfs_revision.specs.Told.{RevisionBytes, Telling, Knows}
+use Rattle.fsfs_revision.specs.RevProps.{MayRead, ReadsOnly, only}
 use Rattle.fsfs_base.specs.Failures.{Rose}
 use Rattle.fsfs_disk.specs.Trace.{Trace, files_now}
 use Rattle.fsfs_cli.specs.CommandFaults.{fault_from_open}
 use Rattle.fsfs_cli.specs.declared.faults.fault.Fault.{Fault}
 use Rattle.fsfs_fetch.specs.Owned.{TellsAll}
-use Rattle.fsfs_revision.specs.RevBytes.{floor_in, props_bytes}
+use Rattle.fsfs_revision.specs.RevBytes.{floor_in, rev_bytes, props_bytes}
 use Rattle.fsfs_look.specs.Written.{Writes, IfDisk, IfWrite}
+use Rattle.fsfs_look.proofs.NodeTexts.{writes_as}
+use Rattle.fsfs_dump.specs.Texts.{DumpText}
+use Rattle.fsfs_dump.proofs.MayLemmas.{dump_as}
 use Rattle.fsfs_look.specs.declared.look_error.LookError.{LookError}
 use Rattle.fsfs_look.specs.declared.look_error.LookError.TheVariants as errors
 use Rattle.fsfs_layout.specs.Opening.{small_texts, IsOpened}
@@ -22,9 +25,9 @@ use Rattle.fsfs_base.specs.declared.places.open_fault.OpenFault.{OpenFault}
 use Rattle.fsfs_base.specs.declared.places.open_fault.OpenFault.TheVariants as opening
 use Rattle.fsfs_cli.specs.Requests.{printed_path}
 use Rattle.fsfs_cli.specs.declared.request.Look.{Look}
-use Rattle.fsfs_cli.specs.declared.request.Look.TheVariants.{Youngest, Uuid, AtRevision}
+use Rattle.fsfs_cli.specs.declared.request.Look.TheVariants.{Youngest, Uuid, Dump, AtRevision}
 use Rattle.fsfs_cli.specs.declared.request.RevisionLook.{RevisionLook}
-use Rattle.fsfs_top.specs.Looks.{AllBytes, all_bytes, KnowsAll, TextOf, TextIn, looked_revision, IsFaultAt, IsFaultOf, LooksInto, NotOpened, PrintsLook}
+use Rattle.fsfs_top.specs.Looks.{AllBytes, all_bytes, KnowsAll, TextOf, TextIn, looked_revision, IsFaultAt, IsFaultOf, DumpIn, LooksInto, NotOpened, PrintsLook}
 use Rattle.fsfs_workers.specs.Openings.{OpensAs, DoesNotOpen}
 use Rattle.fsfs_top.specs.Scenes.{Scene, SinkScene}
 use Rattle.fsfs_revision.proofs.FloorLemmas.{floor_is}
@@ -44,6 +47,21 @@ into_writes (Some t) look o rev telling may old new r opened tells reads is le w
     let all = tells t refl (floor_is o.layout o.min_unpacked_rev (files_now t) opened.behind.min_unpacked_rev) in
     subst (λ (n : ℕ). Writes (TextOf look.printed (all_bytes o.layout (files_now t)) n) old new r) is
     (writes (all_bytes o.layout (files_now t)) (λ q below. all.revs q (omega (arith, below, le)), λ q below. reads t refl q (omega (arith, below, le))))
+
+-- the same of all revisions
+pub dump_writes : {Below : Type 0} (trace : Option Trace) (o : Opened) (uuid : List ℕ) (telling : Telling Below) (may : MayRead) (old new : Option (List ℕ)) (r : Result (Unit {0}) LookError)
+    → IfSome (option_map files_now trace) (λ m. IsOpened (small_texts m) o)
+    → ((t : Trace) → trace ≡ Some t → floor_in o.layout (files_now t) ≡ Ok o.min_unpacked_rev → TellsAll o.youngest o.layout (files_now t) telling)
+    → ((t : Trace) → trace ≡ Some t → ReadsOnly may o.youngest (props_bytes o.layout (files_now t)))
+    → uuid ≡ o.uuid → ((look : RevisionBytes) → Knows telling.revs o.youngest look → Writes (DumpText look may uuid o.youngest) old new r)
+    → IfSome (option_map files_now trace) (λ m. Writes (DumpIn o m) old new r)
+dump_writes None o uuid telling may old new r opened tells reads is writes = tt
+dump_writes (Some t) o uuid telling may old new r opened tells reads is writes =
+    let all = tells t refl (floor_is o.layout o.min_unpacked_rev (files_now t) opened.behind.min_unpacked_rev) in
+    let look = rev_bytes o.layout (files_now t) in
+    let props = props_bytes o.layout (files_now t) in
+    subst (λ (u : List ℕ). Writes (DumpText look (only props) u o.youngest) old new r) is
+    (writes_as (DumpText look may uuid o.youngest) (DumpText look (only props) uuid o.youngest) old new r (dump_as may (only props) look uuid o.youngest (reads t refl)) (writes look (λ q below. all.revs q below)))
 
 pub fault_with_cause : (disk write : Type 0) (path : Path) (e : LookError) (fault : Fault) → IsFaultAt path e fault → IfDisk e disk → IfWrite e write → IsFaultOf disk write path (Err e) (Some fault)
 fault_with_cause disk write path e fault is d w = (fault, refl, is, d, w)
@@ -67,6 +85,7 @@ counted_fault rose disk write path (Err e) fault counted (told, is, at, d, w) = 
 counted_look : (rose disk : Type 0) (look : Look) (o : Opened) (files : Option Files) (old new : SinkScene) (fault : Option Fault) → (rose → disk) → LooksInto rose look o files old new fault → LooksInto disk look o files old new fault
 counted_look rose disk Youngest o files old new fault counted into = into
 counted_look rose disk Uuid o files old new fault counted into = into
+counted_look rose disk Dump o files old new fault counted dumped = record { result = dumped.result; writes = dumped.writes; fault_is = counted_fault rose disk (Rose old.faults new.faults) [] dumped.result fault counted dumped.fault_is }
 counted_look rose disk (AtRevision look) o files old new fault counted (inl lacks) = inl lacks
 counted_look rose disk (AtRevision look) o files old new fault counted (inr looked) = inr (record {
   there = looked.there;

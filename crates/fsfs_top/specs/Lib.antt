@@ -1,5 +1,6 @@
 pub mod Scenes
 pub mod TxnAnswers
+pub mod DumpAnswers
 pub mod Looks
 pub mod Transactions
 pub mod Command

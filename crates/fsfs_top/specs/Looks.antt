@@ -31,9 +31,10 @@ use Rattle.fsfs_stands.specs.declared.look_fault.LookFault.{LookFault}
 use Rattle.fsfs_look.specs.Revprops.Texts.{AuthorText, DateText, LogText, InfoText}
 use Rattle.fsfs_stands.specs.ChangedTexts.{ChangedText}
 use Rattle.fsfs_stands.specs.HistoryTexts.{HistoryText}
+use Rattle.fsfs_dump.specs.Texts.{DumpText}
 use Rattle.fsfs_cli.specs.Requests.{printed_path}
 use Rattle.fsfs_cli.specs.declared.request.Look.{Look}
-use Rattle.fsfs_cli.specs.declared.request.Look.TheVariants.{Youngest, Uuid, AtRevision}
+use Rattle.fsfs_cli.specs.declared.request.Look.TheVariants.{Youngest, Uuid, Dump, AtRevision}
 use Rattle.fsfs_cli.specs.declared.request.Printed.{Printed}
 use Rattle.fsfs_cli.specs.declared.request.Printed.TheVariants.{Tree, Text, Author, Date, Log, Info, Changed, History}
 use Rattle.fsfs_cli.specs.declared.request.RevisionLook.{RevisionLook}
@@ -119,12 +120,25 @@ pub record Looked (disk : Type 0) (look : RevisionLook) (o : Opened) (files : Op
   pub writes : IfSome files (λ m. Writes (TextIn look o m) old.written new.written result)
   pub fault_is : IsFaultOf disk (Rose old.faults new.faults) (printed_path look.printed) result fault
 
+-- ---- a dump
+
+-- what is printed of all revisions of an opened repository, as a reading of its files
+abbrev pub DumpIn : Opened → Files → List ℕ → End → Type 0
+DumpIn o files = DumpText (rev_bytes o.layout files) (only (props_bytes o.layout files)) o.uuid o.youngest
+
+-- A repository was dumped: the whole text was printed, or all before what is refused; or where that failed a first part.
+pub record IsDumped (disk : Type 0) (o : Opened) (files : Option Files) (old new : SinkScene) (fault : Option Fault) : Type 0 where
+  pub result : Result (Unit {0}) LookError
+  pub writes : IfSome files (λ m. Writes (DumpIn o m) old.written new.written result)
+  pub fault_is : IsFaultOf disk (Rose old.faults new.faults) [] result fault
+
 -- ---- a look
 
 -- what a look at an opened repository printed
 abbrev pub LooksInto : Type 0 → Look → Opened → Option Files → SinkScene → SinkScene → Option Fault → Type 0
 LooksInto disk Youngest o files old new fault = PrintsLine (revision_line o.youngest) old new fault
 LooksInto disk Uuid o files old new fault = PrintsLine (uuid_line o.uuid) old new fault
+LooksInto disk Dump o files old new fault = IsDumped disk o files old new fault
 LooksInto disk (AtRevision look) o files old new fault =
     ((rev : ℕ) × LacksRevision look o rev × (fault ≡ Some (Request (NoRev rev o.youngest))) × (new ≡ old)) ⊎ Looked disk look o files old new fault
 
@@ -153,10 +167,16 @@ pub record DecidesRevision (look : RevisionLook) (o : Opened) (files : Files) (f
   pub whole : (text : List ℕ) → looked_revision look o ≤ o.youngest → TextIn look o files text Whole → Agrees None fault
   pub refused : (text : List ℕ) (why : LookFault) → looked_revision look o ≤ o.youngest → TextIn look o files text (Refused why) → Agrees (Some (fault_from_look (printed_path look.printed) why)) fault
 
+-- a dump is answered wherever the bytes give its text; it is refused for what is wrong with them
+pub record DecidesDump (o : Opened) (files : Files) (fault : Option Fault) : Type 0 where
+  pub whole : (text : List ℕ) → DumpIn o files text Whole → Agrees None fault
+  pub refused : (text : List ℕ) (why : LookFault) → DumpIn o files text (Refused why) → Agrees (Some (fault_from_look [] why)) fault
+
 -- a look at the small files is answered wherever they open
 abbrev pub DecidesOpened : Look → Opened → Files → Option Fault → Type 0
 DecidesOpened Youngest o files fault = Agrees None fault
 DecidesOpened Uuid o files fault = Agrees None fault
+DecidesOpened Dump o files fault = DecidesDump o files fault
 DecidesOpened (AtRevision look) o files fault = DecidesRevision look o files fault
 
 -- Each refusal of an opening comes wherever its cause is there; what is left is Small. Where the files open, `Then` holds.

@@ -16,12 +16,13 @@ use Rattle.fsfs_revision.specs.RevBytes.{rev_bytes}
 use Rattle.fsfs_tree.specs.Answers.{Reply, prints, Answer, UuidAnswer, asked_revision, new_history}
 use Rattle.fsfs_tree.specs.Answers as model
 use Rattle.fsfs_top.specs.TxnAnswers.{ListingAnswer, RemovalAnswer}
+use Rattle.fsfs_top.specs.DumpAnswers.{DumpAnswer}
 use Rattle.fsfs_layout.specs.Opening.{small_texts, IsOpened, IsNone}
 use Rattle.fsfs_layout.specs.declared.opened.Opened.{Opened}
 use Rattle.fsfs_stands.specs.Files.{StandsFor}
 use Rattle.fsfs_stands.specs.ByTree.{AreShownIds}
 use Rattle.fsfs_cli.specs.Readings.{Asks}
-use Rattle.fsfs_cli.specs.declared.request.Look.TheVariants.{Youngest, Uuid, AtRevision}
+use Rattle.fsfs_cli.specs.declared.request.Look.TheVariants.{Youngest, Uuid, Dump, AtRevision}
 use Rattle.fsfs_cli.specs.declared.request.Printed.{Printed}
 use Rattle.fsfs_cli.specs.declared.request.Printed.TheVariants.{Tree, Text, Author, Date, Log, Info, Changed, History}
 use Rattle.fsfs_cli.specs.declared.request.Task.{Task}
@@ -77,6 +78,7 @@ answer_to ListTxns shown r = ListingAnswer (option_map (λ (x : Repository). x.n
 answer_to (RemoveTxns txns) shown r = RemovalAnswer txns (option_map (λ (x : Repository). x.txns) r)
 answer_to (Look Youngest) shown r = Answer model.Youngest (option_map (λ (x : Repository). x.history) r)
 answer_to (Look Uuid) shown r = UuidAnswer (option_map (λ (x : Repository). x.identifier) r)
+answer_to (Look Dump) shown r = DumpAnswer (option_map (λ (x : Repository). (x.identifier, x.history)) r)
 answer_to (Look (AtRevision look)) shown r = Answer (look_command look.revision look.printed shown) (option_map (λ (x : Repository). x.history) r)
 answer_to (RunJobs run) shown r = prints []
 
@@ -105,6 +107,7 @@ AreIds ListTxns bytes h shown = Unit {0}
 AreIds (RemoveTxns txns) bytes h shown = Unit {0}
 AreIds (Look Youngest) bytes h shown = Unit {0}
 AreIds (Look Uuid) bytes h shown = Unit {0}
+AreIds (Look Dump) bytes h shown = Unit {0}
 AreIds (Look (AtRevision look)) bytes h shown = ShowsIds look.printed bytes (asked_revision look.revision h) shown
 AreIds (RunJobs run) bytes h shown = ⊥
 
@@ -123,6 +126,7 @@ IsOfSmallFiles ListTxns = Unit {0}
 IsOfSmallFiles (RemoveTxns txns) = Unit {0}
 IsOfSmallFiles (Look Youngest) = Unit {0}
 IsOfSmallFiles (Look Uuid) = Unit {0}
+IsOfSmallFiles (Look Dump) = ⊥
 IsOfSmallFiles (Look (AtRevision look)) = ⊥
 IsOfSmallFiles (RunJobs run) = ⊥
 

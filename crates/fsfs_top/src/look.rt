@@ -10,7 +10,7 @@ ghost use Rattle.fsfs_look.specs.Written.{Writes, HasDiskCause, HasSinkCause};
 ghost use Rattle.fsfs_layout.specs.Opening.{small_texts, IsOpened};
 ghost use Rattle.fsfs_top.specs.Command.{fault_of};
 ghost use Rattle.fsfs_cli.specs.Requests.{printed_path};
-ghost use Rattle.fsfs_cli.specs.declared.request.Look.TheVariants.{AtRevision};
+ghost use Rattle.fsfs_cli.specs.declared.request.Look.TheVariants.{Dump, AtRevision};
 ghost use Rattle.fsfs_top.specs.Looks.{AllBytes, KnowsAll, TextOf, LacksRevision, LooksInto, PrintsLook, LookIsDecided, looked_revision, IsFaultAt};
 ghost use Rattle.fsfs_top.specs.Scenes.{SourceScene, scene, sink_scene};
 
@@ -19,6 +19,7 @@ use fsfs_base::{DiskPlace, FsPath, RevNum, Sink};
 use fsfs_cli::{Fault, Look, OutsideFault, Printed, RequestFault, RevisionLook};
 use fsfs_create::open;
 use fsfs_disk::{Access, Disk, Host};
+use fsfs_dump::dump;
 use fsfs_fetch::{disk_of, over_disk};
 use fsfs_history::{changed_text, history_text};
 use fsfs_layout::Opened;
@@ -90,15 +91,57 @@ fn fault_below(alloc: Global, path: Option<&FsPath>, fault: LookFault) -> Fault
     }
 }
 
-// The fault of a look that ended so.
-fn fault_at(alloc: Global, printed: &Printed, error: LookError) -> Fault
-    ensures { IsFaultAt (printed_path printed.now) error result }
+// The fault of what ended so, at this path or at `/`.
+fn fault_of_error(alloc: Global, path: Option<&FsPath>, error: LookError) -> Fault
+    ensures { IsFaultAt (unwrap_or (option_map (λ path. path.now) path.entry) []) error result }
 {
     match error {
         LookError::OutOfMemory => Fault::Memory,
         LookError::DiskFault => Fault::Outside(OutsideFault::Disk(DiskPlace::Read)),
         LookError::WriteFault => Fault::Outside(OutsideFault::Write),
-        LookError::Fault(fault) => fault_below(alloc, printed.path(), fault),
+        LookError::Fault(fault) => fault_below(alloc, path, fault),
+    }
+}
+
+// The fault of a look that ended so.
+fn fault_at(alloc: Global, printed: &Printed, error: LookError) -> Fault
+    ensures { IsFaultAt (printed_path printed.now) error result }
+{
+    fault_of_error(alloc, printed.path(), error)
+}
+
+// The fault of a dump that ended so.
+fn fault_dumped(alloc: Global, error: LookError) -> Fault
+    ensures { IsFaultAt [] error result }
+{
+    fault_of_error(alloc, None, error)
+}
+
+// Prints all revisions of an opened repository, and gives its disk back.
+fn dump_into<D: Disk, O: Sink>(
+    alloc: Global,
+    disk: D,
+    opened: &Opened,
+    out: &mut O,
+) -> (D, Result<(), Fault>)
+    requires { IfSome (option_map files_now (D.trace disk)) (λ m. IsOpened (small_texts m) opened.now) }
+    ensures printed { LooksInto (Rose (D.faults disk) (D.faults result.0)) Dump opened.now (option_map files_now (D.trace disk)) (sink_scene O.Sink out.old) (sink_scene O.Sink out.new) (fault_of result.1) }
+    ensures same { D.trace result.0 ≡ D.trace disk }
+    ensures mounted { D.mount_path result.0 ≡ D.mount_path disk }
+    ensures later { D.faults disk ≤ D.faults result.0 }
+{
+    let mut book = over_disk(
+        alloc,
+        disk,
+        opened.youngest,
+        opened.layout,
+        opened.min_unpacked_rev,
+    );
+    let dumped = dump(alloc, &mut book, opened.uuid.as_bytes(), opened.youngest, out);
+    let disk = disk_of(book);
+    match dumped {
+        Ok(()) => (disk, Ok(())),
+        Err(error) => (disk, Err(fault_dumped(alloc, error))),
     }
 }
 
@@ -152,6 +195,7 @@ fn look_into<D: Disk, O: Sink>(
     match look {
         Look::Youngest => (disk, line_fault(print_revision(out, opened.youngest))),
         Look::Uuid => (disk, line_fault(print_uuid(out, &opened.uuid))),
+        Look::Dump => dump_into(alloc, disk, opened, out),
         Look::AtRevision(look) => look_at_revision(alloc, disk, opened, look, out),
     }
 }

@@ -24,6 +24,13 @@ returns-in-Uuid-clause-printed g c =
     subst (λ (l : Look). LooksInto (Rose count count) l c.args.opened.now (option_map files_now (g.D.Disk.trace c.args.disk)) old new (fault_of c.line_fault-in-Uuid.result)) (sym c.in-Uuid.is)
     (c.line_fault-in-Uuid.ensures (uuid_line c.args.opened.now.uuid) old new c.print_uuid.ensures.printed)
 
+pub returns-in-Dump-clause-printed : goal.returns-in-Dump-clause-printed
+returns-in-Dump-clause-printed g c =
+    let old = sink_scene g.O.Sink c.args.out.now in
+    let new = sink_scene g.O.Sink c.dump_into.new.out in
+    subst (λ (l : Look). LooksInto (Rose (g.D.Disk.faults c.args.disk) (g.D.Disk.faults c.dump_into.result.0)) l c.args.opened.now (option_map files_now (g.D.Disk.trace c.args.disk)) old new (fault_of c.dump_into.result.1))
+    (sym c.in-Dump.is) c.dump_into.ensures.printed
+
 pub returns-in-AtRevision-clause-printed : goal.returns-in-AtRevision-clause-printed
 returns-in-AtRevision-clause-printed g c =
     let old = sink_scene g.O.Sink c.args.out.now in
