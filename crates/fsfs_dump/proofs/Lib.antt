@@ -1,5 +1,6 @@
 pub mod WalkLemmas
 pub mod Stops
+pub mod ReadLemmas
 pub mod MayLemmas
 pub mod OneText
 pub mod StandingIds

@@ -1,5 +1,5 @@
 -- What is written and what is kept, one part behind another.
-use Rattle.std.proofs.Common.{◌≡◌, ℕ, List, [], ◌++◌, Option, refl, sym, ap, ◌∙◌, append_assoc, append-nil, inl, inr}
+use Rattle.std.proofs.Common.{◌≡◌, ℕ, List, [], ◌++◌, Option, refl, sym, ap, subst, ◌∙◌, append_assoc, append-nil, inl, inr}
 use Rattle.std.specs.Prelude.{◌≢◌, Result, Ok, Err}
 use Rattle.fsfs_base.specs.Streams.{Adds}
 use Rattle.fsfs_base.specs.Output.{AddsFront}
@@ -135,3 +135,29 @@ module _ (text : List ℕ) (old new : Written) where
   walks_written before now (Err errors.OutOfMemory) none same (t, end, is, (front, rest, e, adds)) = (front, adds, (end, rest, (t, is, ap (λ (l : List ℕ). l ++ t) none ∙ e)))
   walks_written before now (Err errors.DiskFault) none same (t, end, is, (front, rest, e, adds)) = (front, adds, (end, rest, (t, is, ap (λ (l : List ℕ). l ++ t) none ∙ e)))
   walks_written before now (Err errors.WriteFault) none same (t, end, is, (front, rest, e, adds)) = (front, adds, (end, rest, (t, is, ap (λ (l : List ℕ). l ++ t) none ∙ e)))
+
+-- ---- a long text, and what follows it
+
+module _ (text tail : List ℕ) where
+  tail_some : (before written : List ℕ) → JoinsSome (IsWholeText text) before written → JoinsSome (IsWholeText (text ++ tail)) before written
+  tail_some before written (end, rest, (t, is, e)) =
+      (end, rest ++ tail, (t ++ tail, (ap (λ (x : List ℕ). x ++ tail) is.0, is.1), sym (append_assoc before t tail) ∙ ap (λ (x : List ℕ). x ++ tail) e ∙ append_assoc written rest tail))
+
+  -- it failed before what follows was put
+  pub walks_tail : (before now after : List ℕ) (old new : Written) (e : LookError) → Walks (IsWholeText text) before now old new (Err e) → Walks (IsWholeText (text ++ tail)) before after old new (Err e)
+  walks_tail before now after old new (errors.Fault fault) (written, a, (t, is, e)) = absurd (refused_not_whole fault is.1)
+  walks_tail before now after old new errors.OutOfMemory (written, a, h) = (written, a, tail_some before written h)
+  walks_tail before now after old new errors.DiskFault (written, a, h) = (written, a, tail_some before written h)
+  walks_tail before now after old new errors.WriteFault (written, a, h) = (written, a, tail_some before written h)
+
+  -- what follows has no room
+  pub walks_cut : (before now : List ℕ) (old new : Written) → before ≡ [] → Adds old new text → Walks (IsWholeText (text ++ tail)) before now old new (Err errors.OutOfMemory)
+  walks_cut before now old new none adds = (text, adds, (Whole, tail, (text ++ tail, (refl, refl), ap (λ (b : List ℕ). b ++ (text ++ tail)) none)))
+
+  -- both are there
+  pub walks_both : (before now : List ℕ) (old new : Written) (x : Unit {0}) → before ≡ [] → now ≡ tail → Adds old new text → Walks (IsWholeText (text ++ tail)) before now old new (Ok x)
+  walks_both before now old new x none is adds = (text, adds, (text ++ tail, (refl, refl), ap (λ (b : List ℕ). b ++ (text ++ tail)) none ∙ ap (λ (t : List ℕ). text ++ t) (sym is)))
+
+-- what a written text added
+pub whole_adds : (text : List ℕ) (old new : Written) (x : Unit {0}) → Writes (IsWholeText text) old new (Ok x) → Adds old new text
+whole_adds text old new x (t, is, adds) = subst (λ (s : List ℕ). Adds old new s) is.0 adds
