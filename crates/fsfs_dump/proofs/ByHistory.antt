@@ -1,6 +1,6 @@
 -- Where files stand for a history, what is written is the dump of that history.
-use Rattle.std.proofs.Common.{◌≡◌, ℕ, zero, suc, ◌+◌, ◌≤◌, Bool, true, false, List, [], ◌∷◌, ◌++◌, length, map, Option, Some, None, Ok, Err, refl, sym, ap, subst, ◌∙◌, arith, inl, inr}
-use Rattle.std.specs.Prelude.{◌≢◌, ◌&&◌, Contains, Result, IsSomeAnd, slice_get, nat_le}
+use Rattle.std.proofs.Common.{◌≡◌, ℕ, suc, ◌+◌, ◌≤◌, Bool, true, false, List, [], ◌∷◌, length, map, Option, Some, None, Ok, Err, refl, sym, ap, subst, ◌∙◌, arith, inl, inr}
+use Rattle.std.specs.Prelude.{◌≢◌, Contains, Result, IsSomeAnd, slice_get, nat_le}
 use Rattle.std.specs.List.{AllByRecursion}
 use Rattle.std.specs.FinMap.{FinMap, get, entries}
 use Rattle.std.proofs.lemmas.Bool.{and_parts}
@@ -20,13 +20,13 @@ use Rattle.fsfs_revision.specs.declared.wrong.Wrong.TheVariants as wrongs
 use Rattle.fsfs_revision.specs.Damage.Damages.{place_of}
 use Rattle.fsfs_revision.specs.Damage.Readings.{AndThen}
 use Rattle.fsfs_revision.specs.Told.{RevisionBytes}
-use Rattle.fsfs_revision.specs.RevProps.{MayRead, only}
+use Rattle.fsfs_revision.specs.RevProps.{only}
 use Rattle.fsfs_revision.specs.RevBytes.{rev_bytes, props_bytes}
 use Rattle.fsfs_revision.specs.Nodes.{is_revision_id}
 use Rattle.fsfs_noderev.specs.declared.changes.item.ChangeItem.{ChangeItem}
 use Rattle.fsfs_noderev.specs.declared.node_id.NodeId.{NodeId}
 use Rattle.fsfs_noderev.specs.declared.node_rev.NodeRev.{NodeRev}
-use Rattle.fsfs_revision.specs.Shows.Reading.{offset_of, OfId, TextOf, PropsOf, Met, Stands, MetAt, StandsAt}
+use Rattle.fsfs_revision.specs.Shows.Reading.{offset_of, OfId, PropsOf, Met, Stands, StandsAt}
 use Rattle.fsfs_revision.specs.Shows.Shown.{IsTextOf, IsShown, IsShownAs, Shows}
 use Rattle.fsfs_revision.proofs.OneWalk.{met_same}
 use Rattle.fsfs_stands.specs.Changes.{IsChangeOf, FitsTree}
@@ -36,19 +36,17 @@ use Rattle.fsfs_stands.specs.Files.{StandsFor}
 use Rattle.fsfs_stands.specs.FileTexts.{IsWholeText}
 use Rattle.fsfs_stands.specs.Texts.{End, Whole, Refused, Stopped}
 use Rattle.fsfs_stands.specs.Agreeing.{Agree, IsFront}
-use Rattle.fsfs_stands.specs.Items.{ItemsOf}
 use Rattle.fsfs_stands.specs.declared.look_fault.LookFault.TheVariants as faults
 use Rattle.fsfs_stands.proofs.WholeTexts.{of_agree}
 use Rattle.fsfs_stands.proofs.TextOrder.{all_put, each_in, valued}
 use Rattle.fsfs_stands.proofs.Flat.{earlier}
 use Rattle.fsfs_stands.proofs.ChangedByTrees as changed
-use Rattle.fsfs_look.specs.Revprops.Files.{RevPropsOf}
 use Rattle.fsfs_look.specs.Revprops.Texts.{ReadText}
 use Rattle.fsfs_look.specs.Walks.{Then}
-use Rattle.fsfs_dump.specs.Records.{Pairs, dump_head, revision_record, change_records}
+use Rattle.fsfs_dump.specs.Records.{dump_head, revision_record, change_records}
 use Rattle.fsfs_dump.specs.Flat.{CutText, uncut, behind, if_set, with_content, node_records, records_by, path_records, changes_dump, revision_dump, revisions_dump, history_dump}
 use Rattle.fsfs_dump.specs.Readings.{NodeBy, NodeOf, IfSet, ContentBy, ContentOf, source_of, TextRecords, NodeRecords, KindRecords, ThereRecords, ActionRecords, ItemRecords}
-use Rattle.fsfs_dump.specs.Texts.{Reads, EndsAs, ItemsText, TakenText, ChangesText, PropsText, RevisionText, RevisionsText, DumpText}
+use Rattle.fsfs_dump.specs.Texts.{ItemsText, ChangesText, RevisionText, RevisionsText, DumpText}
 use Rattle.fsfs_dump.specs.Laws.{IsCut, DumpsAreByTheHistory}
 use Rattle.fsfs_dump.proofs.OneText.{dumps_one}
 use Rattle.fsfs_dump.proofs.StandingIds.{of_standing}

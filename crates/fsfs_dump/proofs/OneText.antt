@@ -1,5 +1,5 @@
 -- A dump has one text at most.
-use Rattle.std.proofs.Common.{◌≡◌, ℕ, zero, suc, Bool, true, false, List, [], ◌∷◌, ◌++◌, refl, sym, ap, subst, ◌∙◌, inl, inr}
+use Rattle.std.proofs.Common.{◌≡◌, ℕ, zero, suc, Bool, true, false, List, [], ◌∷◌, ◌++◌, sym, subst, ◌∙◌, inl, inr}
 use Rattle.std.specs.Prelude.{Option, Some, Result, Ok, Err}
 use Rattle.fsfs_base.specs.declared.kind.Kind.{Kind}
 use Rattle.fsfs_base.specs.declared.kind.Kind.TheVariants.{File, Dir}
@@ -14,7 +14,7 @@ use Rattle.fsfs_noderev.specs.declared.changes.item.ChangeItem.{ChangeItem}
 use Rattle.fsfs_noderev.specs.declared.node_rev.NodeRev.{NodeRev}
 use Rattle.fsfs_revision.specs.Shows.Reading.{PropsOf, Met, Stands, Lacking, Blocked, MetAt}
 use Rattle.fsfs_revision.proofs.OneWalk.{text_one, props_one, of_id_one, met_at_one}
-use Rattle.fsfs_stands.specs.Texts.{End, Whole, Refused, Stopped, Nothing}
+use Rattle.fsfs_stands.specs.Texts.{End, Whole}
 use Rattle.fsfs_stands.specs.Agreeing.{Agree, HasOneText}
 use Rattle.fsfs_stands.proofs.OneText.{agree_behind, agree_more, agree_less, wholes_same, stopped_first, stopped_second, nothing_one, wrong_same}
 use Rattle.fsfs_stands.specs.FileTexts.{IsWholeText}

@@ -1,8 +1,6 @@
 -- The text of what is read in parts.
-use Rattle.std.proofs.Common.{◌≡◌, ℕ, Bool, true, false, List, [], Option, Some, None, refl, sym, ap, subst, ◌∙◌, inl, inr}
+use Rattle.std.proofs.Common.{◌≡◌, ℕ, Bool, true, false, List, [], Option, Some, None, refl, sym, subst, inl, inr}
 use Rattle.std.specs.Prelude.{◌≢◌, Result, Ok, Err}
-use Rattle.fsfs_base.specs.declared.kind.Kind.{Kind}
-use Rattle.fsfs_base.specs.declared.kind.Kind.TheVariants.{File, Dir}
 use Rattle.fsfs_base.specs.declared.action.Action.{Action}
 use Rattle.fsfs_base.specs.declared.action.Action.TheVariants.{Add, Delete, Replace, Modify}
 use Rattle.fsfs_revision.specs.declared.wrong.Wrong.{Wrong}
@@ -12,10 +10,10 @@ use Rattle.fsfs_revision.specs.Damage.Readings.{AndThen, Answers}
 use Rattle.fsfs_revision.specs.Told.{RevisionBytes}
 use Rattle.fsfs_noderev.specs.declared.changes.item.ChangeItem.{ChangeItem}
 use Rattle.fsfs_stands.specs.declared.look_fault.LookFault.TheVariants as faults
-use Rattle.fsfs_stands.specs.Texts.{End, Whole, Refused, Stopped}
+use Rattle.fsfs_stands.specs.Texts.{End, Refused}
 use Rattle.fsfs_stands.specs.FileTexts.{IsWholeText}
 use Rattle.fsfs_look.specs.Revprops.Texts.{ReadText}
-use Rattle.fsfs_dump.specs.Readings.{IfSet, ThereRecords, ActionRecords, ItemRecords}
+use Rattle.fsfs_dump.specs.Readings.{IfSet, ThereRecords, ActionRecords}
 
 -- all of what is read
 pub whole_read : (Q : Result (List ℕ) Wrong → Type 0) (whole : List ℕ) → Q (Ok whole) → (text : List ℕ) (end : End) → IsWholeText whole text end → ReadText Q text end

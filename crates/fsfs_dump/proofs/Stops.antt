@@ -1,5 +1,5 @@
 -- Each part of a dump may be stopped before its first byte.
-use Rattle.std.proofs.Common.{◌≡◌, ℕ, zero, suc, List, [], ◌∷◌, refl, inl, inr}
+use Rattle.std.proofs.Common.{ℕ, zero, suc, List, [], ◌∷◌, refl, inl}
 use Rattle.std.specs.Prelude.{Result}
 use Rattle.fsfs_revision.specs.declared.wrong.Wrong.{Wrong}
 use Rattle.fsfs_revision.specs.Told.{RevisionBytes}
@@ -8,7 +8,7 @@ use Rattle.fsfs_noderev.specs.declared.changes.item.ChangeItem.{ChangeItem}
 use Rattle.fsfs_look.specs.Revprops.Texts.{ReadText}
 use Rattle.fsfs_stands.specs.Texts.{End, Stopped}
 use Rattle.fsfs_dump.specs.Readings.{ItemRecords}
-use Rattle.fsfs_dump.specs.Texts.{Reads, EndsAs, ItemsText, RevisionText, RevisionsText}
+use Rattle.fsfs_dump.specs.Texts.{Reads, ItemsText, RevisionText, RevisionsText}
 use Rattle.fsfs_dump.proofs.WalkLemmas.{then_stops}
 
 pub read_stops : (R : Result (List ℕ) Wrong → Type 0) → ReadText R [] Stopped

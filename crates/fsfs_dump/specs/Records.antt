@@ -1,6 +1,6 @@
 -- The text of a dump, record by record. (Subversion's dumpfile format, version 2, with full texts. Which headers and blocks stand is this project's
 -- profile.)
-use Rattle.std.specs.Prelude.{ℕ, Bool, true, false, ◌+◌, List, [], ◌++◌, length, drop, Option, Some, None, option_map, unwrap_or, codes, decimal}
+use Rattle.std.specs.Prelude.{ℕ, ◌+◌, List, [], ◌++◌, length, drop, Option, Some, None, option_map, unwrap_or, codes, decimal}
 use Rattle.std.specs.List.{flat_map}
 use Rattle.md5.specs.Md5.{md5 as md5_of}
 use Rattle.sha1.specs.Sha1.{sha1 as sha1_of}

@@ -44,7 +44,7 @@ use Rattle.fsfs_cli.specs.declared.request.Look.{Look}
 use Rattle.fsfs_cli.specs.declared.request.Look.TheVariants.{Youngest, Uuid, Dump, AtRevision}
 use Rattle.fsfs_cli.specs.declared.request.RevisionLook.{RevisionLook}
 use Rattle.fsfs_top.specs.Command.{Created, Tells, answer_of, identifier_of}
-use Rattle.fsfs_top.specs.Looks.{all_bytes, TextOf, TextIn, revision_line, uuid_line, looked_revision, LacksRevision, IsFaultOf, DumpIn, IsDumped, Looked, LooksInto, NotOpened, PrintsLine, PrintsLook}
+use Rattle.fsfs_top.specs.Looks.{all_bytes, TextOf, TextIn, revision_line, uuid_line, looked_revision, LacksRevision, IsFaultOf, DumpIn, Looked, LooksInto, NotOpened, PrintsLine, PrintsLook}
 use Rattle.fsfs_workers.specs.Openings.{OpensAs, DoesNotOpen}
 use Rattle.fsfs_top.specs.Replies.{Gives, OutsideFailed}
 use Rattle.fsfs_top.specs.TxnAnswers.{first_missing, removal_reply, ListingAnswer, RemovalAnswer, names_text}
