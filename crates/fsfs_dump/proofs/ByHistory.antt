@@ -188,9 +188,13 @@ module _ (look : RevisionBytes) (rev : ℕ) (tree : ℕ → TreeFunction) (chang
 
   pub changes_give : Gives (ChangesText look rev) (changes_dump (tree rev) (in_text_order (entries changes)))
   changes_give =
-      inr (inr ((items, None), changed.read look rev tree changes shown, zipped found flat (changed.same_paths look rev tree changes shown)
-        (all_put (λ (x : ChangeItem). path_text x.path) (Contains items) [] items tt (each_in (Contains items) items (λ x c. c)))
-        (all_put (λ (e : Pair). path_text e.0) (λ (e : Pair). get changes e.0 ≡ Some e.1) [] (entries changes) tt (each_in (λ (e : Pair). get changes e.0 ≡ Some e.1) (entries changes) (changed.has look rev tree changes shown)))))
+      inr (inr (
+        (items, None),
+        changed.read look rev tree changes shown,
+        zipped found flat (changed.same_paths look rev tree changes shown)
+            (all_put (λ (x : ChangeItem). path_text x.path) (Contains items) [] items tt (each_in (Contains items) items (λ x c. c)))
+            (all_put (λ (e : Pair). path_text e.0) (λ (e : Pair). get changes e.0 ≡ Some e.1) [] (entries changes) tt (each_in (λ (e : Pair). get changes e.0 ≡ Some e.1) (entries changes) (changed.has look rev tree changes shown))),
+      ))
 
 -- ---- all revisions
 
@@ -219,8 +223,11 @@ module _ (files : Files) (h : List Revision) (s : StandsFor files h) where
     revision_gives =
         let w = s.history.each rev revision is in
         let record_is : Gives (IsWholeText (revision_record rev revision.properties)) (uncut (revision_record rev revision.properties)) = (refl, refl) in
-        inr (inr (revision.properties, (w.file, w.file_is, w.properties),
-          then_gives (IsWholeText (revision_record rev revision.properties)) (ChangesText revs rev) (uncut (revision_record rev revision.properties)) (changes_dump (get revision.tree) (in_text_order (entries revision.changes))) record_is changes_here))
+        inr (inr (
+          revision.properties,
+          (w.file, w.file_is, w.properties),
+          then_gives (IsWholeText (revision_record rev revision.properties)) (ChangesText revs rev) (uncut (revision_record rev revision.properties)) (changes_dump (get revision.tree) (in_text_order (entries revision.changes))) record_is changes_here,
+        ))
 
   revisions_give : (first : ℕ) (rs : List Revision) → ((k : ℕ) (x : Revision) → slice_get rs k ≡ Some x → (r : ℕ) → r ≡ first + k → Gives (RevisionText revs (only props) r) (revision_dump r x))
       → Gives (RevisionsText revs (only props) first (length rs)) (revisions_dump first rs)

@@ -1,6 +1,8 @@
 pub mod WalkLemmas
 pub mod Stops
 pub mod ReadLemmas
+pub mod NodeLemmas
+pub mod LongLemmas
 pub mod MayLemmas
 pub mod OneText
 pub mod StandingIds

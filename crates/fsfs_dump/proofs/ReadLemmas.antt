@@ -1,6 +1,6 @@
 -- The text of what is read in parts.
 use Rattle.std.proofs.Common.{◌≡◌, ℕ, Bool, true, false, List, [], Option, Some, None, refl, sym, subst, inl, inr}
-use Rattle.std.specs.Prelude.{◌≢◌, Result, Ok, Err}
+use Rattle.std.specs.Prelude.{Result, Ok, Err}
 use Rattle.fsfs_base.specs.declared.action.Action.{Action}
 use Rattle.fsfs_base.specs.declared.action.Action.TheVariants.{Add, Delete, Replace, Modify}
 use Rattle.fsfs_revision.specs.declared.wrong.Wrong.{Wrong}
@@ -10,10 +10,17 @@ use Rattle.fsfs_revision.specs.Damage.Readings.{AndThen, Answers}
 use Rattle.fsfs_revision.specs.Told.{RevisionBytes}
 use Rattle.fsfs_noderev.specs.declared.changes.item.ChangeItem.{ChangeItem}
 use Rattle.fsfs_stands.specs.declared.look_fault.LookFault.TheVariants as faults
-use Rattle.fsfs_stands.specs.Texts.{End, Refused}
+use Rattle.fsfs_stands.specs.Texts.{End, Whole, Refused}
+use Rattle.fsfs_stands.specs.ChangedTexts.{end_of}
 use Rattle.fsfs_stands.specs.FileTexts.{IsWholeText}
 use Rattle.fsfs_look.specs.Revprops.Texts.{ReadText}
+use Rattle.fsfs_look.specs.Walks.{Walks}
+use Rattle.fsfs_history.specs.Views.{EndsText}
+use Rattle.fsfs_dump.specs.Records.{delete_record}
 use Rattle.fsfs_dump.specs.Readings.{IfSet, ThereRecords, ActionRecords}
+use Rattle.fsfs_dump.specs.Texts.{EndsAs, ItemsText}
+use Rattle.fsfs_dump.specs.Views.{is_gone}
+use Rattle.fsfs_dump.proofs.WalkLemmas.{Written, Answer, walks_end, walks_refused}
 
 -- all of what is read
 pub whole_read : (Q : Result (List ℕ) Wrong → Type 0) (whole : List ℕ) → Q (Ok whole) → (text : List ℕ) (end : End) → IsWholeText whole text end → ReadText Q text end
@@ -47,8 +54,22 @@ set_fails view other R false e is h = absurd cc
 
 -- ---- by the action
 
-pub there_records : (look : RevisionBytes) (rev : ℕ) (item : ChangeItem) (action : Action) → action ≢ Delete → (text : List ℕ) (end : End) → ReadText (ThereRecords look rev item action) text end → ReadText (ActionRecords look rev item action) text end
+pub there_records : (look : RevisionBytes) (rev : ℕ) (item : ChangeItem) (action : Action) → is_gone action ≡ false → (text : List ℕ) (end : End) → ReadText (ThereRecords look rev item action) text end → ReadText (ActionRecords look rev item action) text end
 there_records look rev item Add other text end h = h
 there_records look rev item Replace other text end h = h
 there_records look rev item Modify other text end h = h
-there_records look rev item Delete other text end h = absurd (other refl)
+there_records look rev item Delete other text end h = absurd cc
+
+pub gone_record : (look : RevisionBytes) (rev : ℕ) (item : ChangeItem) (action : Action) → is_gone action ≡ true → ActionRecords look rev item action (Ok (delete_record item.path))
+gone_record look rev item Delete is = refl
+gone_record look rev item Add is = absurd cc
+gone_record look rev item Replace is = absurd cc
+gone_record look rev item Modify is = absurd cc
+
+-- ---- behind all items
+
+pub items_end : (look : RevisionBytes) (rev : ℕ) (wrong : Option Wrong) (before : List ℕ) (told : Written) (r : Answer) → EndsText wrong r → Walks (ItemsText look rev (end_of wrong) []) before before told told r
+items_end look rev None before told r e = subst (λ (x : Answer). Walks (EndsAs Whole) before before told told x) (sym e) (walks_end (EndsAs Whole) before told tt (inr (refl, refl)))
+items_end look rev (Some w) before told r e =
+    subst (λ (x : Answer). Walks (EndsAs (Refused (faults.Wrong w))) before before told told x) (sym e)
+    (walks_refused (EndsAs (Refused (faults.Wrong w))) before told (faults.Wrong w) (inr (refl, refl)))

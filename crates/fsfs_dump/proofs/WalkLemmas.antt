@@ -65,8 +65,11 @@ walks_flushed R before after now part old mid new r adds is h =
 pub walks_then : (R S : Text) (before middle now : List ℕ) (old mid new : Written) (x : Unit {0}) (r : Answer) → Walks R before middle old mid (Ok x) → Walks S middle now mid new r → Walks (Then R S) before now old new r
 walks_then R S before middle now old mid new x r (part, adds, (first, is, e)) h =
     moved S (Then R S) before middle old mid new part adds
-    (λ written end rest j. (first ++ j.0, inr (first, j.0, is, j.1, refl),
-        sym (append_assoc before first j.0) ∙ ap (λ (t : List ℕ). t ++ j.0) e ∙ append_assoc part middle j.0 ∙ ap (λ (t : List ℕ). part ++ t) j.2 ∙ sym (append_assoc part written rest))) now r h
+    (λ written end rest j. (
+      first ++ j.0,
+      inr (first, j.0, is, j.1, refl),
+      sym (append_assoc before first j.0) ∙ ap (λ (t : List ℕ). t ++ j.0) e ∙ append_assoc part middle j.0 ∙ ap (λ (t : List ℕ). part ++ t) j.2 ∙ sym (append_assoc part written rest),
+    )) now r h
 
 -- ---- a walk that ends in the first part
 

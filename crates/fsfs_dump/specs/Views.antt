@@ -1,6 +1,8 @@
 -- What the types of this crate are, apart from where they lie in memory.
-use Rattle.std.specs.Prelude.{◌≡◌, ℕ, Bool, true, List, Option, Some, option_map}
+use Rattle.std.specs.Prelude.{◌≡◌, ℕ, Bool, true, false, List, Option, Some, option_map}
 use Rattle.fsfs_base.specs.declared.kind.Kind.TheVariants.{File}
+use Rattle.fsfs_base.specs.declared.action.Action.{Action}
+use Rattle.fsfs_base.specs.declared.action.Action.TheVariants.{Add, Delete, Replace, Modify}
 use Rattle.fsfs_noderev.specs.declared.rep.Rep.{Rep}
 use Rattle.fsfs_noderev.specs.declared.rep.Contents.TheVariants.{At}
 use Rattle.fsfs_revision.specs.Nodes.{rep_place_before}
@@ -26,3 +28,10 @@ pub record IsLong (set : Bool) (node : PlacedNode) (rep : Rep) : Type 0 where
   pub kind : node.node.kind ≡ File
   pub text : node.node.text ≡ Some (At rep)
   pub before : rep_place_before (offset_of node.node.id.place) rep.rev rep.offset ≡ true
+
+-- the path was taken away
+abbrev pub is_gone : Action → Bool
+is_gone Delete = true
+is_gone Add = false
+is_gone Replace = false
+is_gone Modify = false

@@ -8,7 +8,7 @@ ghost use Rattle.fsfs_look.specs.Written.{HasDiskCause, HasSinkCause};
 ghost use Rattle.fsfs_stands.specs.FileTexts.{IsWholeText};
 ghost use Rattle.fsfs_dump.specs.Records.{Pairs as PairsValue, props_block, facts_of as facts_value_of, delete_record, records_head, record_end};
 ghost use Rattle.fsfs_dump.specs.Readings.{source_of, TextRecords, NodeRecords, ThereRecords, ItemRecords};
-ghost use Rattle.fsfs_dump.specs.Views.{block_value, text_value, IsLong};
+ghost use Rattle.fsfs_dump.specs.Views.{block_value, text_value, is_gone, IsLong};
 
 use crate::block::{block_set, props_set};
 use crate::facts::{facts_of, facts_of_rep};
@@ -149,6 +149,16 @@ fn put_gone(alloc: Global, item: &ChangeItem, lines: &mut Vec<u8>) -> Result<(),
     Ok(())
 }
 
+// Whether the path was taken away.
+fn is_gone(action: Action) -> bool
+    ensures { result ≡ is_gone action }
+{
+    match action {
+        Action::Delete => true,
+        Action::Add | Action::Replace | Action::Modify => false,
+    }
+}
+
 /// Writes the records of an item, but for what is kept. Nothing is written of one whose node, properties or text is damaged or a
 /// delta.
 pub(crate) fn write_item<B: Book, S: Sink>(
@@ -165,10 +175,8 @@ pub(crate) fn write_item<B: Book, S: Sink>(
     ensures cause { HasDiskCause (B.faults book.old) (B.faults book.new) result }
     ensures sink { HasSinkCause (S.faults sink.old) (S.faults sink.new) result }
 {
-    match item.action {
-        Action::Delete => put_gone(alloc, item, lines),
-        Action::Add | Action::Replace | Action::Modify => {
-            write_there(alloc, book, rev, item, lines, sink)
-        }
+    if is_gone(item.action) {
+        return put_gone(alloc, item, lines);
     }
+    write_there(alloc, book, rev, item, lines, sink)
 }

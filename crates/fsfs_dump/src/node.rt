@@ -53,8 +53,7 @@ pub(crate) fn node_of<B: Book>(
     ensures cause { HasCause (B.faults book.old) (B.faults book.new) result }
 {
     if is_nameable(rev, &item.id) {
-        named_node(alloc, book, &item.id)
-    } else {
-        node_there(alloc, book, rev, item)
+        return named_node(alloc, book, &item.id);
     }
+    node_there(alloc, book, rev, item)
 }

@@ -27,9 +27,11 @@ pieces-preserved g c =
       read = λ bytes e.
           let told = told_later _ _ _ _ (Ok bytes) inv.kept inv.rep e in
           let next = c.in_ok-count.ensures.bytes bytes told (inv.read bytes e).0 in
-          let text = text_of c.args.rep.now bytes in
-          (next.0, subst (λ (t : List ℕ). Holds c.update.new.self t) (bytes_more _ c.args.rep.now bytes (take c.pieces.reader.done text) c.next.new.buffer c.pieces.reader.done c.in_ok-count.count c.next.new.self.done inv.rep c.in_ok-count.ensures.done refl next.1)
-              (c.update.ensures (take c.pieces.reader.done text) (inv.read bytes e).1));
+          let text = text_of c.args.rep.now bytes in (
+            next.0,
+            subst (λ (t : List ℕ). Holds c.update.new.self t) (bytes_more _ c.args.rep.now bytes (take c.pieces.reader.done text) c.next.new.buffer c.pieces.reader.done c.in_ok-count.count c.next.new.self.done inv.rep c.in_ok-count.ensures.done refl next.1)
+                (c.update.ensures (take c.pieces.reader.done text) (inv.read bytes e).1),
+          );
       there = inv.there;
       kept = keeps_trans _ _ _ inv.kept c.in_ok-count.ensures.kept;
       later = omega (arith, inv.later, c.in_ok-count.ensures.cause.later);
