@@ -1,3 +1,4 @@
+pub mod Appends
 pub mod WalkLemmas
 pub mod Stops
 pub mod ReadLemmas

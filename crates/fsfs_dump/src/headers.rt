@@ -123,7 +123,8 @@ fn put_facts(alloc: Global, lines: &mut Vec<u8>, facts: &Option<Facts>) -> Resul
                 lines,
                 b"Text-content-sha1",
                 facts.sha1.bytes.as_slice(),
-            )
+            )?;
+            Ok(())
         }
     }
 }
@@ -195,7 +196,8 @@ fn put_what(
     put_path(alloc, lines, b"Node-path", &item.path)?;
     put_header(lines, b"Node-kind", word_of(kind))?;
     put_header(lines, b"Node-action", verb_of(item.action))?;
-    put_source(alloc, lines, &item.source)
+    put_source(alloc, lines, &item.source)?;
+    Ok(())
 }
 
 // Puts how long its properties and its text are, and the properties.

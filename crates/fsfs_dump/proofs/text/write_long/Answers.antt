@@ -5,6 +5,7 @@ use Rattle.fsfs_base.specs.Output.{AddsFront}
 use Rattle.fsfs_revision.specs.Rep.Frames.{rev_of, text_of}
 use Rattle.fsfs_stands.specs.FileTexts.{IsWholeText}
 use Rattle.fsfs_stands.specs.Texts.{Whole}
+use Rattle.fsfs_look.specs.declared.look_error.LookError.TheVariants as errors
 use Rattle.fsfs_look.specs.Walks.{Walks}
 use Rattle.fsfs_dump.specs.Records.{record_end}
 use Rattle.fsfs_dump.proofs.WalkLemmas.{walks_flushed, walks_unwritten, walks_written, walks_tail, walks_cut, walks_both, whole_adds}
@@ -45,8 +46,8 @@ returns-in_err-extend_from_slice-clause-told g c = λ bytes e whole.
     let mid = g.S.Sink.written c.write_piece.new.sink in
     let new = g.S.Sink.written c.write_rep.new.sink in
     let adds = subst (λ (t : List ℕ). Adds old mid t) c.deref.ensures.value c.in_ok-write_piece.ensures.added in
-    let more = whole_adds text mid new _ (c.in_ok-write_rep.ensures.told bytes e whole) in
-    rw (p.1, p.2) (walks_flushed (IsWholeText (text ++ record_end)) lines [] now lines old mid new _ adds (sym (append-nil lines)) (walks_cut text record_end [] now mid new refl more))
+    let more = whole_adds text mid new tt (c.in_ok-write_rep.ensures.told bytes e whole) in
+    rw (p.1, p.2) (walks_flushed (IsWholeText (text ++ record_end)) lines [] now lines old mid new (Err errors.OutOfMemory) adds (sym (append-nil lines)) (walks_cut text record_end [] now mid new refl more))
 
 pub returns-clause-told : goal.returns-clause-told
 returns-clause-told g c = λ bytes e whole.
@@ -57,6 +58,6 @@ returns-clause-told g c = λ bytes e whole.
     let mid = g.S.Sink.written c.write_piece.new.sink in
     let new = g.S.Sink.written c.write_rep.new.sink in
     let adds = subst (λ (t : List ℕ). Adds old mid t) c.deref.ensures.value c.in_ok-write_piece.ensures.added in
-    let more = whole_adds text mid new _ (c.in_ok-write_rep.ensures.told bytes e whole) in
+    let more = whole_adds text mid new tt (c.in_ok-write_rep.ensures.told bytes e whole) in
     let is : now ≡ record_end = c.in_ok-extend_from_slice.ensures.items ∙ ap (λ (t : List ℕ). t ++ record_end) c.clear.ensures.items in
     walks_flushed (IsWholeText (text ++ record_end)) lines [] now lines old mid new (Ok tt) adds (sym (append-nil lines)) (walks_both text record_end [] now mid new tt refl is more)

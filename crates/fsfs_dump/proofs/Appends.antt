@@ -1,0 +1,8 @@
+-- What is put behind a text, part by part.
+use Rattle.std.proofs.Common.{◌≡◌, ℕ, List, ◌++◌, ap, ◌∙◌, append_assoc}
+
+pub then_more : {x a y rest z : List ℕ} → y ≡ x ++ a → z ≡ y ++ rest → z ≡ x ++ (a ++ rest)
+then_more {x} {a} {y} {rest} {z} e f = f ∙ ap (λ (t : List ℕ). t ++ rest) e ∙ append_assoc x a rest
+
+pub put_as : {x a b y : List ℕ} → y ≡ x ++ a → a ≡ b → y ≡ x ++ b
+put_as {x} {a} {b} {y} e f = e ∙ ap (λ (t : List ℕ). x ++ t) f
