@@ -8,6 +8,7 @@ use Rattle.fsfs_layout.specs.declared.opened.Opened.{Opened}
 use Rattle.fsfs_base.specs.declared.places.place.DiskPlace.{DiskPlace}
 use Rattle.fsfs_base.specs.declared.places.open_fault.OpenFault.{OpenFault}
 use Rattle.fsfs_base.specs.declared.places.open_fault.OpenFault.TheVariants.{NotRepo, OtherFormat, Linear, Small, DiskFault, Memory}
+use Rattle.fsfs_repo.specs.BeginSteps.{LeavesNoName}
 use Rattle.fsfs_repo.specs.OpenFaults.{OpensBecause}
 use Rattle.fsfs_stands.specs.Files.{StandsFor}
 use Rattle.fsfs_repo.specs.Known.{HasSeenAll}
@@ -33,7 +34,7 @@ use Rattle.fsfs_turn.specs.Whole.{NamesFrom}
 use Rattle.fsfs_repo.specs.Owned.Crashes.{CrashesLeave}
 use Rattle.fsfs_script.specs.declared.job_lines.job.Job.{Job}
 use Rattle.fsfs_jobs.specs.declared.answer.JobAnswer.{JobAnswer}
-use Rattle.fsfs_job_run.specs.Serial.Jobs.{DoesJob, Fails, ByDisk, ByBench, ByStuck, ByMemory, ByNames, ByCounts, AddsBy, RunsJob, RunJobs, End, More, StuckBehindDoubt, bench_faults_in}
+use Rattle.fsfs_job_run.specs.Serial.Jobs.{DoesJob, Fails, ByDisk, ByBench, ByStuck, ByMemory, ByNames, ByCounts, AddsBy, RunsJob, RunJobs, End, More, StuckBehindDoubt, bench_faults_in, tell_full}
 use Rattle.fsfs_job_run.proofs.SerialJobLemmas.{runs_serial, grow}
 use Rattle.fsfs_job_run.proofs.ListedLemmas.{failed_on}
 use Rattle.fsfs_job_run.specs.Running.{DoAll, HasGiven}
@@ -116,9 +117,9 @@ stands_all : (layout : Layout) (told : Option Trace) (u : View) → u.section �
 stands_all layout None u none few leaves = tt
 stands_all layout (Some t) u none few leaves = record { now = leaves.doubtless none few (files_now t) (files_are_image t.first t.operations); images = leaves.doubtless none few }
 
-pub ran : (moment : ℕ) (js : List Job) (answers : List JobAnswer) (youngest : ℕ) (v u : View) (layout : Layout) (told : Option Trace) → v.opened ≡ length v.seen → are_harmless v.pass.faults ≡ true → u.section ≡ None → StuckBehindDoubt answers → RunJobs moment js answers v u → length u.seen ≡ youngest + 1 → CrashesLeave layout told u
+pub ran : (moment : ℕ) (js : List Job) (answers : List JobAnswer) (youngest : ℕ) (v u : View) (layout : Layout) (told : Option Trace) → v.opened ≡ length v.seen → are_harmless v.pass.faults ≡ true → u.section ≡ None → (tell_full answers ≡ true → IfSome told (λ t. LeavesNoName (files_now t))) → StuckBehindDoubt answers → RunJobs moment js answers v u → length u.seen ≡ youngest + 1 → CrashesLeave layout told u
     → Ran moment v.since js answers youngest (revisions v.seen) told
-ran moment js answers youngest v u layout told opened few none stuck runs last leaves =
+ran moment js answers youngest v u layout told opened few none full stuck runs last leaves =
     let grown = grow moment js answers v u runs in
     record {
       now = revisions u.seen;
@@ -128,6 +129,7 @@ ran moment js answers youngest v u layout told opened few none stuck runs last l
       last = length-map u.seen (λ (x : Recorded). x.revision) ∙ last;
       held = subst (λ n. IfSome told (λ t. (all : HoldsAll n t (revisions v.seen) (revisions u.seen)) × (all.seen ≡ u.seen))) grown.since
           (held_all (revisions v.seen) layout told u (grown.opened ∙ (opened ∙ sym (length-map v.seen (λ (x : Recorded). x.revision)))) leaves);
+      full = full;
       stuck = stuck;
       certain = λ calm. stands_all layout told u none (grown.doubtless calm few) leaves;
     }
@@ -140,10 +142,10 @@ firm_fails change old new done = inr (inr done)
 -- ---- what a lone pass knows behind jobs
 
 pub ran_in : (layout : Layout) (young : ℕ) (stuck : Option DiskPlace) (told new : Option Trace) (moment : ℕ) (js : List Job) (answers : List JobAnswer) (youngest : ℕ) (v : View) → new ≡ told → v.opened ≡ length v.seen → are_harmless v.pass.faults ≡ true
-    → ((u : View) → KnowsAlone layout young stuck told u → length u.seen ≡ youngest + 1) → ((u : View) → KnowsAlone layout young stuck told u → CrashesLeave layout told u)
+    → (tell_full answers ≡ true → IfSome told (λ t. LeavesNoName (files_now t))) → ((u : View) → KnowsAlone layout young stuck told u → length u.seen ≡ youngest + 1) → ((u : View) → KnowsAlone layout young stuck told u → CrashesLeave layout told u)
     → DoAll (KnowsAlone layout young stuck told) moment js answers v → Ran moment v.since js answers youngest (revisions v.seen) new
-ran_in layout young stuck told new moment js answers youngest v same opened few all leaves (u, known, none, runs, stuck_so) =
-    subst (Ran moment v.since js answers youngest (revisions v.seen)) (sym same) (ran moment js answers youngest v u layout told opened few none (stuck_so few) runs (all u known) (leaves u known))
+ran_in layout young stuck told new moment js answers youngest v same opened few full all leaves (u, known, none, runs, stuck_so) =
+    subst (Ran moment v.since js answers youngest (revisions v.seen)) (sym same) (ran moment js answers youngest v u layout told opened few none full (stuck_so few) runs (all u known) (leaves u known))
 
 -- ---- a run, told of a count that rose as well
 

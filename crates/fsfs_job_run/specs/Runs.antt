@@ -1,5 +1,5 @@
 -- What a run of a script does to a disk, its input and its output.
-use Rattle.std.specs.Prelude.{◌≡◌, ◌⊎◌, ◌≤◌, ◌+◌, ◌++◌, ◌∷◌, [], ℕ, zero, suc, List, length, Option, Some, IfSome, option_map, Result, Ok, Err, slice_get}
+use Rattle.std.specs.Prelude.{◌≡◌, ◌⊎◌, ◌≤◌, ◌+◌, ◌++◌, ◌∷◌, [], ℕ, zero, suc, List, length, true, Option, Some, IfSome, option_map, Result, Ok, Err, slice_get}
 use Rattle.fsfs_base.specs.Failures.{Rose}
 use Rattle.fsfs_base.specs.Files.{Files}
 use Rattle.fsfs_layout.specs.declared.layout.Layout.{Layout}
@@ -10,6 +10,7 @@ use Rattle.fsfs_disk.specs.Trace.{Trace, FirmNames, FailsAt, ImageSince, IsImage
 use Rattle.fsfs_base.specs.Streams.{Adds}
 use Rattle.fsfs_base.specs.Output.{AddsFront}
 use Rattle.fsfs_stands.specs.Files.{StandsFor}
+use Rattle.fsfs_repo.specs.BeginSteps.{LeavesNoName}
 use Rattle.fsfs_repo.specs.OpenFaults.{OpensBecause}
 use Rattle.fsfs_base.specs.declared.places.open_fault.OpenFault.{OpenFault}
 use Rattle.fsfs_machine.specs.declared.machine.Recorded.{Recorded}
@@ -26,7 +27,7 @@ use Rattle.fsfs_cli.specs.declared.faults.fault.Fault.TheVariants.{Outside, Memo
 use Rattle.fsfs_cli.specs.declared.faults.outside_fault.OutsideFault.TheVariants.{Write}
 use Rattle.fsfs_jobs.specs.Lines.{greatest_status, run_text}
 use Rattle.fsfs_jobs.specs.declared.answer.JobAnswer.{JobAnswer}
-use Rattle.fsfs_job_run.specs.Serial.Jobs.{StuckBehindDoubt, TellNoDoubt, bench_faults_in}
+use Rattle.fsfs_job_run.specs.Serial.Jobs.{StuckBehindDoubt, TellNoDoubt, bench_faults_in, tell_full}
 use Rattle.fsfs_job_run.specs.Serial.Listed.{LeavesListed}
 use Rattle.fsfs_job_run.specs.Workers.Lines.{disk_faults_in, RoseBy}
 use Rattle.fsfs_job_run.specs.Openings.{OpensAs, DoesNotOpen}
@@ -79,6 +80,8 @@ pub record Ran (moment since : ℕ) (js : List Job) (answers : List JobAnswer) (
   pub last : length now ≡ youngest + 1
   -- these are the bytes that it holds
   pub held : IfSome told (λ t. (all : HoldsAll since t h now) × (all.seen ≡ seen))
+  -- A line tells that names are full only where no name is left: behind the run the last number that a name has digits for stands in `txn-current`.
+  pub full : tell_full answers ≡ true → IfSome told (λ t. LeavesNoName (files_now t))
   -- the lock is told to be stuck only behind a line that tells of a fault as `current` was renamed or made firm
   pub stuck : StuckBehindDoubt answers
   -- nothing is in doubt where no line tells of a fault as `current` was renamed or made firm
