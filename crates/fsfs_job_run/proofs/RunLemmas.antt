@@ -11,7 +11,7 @@ use Rattle.fsfs_base.specs.declared.places.open_fault.OpenFault.TheVariants.{Not
 use Rattle.fsfs_repo.specs.OpenFaults.{OpensBecause}
 use Rattle.fsfs_stands.specs.Files.{StandsFor}
 use Rattle.fsfs_repo.specs.Known.{HasSeenAll}
-use Rattle.fsfs_turn.specs.Opening.{LeftoversAgree, given_before}
+use Rattle.fsfs_turn.specs.Opening.{LeftoversAgree, given_before, opened_at}
 use Rattle.fsfs_machine.specs.Kept.{IsIn}
 use Rattle.fsfs_script.specs.Errors.{IfReadFault}
 use Rattle.fsfs_script.specs.Whole.{ReadsScript}
@@ -19,12 +19,13 @@ use Rattle.fsfs_script.specs.declared.script_error.ScriptError.{ScriptError}
 use Rattle.fsfs_cli.specs.CommandFaults.{fault_from_open, fault_from_script}
 use Rattle.fsfs_cli.specs.declared.faults.fault.Fault.{Fault}
 use Rattle.fsfs_disk.specs.Trace.{Trace, NameChange, FirmNames, FailsAt, Performs, files_now}
-use Rattle.fsfs_disk.proofs.CrashLemmas.{files_are_image}
+use Rattle.fsfs_disk.proofs.CrashLemmas.{files_are_image, image_now}
 use Rattle.fsfs_machine.specs.declared.machine.Recorded.{Recorded}
 use Rattle.fsfs_machine.specs.declared.machine.Coming.{Coming}
 use Rattle.fsfs_machine.specs.Machine.{recorded, revisions}
 use Rattle.fsfs_tree.specs.Revisions.{Revision}
 use Rattle.fsfs_turn.specs.Views.{View, Begins}
+use Rattle.fsfs_turn.proofs.OwnFiles.{were_own}
 use Rattle.fsfs_turn.proofs.Reading.{begins_on}
 use Rattle.fsfs_job_run.specs.Serial.Counts.{IfCounted, StopsOver}
 use Rattle.fsfs_turn.specs.Alone.{are_harmless, KnowsAlone}
@@ -99,6 +100,8 @@ held_all before layout (Some t) u opened leaves = (holds, refl)
     holds : HoldsAll u.since t before (revisions u.seen)
     holds = record {
       layout = layout;
+      laid = (were_own layout u.since.files (files_now t) (leaves.own (files_now t) (image_now u.since.operations t.first t.operations (files_now t) (files_are_image t.first t.operations)))).format;
+      lasting = λ m image. (leaves.own m image).1;
       seen = u.seen;
       are = refl;
       moments = λ m image. let w = leaves.moments m image in (w.1, w.4, a_part u.seen w.1 w.0 w.2, omega (arith, w.3, opened), w.5);
@@ -184,7 +187,7 @@ ran_over knows moment js answers youngest (Some t) new opened does = λ h stands
     let s = opened h stands agreeing in
     let v = s.0 in
     let before : v.opened ≡ length v.seen = s.6 ∙ (ap (λ (l : List Revision). length l) (sym s.4) ∙ length-map v.seen (λ (x : Recorded). x.revision)) in
-    subst (λ g. Ran moment (length t.operations + 1) js answers youngest g new) s.4 (subst (λ n. Ran moment n js answers youngest (revisions v.seen) new) s.5 (does v s.1 s.2 before (ap (λ p. are_harmless p.faults) s.3)))
+    subst (λ g. Ran moment (opened_at t.first t.operations) js answers youngest g new) s.4 (subst (λ n. Ran moment n js answers youngest (revisions v.seen) new) s.5 (does v s.1 s.2 before (ap (λ p. are_harmless p.faults) s.3)))
 
 -- so it has the names below the number in `txn-current`
 pub opened_given : (knows : View → Type 0) (old : Option Trace) (least : ℕ) → IfSome old (λ t. (h : List Revision) (stands : StandsFor (files_now t) h) → LeftoversAgree stands → HasSeenAll knows t stands.opened.min_unpacked_rev stands.opened.next_txn.number h)

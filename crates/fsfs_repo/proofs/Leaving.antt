@@ -63,7 +63,7 @@ module _ (v : SeatView) (t : Trace) (met : IsMet v t) where
       (r.0, r.2, past_of (length w.history) w.floor w.history w.lock r.0 (omega arith) store.kept.floor (store.kept.stands r.0 r.1), n.0, n.1)
 
   all_now : (m : Files) → real.IsImage t.first t.operations m → HasPart (length w.history) m
-  all_now m i = has_past (length w.history) m (left_now m i) (met.own m (image_now v.since t.first t.operations m i))
+  all_now m i = has_past (length w.history) m (left_now m i) (met.own m (image_now v.since.operations t.first t.operations m i)).0
 
   pub leaves : Leaves v t
   leaves = record {
@@ -71,8 +71,9 @@ module _ (v : SeatView) (t : Trace) (met : IsMet v t) where
     begins = (drop v.pass.seen w.history, take_drop v.pass.seen w.history ∙ ap (λ l. l ++ drop v.pass.seen w.history) (sym sees.seen));
     least = met.least;
     doubt = doubt w.lock;
-    moments = λ m i. has_past v.opened m (met.safe m i) (met.own m i);
+    moments = λ m i. has_past v.opened m (met.safe m i) (met.own m i).0;
     now = all_now;
+    own = met.own;
     whole = λ m i r x at.
         let g = all_now m i in
         let here : slice_get w.history r ≡ Some x = get_taken v.pass.seen r w.history x (ap (λ l. slice_get l r) (sym sees.seen) ∙ at) in

@@ -1,6 +1,7 @@
 -- What is known of a store that was just opened, and of its first seat.
 use Rattle.std.proofs.Common.{◌≡◌, ℕ, List, [], length, true, false, inr, refl, sym, ap, subst, ◌∙◌, arith}
 use Rattle.std.specs.Prelude.{Option, Some, None, Result, Ok, Err, IfOk, IfErr, IfSome, MatchResult}
+use Rattle.std.specs.FinMap.{empty}
 use Rattle.fsfs_tree.specs.Revisions.{Revision}
 use Rattle.fsfs_layout.specs.Opening.{IsOpened, small_texts}
 use Rattle.fsfs_layout.specs.declared.layout.Layout.{Layout}
@@ -35,7 +36,7 @@ abbrev seat_of : Trace → View → SeatView
 seat_of t v = record { layout = v.layout; since = v.since; opened = v.opened; number = v.number; pass = v.pass; seen = v.seen; section = v.section; sure = false; given = v.given; told = true; hand = Empty; met = Some t; failures = 0; bench_failures = 0; kin = alone }
 
 abbrev untold : Layout → SeatView
-untold layout = record { layout = layout; since = 0; opened = 0; number = 0; pass = first_pass 0 0; seen = []; section = None; sure = false; given = []; told = false; hand = Empty; met = None; failures = 0; bench_failures = 0; kin = alone }
+untold layout = record { layout = layout; since = record { operations = 0; files = empty }; opened = 0; number = 0; pass = first_pass 0 0; seen = []; section = None; sure = false; given = []; told = false; hand = Empty; met = None; failures = 0; bench_failures = 0; kin = alone }
 
 -- who isn't sure knows no more
 unsure : (layout : Layout) (young : ℕ) (t : Trace) (v : View) → Knows layout young None (Some t) v → Knows layout young None (Some t) (record v { sure = false })

@@ -39,7 +39,7 @@ module _ (layout : Layout) (young : ℕ) (stuck : Option DiskPlace) (t : Trace) 
   quiet outside unstuck = ap (λ l. doubt l) (free layout young stuck t known.0.0 v known.0.1 known.0.2 known.0.3 known.0.4 known.0.5 known.0.6 outside unstuck)
 
   -- the same of each moment since the opening, in the middle of a call too
-  pub moment_stands : (m : Files) → ImageSince v.since t.first t.operations m → (d : Option Coming) × (g : List Recorded) × IsPart v.seen d g × (v.opened ≤ length g) × HasHistory layout m g × StandsFor m (revisions g)
+  pub moment_stands : (m : Files) → ImageSince v.since.operations t.first t.operations m → (d : Option Coming) × (g : List Recorded) × IsPart v.seen d g × (v.opened ≤ length g) × HasHistory layout m g × StandsFor m (revisions g)
   moment_stands m image =
       let w = known.0.0 in
       let store = known.0.1 in
@@ -53,13 +53,13 @@ module _ (layout : Layout) (young : ℕ) (stuck : Option DiskPlace) (t : Trace) 
         subst (λ h. IsPart h (doubt w.lock) p.0) all_seen p.3,
         p.2,
         has,
-        files_stand layout w.floor m left.0 p.0 store.whole left.1 left.3 left.4 p.4 has (known.2 m image),
+        files_stand layout w.floor m left.0 p.0 store.whole left.1 left.3 left.4 p.4 has (known.2 m image).0,
       )
 
   pub image_stands : (m : Files) → IsImage t.first t.operations m
       → (d : Option Coming) × (g : List Recorded) × IsPart v.seen d g × (length v.seen ≤ length g) × HasHistory layout m g × StandsFor m (revisions g) × (v.section ≡ None → stuck ≡ None → g ≡ v.seen)
   image_stands m image =
-      let p = part_stands layout young stuck t v known.0 (own_now layout v.since t known.2) m image in (
+      let p = part_stands layout young stuck t v known.0 ((own_now layout v.since t known.2).0) m image in (
         doubt known.0.0.lock,
         p.0,
         subst (λ h. IsPart h (doubt known.0.0.lock) p.0) all_seen p.1,

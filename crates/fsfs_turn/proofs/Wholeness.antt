@@ -12,7 +12,7 @@ use Rattle.fsfs_base.specs.Files.{Files}
 use Rattle.fsfs_layout.specs.declared.layout.Layout.{Layout}
 use Rattle.fsfs_revision.specs.RevBytes.{floor_in}
 use Rattle.fsfs_revision.proofs.FloorLemmas.{floor_is}
-use Rattle.fsfs_disk.specs.Trace.{Operation, ImageSince}
+use Rattle.fsfs_disk.specs.Trace.{Operation, ImageSince, files_now}
 use Rattle.fsfs_disk.specs.Trace as real
 use Rattle.fsfs_machine.specs.declared.contents.FileName.TheVariants.{Current, Props}
 use Rattle.fsfs_machine.specs.declared.contents.Contents.TheVariants.{PropsFile, Number}
@@ -148,5 +148,5 @@ known_from_now layout young stuck t v known =
     now first [] m i = i
     now first (op ∷ ops) m i = ⊎_elim (λ a. a) (λ b. absurd (omega (arith, b.0))) i
 
-    safe : Safe layout (length t.operations) t (length v.seen) known.0.floor known.0.history (doubt known.0.lock)
+    safe : Safe layout (record { operations = length t.operations; files = files_now t }) t (length v.seen) known.0.floor known.0.history (doubt known.0.lock)
     safe m i = past m (now t.first t.operations m i)

@@ -52,7 +52,8 @@ pub record IsAlone (young : ℕ) (stuck : Option DiskPlace) (v : View) : Type 0 
   -- nor was it found so before
   pub found : are_harmless v.pass.faults ≡ true → v.pass.stuck ≡ None
 
--- what the one pass of a store knows; and the files that no turn touches are in their formats, in each image of each moment since the opening
+-- what the one pass of a store knows; and the files that no turn changes are in their formats and have their bytes, in each image of each
+-- moment since the opening
 abbrev pub KnowsAlone : Layout → ℕ → Option DiskPlace → Option Trace → View → Type 0
 KnowsAlone layout young stuck told v = Knows layout young stuck told v × IsAlone young stuck v × OwnFilesLast layout v.since told
 
@@ -68,7 +69,7 @@ AloneAdds = (young now rev : ℕ) (stuck left : Option DiskPlace) (v u : View) (
 -- Each image of each moment since the opening, in the middle of a call too, stands for a first part of what the pass has seen, or for all
 -- that with the revision in doubt; and has all that there was at the opening.
 abbrev pub LoneMomentsStand : Type 0
-LoneMomentsStand = (layout : Layout) (young : ℕ) (stuck : Option DiskPlace) (t : Trace) (v : View) → KnowsAlone layout young stuck (Some t) v → (m : Files) → ImageSince v.since t.first t.operations m
+LoneMomentsStand = (layout : Layout) (young : ℕ) (stuck : Option DiskPlace) (t : Trace) (v : View) → KnowsAlone layout young stuck (Some t) v → (m : Files) → ImageSince v.since.operations t.first t.operations m
     → (d : Option Coming) × (g : List Recorded) × IsPart v.seen d g × (v.opened ≤ length g) × HasHistory layout m g × StandsFor m (revisions g)
 
 -- Each image now stands for what the pass has seen, or for that with the revision in doubt; where the lock isn't stuck and the pass is in

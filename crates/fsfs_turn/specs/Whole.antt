@@ -9,7 +9,7 @@ use Rattle.fsfs_layout.specs.declared.only_file.OnlyFile.TheVariants as only
 use Rattle.fsfs_layout.specs.declared.repository_file.RepositoryFile.TheVariants as file
 use Rattle.fsfs_revision.specs.RevBytes.{rev_bytes}
 use Rattle.fsfs_layout.specs.Hash.Dump.{IsDump}
-use Rattle.fsfs_disk.specs.Trace.{Trace, IsImage, ImageSince}
+use Rattle.fsfs_disk.specs.Trace.{Trace, files_now, IsImage, ImageSince}
 use Rattle.fsfs_base.specs.declared.places.place.DiskPlace.{DiskPlace}
 use Rattle.fsfs_machine.specs.declared.machine.Recorded.{Recorded}
 use Rattle.fsfs_machine.specs.declared.machine.Coming.{Coming}
@@ -55,10 +55,10 @@ pub record HasHistory (layout : Layout) (m : Files) (g : List Recorded) : Type 0
 -- Each image of each moment since the opening, in the middle of a call too, stands for a first part of the history now (which begins
 -- with what the pass has seen), or for the history now with the one revision that `current` may name though it isn't revealed.
 abbrev pub EachMomentStands : Type 0
-EachMomentStands = (layout : Layout) (young : ℕ) (stuck : Option DiskPlace) (t : Trace) (v : View) → Knows layout young stuck (Some t) v → (m : Files) → ImageSince v.since t.first t.operations m
+EachMomentStands = (layout : Layout) (young : ℕ) (stuck : Option DiskPlace) (t : Trace) (v : View) → Knows layout young stuck (Some t) v → (m : Files) → ImageSince v.since.operations t.first t.operations m
     → (h : List Recorded) × (d : Option Coming) × (g : List Recorded) × Begins h v.seen × IsPart h d g × (v.opened ≤ length g) × HasHistory layout m g
 
 -- From any moment on it is known that images have all that the pass has seen by then: what was acknowledged is whole in each image of
 -- each later moment.
 abbrev pub KnownFromNow : Type 0
-KnownFromNow = (layout : Layout) (young : ℕ) (stuck : Option DiskPlace) (t : Trace) (v : View) → Knows layout young stuck (Some t) v → Knows layout young stuck (Some t) (record v { since = length t.operations; opened = length v.seen })
+KnownFromNow = (layout : Layout) (young : ℕ) (stuck : Option DiskPlace) (t : Trace) (v : View) → Knows layout young stuck (Some t) v → Knows layout young stuck (Some t) (record v { since = record { operations = length t.operations; files = files_now t }; opened = length v.seen })

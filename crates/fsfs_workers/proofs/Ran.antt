@@ -5,7 +5,7 @@ use Rattle.std.specs.Prelude.{Option, Some, None, IfSome, is_some, slice_get}
 use Rattle.fsfs_base.specs.Files.{Files}
 use Rattle.fsfs_tree.specs.Dated.{last_of}
 use Rattle.fsfs_disk.specs.Trace.{Trace, IsImage, files_now}
-use Rattle.fsfs_disk.proofs.CrashLemmas.{files_are_image}
+use Rattle.fsfs_disk.proofs.CrashLemmas.{files_are_image, image_now}
 use Rattle.fsfs_stands.specs.Files.{StandsFor}
 use Rattle.fsfs_machine.specs.declared.machine.Recorded.{Recorded}
 use Rattle.fsfs_machine.specs.declared.machine.Coming.{Coming}
@@ -17,6 +17,7 @@ use Rattle.fsfs_turn.specs.Past.{IsPart}
 use Rattle.fsfs_turn.specs.Views.{Begins, Looked}
 use Rattle.fsfs_turn.specs.Whole.{NamesFrom}
 use Rattle.fsfs_turn.proofs.Alone.{same_by_length}
+use Rattle.fsfs_turn.proofs.OwnFiles.{were_own}
 use Rattle.fsfs_pass.specs.declared.seats.seat_view.Kin.{Kin}
 use Rattle.fsfs_pass.specs.declared.seats.seat_view.SeatView.{SeatView}
 use Rattle.fsfs_pass.specs.Seats.{all_parts, alone, look_view, view_of}
@@ -104,6 +105,8 @@ module _ (moment young : ℕ) (js : List Job) (answers : List JobAnswer) (v u : 
   abbrev holds : HoldsAll u.since t (revisions v.seen) (revisions h)
   holds = record {
     layout = u.layout;
+    laid = (were_own u.layout u.since.files (files_now t) (leaves.own (files_now t) (image_now u.since.operations t.first t.operations (files_now t) (files_are_image t.first t.operations)))).format;
+    lasting = λ m image. (leaves.own m image).1;
     seen = h;
     are = refl;
     whole = λ m image r x at. leaves.whole m image r x (ap (λ (l : List Recorded). slice_get l r) (sym all) ∙ at);
