@@ -1,11 +1,12 @@
 -- What a run of a script does to a disk, its input and its output.
-use Rattle.std.specs.Prelude.{◌≡◌, ◌⊎◌, ◌≤◌, ◌+◌, ◌++◌, ◌∷◌, [], ℕ, zero, suc, List, length, Option, Some, IfSome, option_map, Result, Ok, Err, slice_get}
+use Rattle.std.specs.Prelude.{◌≡◌, ◌⊎◌, ◌≤◌, ◌<◌, ◌+◌, ◌++◌, ◌∷◌, [], ℕ, zero, suc, List, length, Option, Some, IfSome, option_map, Result, Ok, Err, slice_get}
 use Rattle.fsfs_base.specs.Failures.{Rose}
 use Rattle.fsfs_base.specs.Files.{Files}
 use Rattle.fsfs_layout.specs.declared.layout.Layout.{Layout}
 use Rattle.fsfs_layout.specs.Opening.{SaysFormat, small_texts}
 use Rattle.fsfs_layout.specs.declared.opened.Opened.{Opened}
 use Rattle.fsfs_layout.specs.declared.small_files.format_file.FormatFile.TheVariants.{Known}
+use Rattle.fsfs_revision.specs.RevBytes.{rev_bytes}
 use Rattle.fsfs_tree.specs.Revisions.{Revision}
 use Rattle.fsfs_disk.specs.Labels.{Label}
 use Rattle.fsfs_disk.specs.Trace.{Trace, FirmNames, FailsAt, ImageSince, IsImage, files_now, labels_now}
@@ -58,14 +59,16 @@ IsPartOf h part = ((rest : List Revision) × (h ≡ part ++ rest)) ⊎ ((next : 
 -- What a crash leaves behind, or in the middle of, a run that came from the history h to this one. Now each image has each revision of it whole, and
 -- `current` names the last of them or a later one; it is a repository that stands for this history, or for it with one revision more. At each
 -- moment since the opening (by the number of the disk's operations before it), in the middle of a call too, it is a repository that stands for
--- a first part of that history with all that was in h, or for the history with one revision more; and its format, its identifier and its floor
--- are those of the files at the opening.
+-- a first part of that history with all that was in h, or for the history with one revision more; its format, its identifier and its floor
+-- are those of the files at the opening, and each revision of h has the bytes that it had there.
 pub record HoldsAll (since : Since) (t : Trace) (h now : List Revision) : Type 0 where
   -- how the files were laid out at the opening, as `db/format` said it
   pub layout : Layout
   pub laid : SaysFormat (small_texts since.files) (Known layout)
   -- that file and the others that say what a repository is are as they were then: so are its format, its identifier and its floor
   pub lasting : (m : Files) → ImageSince since.operations t.first t.operations m → AreLasting since.files m
+  -- each revision that there was has the bytes that it had, packed or not
+  pub bytes : (m : Files) → ImageSince since.operations t.first t.operations m → (r : ℕ) → r < length h → rev_bytes layout m r ≡ rev_bytes layout since.files r
   pub seen : List Recorded
   pub are : revisions seen ≡ now
   pub whole : (m : Files) → IsImage t.first t.operations m → (r : ℕ) (x : Recorded) → slice_get seen r ≡ Some x → HasRevision layout m r x

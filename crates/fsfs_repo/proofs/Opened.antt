@@ -65,7 +65,7 @@ begun layout young stuck (Some t) now firm stands known =
       (
         subst (λ o. IsFirst layout young o (seat_of new k.0)) (sym firm)
             (refl, refl, refl, k.2, refl, refl, unsure layout young new k.0 (subst (λ o. Knows layout young o (Some new) k.0) unstuck all.0), all.1.all, all.2, refl, opened, mine, faults, found, refl),
-        record { told = refl; outside = k.2; since = k.5; opened = opened; stands = subst (λ l. StandsFor (files_now t) l) (sym k.4) stands.1; mine = mine; faults = faults; stuck = found },
+        record { told = refl; outside = k.2; since = k.5; opened = opened; stands = subst (λ l. StandsFor (files_now t) l) (sym k.4) stands.1; bytes = k.8; mine = mine; faults = faults; stuck = found },
       ),
     )
 
@@ -88,7 +88,7 @@ first_laid layout young (Some t) v k = k.6.3
 
 -- behind a look the pass has seen what it had
 sees_on : (t : Trace) (young : ℕ) (met : Option Trace) (v : SeatView) → SeesAll t v → SeesAll t (look_view young met v)
-sees_on t young met v s = record { told = s.told; outside = s.outside; since = s.since; opened = s.opened; stands = s.stands; mine = s.mine; faults = s.faults; stuck = s.stuck }
+sees_on t young met v s = record { told = s.told; outside = s.outside; since = s.since; opened = s.opened; stands = s.stands; bytes = s.bytes; mine = s.mine; faults = s.faults; stuck = s.stuck }
 
 pub all_seen : {X E : Type 0} (r : Result X E) (me : X → SeatView) (young : X → ℕ) (before was : Option Trace) (v : SeatView) → was ≡ before → SeesAllOf was v → IfOk r (λ x. me x ≡ look_view (young x) (me x).met v) → IfSome before (λ t. IfOk r (λ x. SeesAll t (me x)))
 all_seen r me young None was v same sees is = tt

@@ -10,6 +10,7 @@ use Rattle.fsfs_turn.specs.declared.since.Since.{Since}
 use Rattle.fsfs_pass.specs.declared.seats.seat_view.SeatView.{SeatView}
 use Rattle.fsfs_pass.specs.Seats.{IsSitting}
 use Rattle.fsfs_pass.specs.Tells.{TellsIt}
+use Rattle.fsfs_repo.specs.Known.{HoldBytes}
 use Rattle.fsfs_repo.specs.Shared.FirstPass.{SeesAll}
 use Rattle.fsfs_script.specs.declared.job_lines.job.Job.{Job}
 use Rattle.fsfs_jobs.specs.declared.answer.JobAnswer.{JobAnswer}
@@ -42,8 +43,8 @@ module _ (before told : Option Trace) (v : SeatView) (firm : Performs FirmNames 
     outside = λ knows. (sees knows).1.outside;
   }
 
-  pub has_nothing : v.told ≡ true → (v.opened ≡ length v.seen) × (v.pass.mine ≡ []) × (v.pass.faults ≡ [])
-  has_nothing knows = let s = (sees knows).1 in (s.opened, s.mine, s.faults)
+  pub has_nothing : v.told ≡ true → (v.opened ≡ length v.seen) × (v.pass.mine ≡ []) × (v.pass.faults ≡ []) × HoldBytes v.since.files v.seen
+  has_nothing knows = let s = (sees knows).1 in (s.opened, s.mine, s.faults, subst (λ n. HoldBytes n.files v.seen) (sym s.since) s.bytes)
 
 -- ---- what became of them
 

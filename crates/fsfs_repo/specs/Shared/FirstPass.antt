@@ -2,6 +2,7 @@
 use Rattle.std.specs.Prelude.{◌≡◌, [], length, true, Option, Some, None}
 use Rattle.fsfs_disk.specs.Trace.{Trace, files_now}
 use Rattle.fsfs_stands.specs.Files.{StandsFor}
+use Rattle.fsfs_create.specs.Known.{HoldBytes}
 use Rattle.fsfs_machine.specs.Machine.{revisions}
 use Rattle.fsfs_turn.specs.Opening.{opened_at}
 use Rattle.fsfs_pass.specs.declared.seats.seat_view.SeatView.{SeatView}
@@ -14,6 +15,8 @@ pub record SeesAll (t : Trace) (v : SeatView) : Type 0 where
   pub since : v.since ≡ opened_at t.first t.operations
   pub opened : v.opened ≡ length v.seen
   pub stands : StandsFor (files_now t) (revisions v.seen)
+  -- these had the bytes beside each revision
+  pub bytes : HoldBytes (files_now t) v.seen
   pub mine : v.pass.mine ≡ []
   pub faults : v.pass.faults ≡ []
   pub stuck : v.pass.stuck ≡ None
