@@ -15,7 +15,7 @@ use Rattle.fsfs_stands.specs.Files.{StandsFor}
 use Rattle.fsfs_repo.specs.Known.{HasSeenAll, HoldBytes}
 use Rattle.fsfs_job_run.proofs.Bytes.{bytes_stay}
 use Rattle.fsfs_turn.specs.Opening.{LeftoversAgree, given_before, opened_at}
-use Rattle.fsfs_machine.specs.Kept.{IsIn}
+use Rattle.fsfs_machine.specs.Kept.{IsIn, Follows}
 use Rattle.fsfs_script.specs.Errors.{IfReadFault}
 use Rattle.fsfs_script.specs.Whole.{ReadsScript}
 use Rattle.fsfs_script.specs.declared.script_error.ScriptError.{ScriptError}
@@ -91,9 +91,9 @@ did_script moment js answers v u runs =
 
 -- ---- what is told of a run
 
-pub a_part : (h g : List Recorded) (d : Option Coming) → IsPart h d g → IsPartOf (revisions h) (revisions g)
-a_part h g d (inl (more, is)) = inl (revisions more, ap revisions is ∙ map-append (λ (x : Recorded). x.revision) g more)
-a_part h g d (inr (x, is, with)) = inr (x.revision, ap revisions with ∙ map-append (λ (r : Recorded). r.revision) h (recorded x ∷ []))
+pub a_part : (h g : List Recorded) (d : Option Coming) → IfSome d (Follows h) → IsPart h d g → IsPartOf (revisions h) (revisions g)
+a_part h g d follows (inl (more, is)) = inl (revisions more, ap revisions is ∙ map-append (λ (x : Recorded). x.revision) g more)
+a_part h g d follows (inr (x, is, with)) = let f : Follows h x = subst (λ o. IfSome o (Follows h)) is follows in inr (x.revision, x.entry, f.0, f.1, ap revisions with ∙ map-append (λ (r : Recorded). r.revision) h (recorded x ∷ []))
 
 -- `was` are the revisions that there were at the opening
 held_all : (was : List Recorded) (layout : Layout) (told : Option Trace) (u : View) → u.opened ≡ length was → Begins u.seen was → HoldBytes u.since.files was → CrashesLeave layout told u
@@ -115,13 +115,13 @@ held_all was layout (Some t) u opened begins had leaves = (holds, refl)
       bytes = λ m image r less. let w = leaves.moments m image in bytes_stay layout u.since.files m was u.seen w.1 w.0 says had begins w.2 (omega (arith, w.3, opened)) w.4 r (omega (arith, less, long));
       seen = u.seen;
       are = refl;
-      moments = λ m image. let w = leaves.moments m image in (w.1, w.4, a_part u.seen w.1 w.0 w.2, omega (arith, w.3, opened, long), w.5);
+      moments = λ m image. let w = leaves.moments m image in (w.1, w.4, a_part u.seen w.1 w.0 w.6 w.2, omega (arith, w.3, opened, long), w.5);
       whole = leaves.whole;
       stands = λ m image.
           let w = leaves.stands m image in
           let a : length (revisions u.seen) ≡ length u.seen = length-map u.seen (λ (x : Recorded). x.revision) in
           let b : length (revisions w.1) ≡ length w.1 = length-map w.1 (λ (x : Recorded). x.revision) in
-          (revisions w.1, a_part u.seen w.1 w.0 w.2, omega (arith, a, b, w.3), w.4);
+          (revisions w.1, a_part u.seen w.1 w.0 w.5 w.2, omega (arith, a, b, w.3), w.4);
       named = λ m image. subst (NamesFrom m) (sym (length-map u.seen (λ (x : Recorded). x.revision))) (leaves.named m image);
     }
 

@@ -13,6 +13,7 @@ use Rattle.fsfs_disk.specs.Trace.{Trace, FirmNames, FailsAt, ImageSince, IsImage
 use Rattle.fsfs_base.specs.Streams.{Adds}
 use Rattle.fsfs_base.specs.Output.{AddsFront}
 use Rattle.fsfs_stands.specs.Files.{StandsFor}
+use Rattle.fsfs_model.specs.Flat.Transactions.{Entry, IsEntry, IsNext}
 use Rattle.fsfs_repo.specs.OpenFaults.{OpensBecause}
 use Rattle.fsfs_base.specs.declared.places.open_fault.OpenFault.{OpenFault}
 use Rattle.fsfs_machine.specs.declared.machine.Recorded.{Recorded}
@@ -52,9 +53,9 @@ run_scene trace remaining read_faults written write_faults = record { trace = tr
 abbrev pub labels_in : RunScene → Option (List Label)
 labels_in a = option_map labels_now a.trace
 
--- a first part of the history, or the history with one revision more
+-- a first part of the history, or the history with one revision more, which follows it by the landing of an entry: of a transaction over it
 abbrev pub IsPartOf : List Revision → List Revision → Type 0
-IsPartOf h part = ((rest : List Revision) × (h ≡ part ++ rest)) ⊎ ((next : Revision) × (part ≡ h ++ next ∷ []))
+IsPartOf h part = ((rest : List Revision) × (h ≡ part ++ rest)) ⊎ ((next : Revision) × (e : Entry) × IsEntry h e × IsNext h e next × (part ≡ h ++ next ∷ []))
 
 -- What a crash leaves behind, or in the middle of, a run that came from the history h to this one. Now each image has each revision of it whole, and
 -- `current` names the last of them or a later one; it is a repository that stands for this history, or for it with one revision more. At each

@@ -11,6 +11,7 @@ use Rattle.fsfs_images.proofs.Showing.{image_read}
 use Rattle.fsfs_machine.specs.declared.machine.Recorded.{Recorded}
 use Rattle.fsfs_machine.specs.declared.machine.Coming.{Coming}
 use Rattle.fsfs_machine.specs.Machine.{World, stuck_place, recorded, revisions}
+use Rattle.fsfs_machine.specs.Kept.{Follows}
 use Rattle.fsfs_machine.proofs.Growing.{got_before}
 use Rattle.fsfs_turn.specs.Found.{get_taken, seen_within}
 use Rattle.fsfs_turn.specs.Past.{doubt, IsPart, WasLeft}
@@ -22,7 +23,7 @@ use Rattle.fsfs_turn.proofs.Alone.{same_by_length}
 use Rattle.fsfs_turn.proofs.Moments.{numbers, past_of}
 use Rattle.fsfs_turn.proofs.Standings.{files_stand}
 use Rattle.fsfs_turn.proofs.Stepping.{take_drop}
-use Rattle.fsfs_turn.proofs.Wholeness.{has_history, part_shown}
+use Rattle.fsfs_turn.proofs.Wholeness.{has_history, part_shown, if_doubtful}
 use Rattle.fsfs_pass.specs.declared.seats.seat_view.SeatView.{SeatView}
 use Rattle.fsfs_pass.specs.Seats.{view_of}
 use Rattle.fsfs_pass.specs.Tells.{IsMet}
@@ -71,6 +72,7 @@ module _ (v : SeatView) (t : Trace) (met : IsMet v t) where
     begins = (drop v.pass.seen w.history, take_drop v.pass.seen w.history ∙ ap (λ l. l ++ drop v.pass.seen w.history) (sym sees.seen));
     least = met.least;
     doubt = doubt w.lock;
+    follows = if_doubtful (Follows w.history) w.lock store.kept.next;
     moments = λ m i. has_past v.opened m (met.safe m i) (met.own m i).0;
     now = all_now;
     own = met.own;

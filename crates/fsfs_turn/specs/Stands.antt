@@ -15,6 +15,7 @@ use Rattle.fsfs_stands.specs.Files.{StandsFor}
 use Rattle.fsfs_machine.specs.declared.machine.Recorded.{Recorded}
 use Rattle.fsfs_machine.specs.declared.machine.Coming.{Coming}
 use Rattle.fsfs_machine.specs.Machine.{revisions}
+use Rattle.fsfs_machine.specs.Kept.{Follows}
 use Rattle.fsfs_turn.specs.declared.since.Since.{Since}
 use Rattle.fsfs_turn.specs.Past.{IsPart}
 use Rattle.fsfs_turn.specs.Views.{View, Begins}
@@ -48,8 +49,8 @@ abbrev pub OwnFilesLast : Layout → Since → Option Trace → Type 0
 OwnFilesLast layout since told = IfSome told (λ t. (m : Files) → ImageSince since.operations t.first t.operations m → KeepsOwnFiles layout since.files m)
 
 -- Each image now stands for a first part of the history (which begins with what the pass has seen) that has at least all that the pass
--- has seen, or for the history with the revision in doubt.
+-- has seen, or for the history with the revision in doubt, which follows it by the landing of an entry.
 abbrev pub ImagesStand : Type 0
 ImagesStand = (layout : Layout) (young : ℕ) (stuck : Option DiskPlace) (t : Trace) (v : View) → Knows layout young stuck (Some t) v → HasOwnFiles (files_now t) layout
     → (m : Files) → IsImage t.first t.operations m
-    → (h : List Recorded) × (d : Option Coming) × (g : List Recorded) × Begins h v.seen × IsPart h d g × (length v.seen ≤ length g) × StandsFor m (revisions g)
+    → (h : List Recorded) × (d : Option Coming) × (g : List Recorded) × Begins h v.seen × IsPart h d g × (length v.seen ≤ length g) × StandsFor m (revisions g) × IfSome d (Follows h)

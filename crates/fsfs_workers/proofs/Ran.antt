@@ -128,8 +128,8 @@ module _ (moment young : ℕ) (js : List Job) (answers : List JobAnswer) (v u : 
         let p = leaves.now m image in
         let a = revisions_length h in
         let b = revisions_length p.0 in
-        (revisions p.0, a_part h p.0 leaves.doubt p.1, omega (arith, a, b, p.2), p.4);
-    moments = λ m image. let p = leaves.moments m image in (p.0, p.3, a_part h p.0 leaves.doubt p.1, omega (arith, p.2, since_then), p.4);
+        (revisions p.0, a_part h p.0 leaves.doubt leaves.follows p.1, omega (arith, a, b, p.2), p.4);
+    moments = λ m image. let p = leaves.moments m image in (p.0, p.3, a_part h p.0 leaves.doubt leaves.follows p.1, omega (arith, p.2, since_then), p.4);
   }
 
   held : (all : HoldsAll v.since t (revisions v.seen) (revisions h)) × (all.seen ≡ h)

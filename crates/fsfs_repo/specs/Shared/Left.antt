@@ -1,12 +1,12 @@
 -- What a shared repository leaves when it is closed.
-use Rattle.std.specs.Prelude.{◌≡◌, ◌≤◌, ◌<◌, ℕ, List, length, true, Option, Some, None, slice_get}
+use Rattle.std.specs.Prelude.{◌≡◌, ◌≤◌, ◌<◌, ℕ, List, length, true, Option, Some, None, IfSome, slice_get}
 use Rattle.fsfs_base.specs.Files.{Files}
 use Rattle.fsfs_disk.specs.Trace.{Trace, IsImage, ImageSince}
 use Rattle.fsfs_stands.specs.Files.{StandsFor}
 use Rattle.fsfs_machine.specs.declared.machine.Recorded.{Recorded}
 use Rattle.fsfs_machine.specs.declared.machine.Coming.{Coming}
 use Rattle.fsfs_machine.specs.Machine.{revisions}
-use Rattle.fsfs_machine.specs.Kept.{IsIn, AreOnce}
+use Rattle.fsfs_machine.specs.Kept.{IsIn, AreOnce, Follows}
 use Rattle.fsfs_turn.specs.Alone.{are_harmless}
 use Rattle.fsfs_turn.specs.Past.{IsPart}
 use Rattle.fsfs_turn.specs.Stands.{KeepsOwnFiles}
@@ -25,6 +25,8 @@ pub record Leaves (v : SeatView) (t : Trace) : Type 0 where
   -- the last that it was told of is in it
   pub least : v.pass.least < length history
   pub doubt : Option Coming
+  -- that follows the history by the landing of an entry
+  pub follows : IfSome doubt (Follows history)
   pub moments : (m : Files) → ImageSince v.since.operations t.first t.operations m → (g : List Recorded) × IsPart history doubt g × (v.opened ≤ length g) × HasHistory v.layout m g × StandsFor m (revisions g)
   pub now : (m : Files) → IsImage t.first t.operations m → (g : List Recorded) × IsPart history doubt g × (length history ≤ length g) × HasHistory v.layout m g × StandsFor m (revisions g)
   -- each of all these has the files that no turn changes, in their formats and with the bytes that they had at the opening
