@@ -1,6 +1,6 @@
 -- What the laws of turns say of a store that was just opened.
 use Rattle.std.proofs.Common.{◌≡◌, ℕ, List, ◌∷◌, length, ap, sym, subst, arith}
-use Rattle.std.specs.Prelude.{Option, Some, None, IfSome, Ok, slice_get}
+use Rattle.std.specs.Prelude.{Option, Some, None, IfSome, Ok}
 use Rattle.fsfs_tree.specs.Revisions.{Revision}
 use Rattle.fsfs_layout.specs.Opening.{small_texts, IsOpened, SaysFormat}
 use Rattle.fsfs_layout.specs.declared.layout.Layout.{Layout}
