@@ -14,6 +14,7 @@ use Rattle.fsfs_repo.specs.OpenFaults.{OpensBecause}
 use Rattle.fsfs_stands.specs.Files.{StandsFor}
 use Rattle.fsfs_repo.specs.Known.{HasSeenAll, HoldBytes}
 use Rattle.fsfs_job_run.proofs.Bytes.{bytes_stay}
+use Rattle.fsfs_turn.specs.declared.since.Since.{Since}
 use Rattle.fsfs_turn.specs.Opening.{LeftoversAgree, given_before, opened_at}
 use Rattle.fsfs_machine.specs.Kept.{IsIn, Follows}
 use Rattle.fsfs_script.specs.Errors.{IfReadFault}
@@ -141,7 +142,7 @@ ran moment js answers youngest v u layout told opened had few none stuck runs la
       did = did_script moment js answers v u runs;
       last = length-map u.seen (λ (x : Recorded). x.revision) ∙ last;
       held = subst (λ n. IfSome told (λ t. (all : HoldsAll n t (revisions v.seen) (revisions u.seen)) × (all.seen ≡ u.seen))) grown.since
-          (held_all v.seen layout told u (grown.opened ∙ opened) grown.begins (subst (λ n. HoldBytes n.files v.seen) (sym grown.since) had) leaves);
+          (held_all v.seen layout told u (grown.opened ∙ opened) grown.begins (subst (λ (n : Since). HoldBytes n.files v.seen) (sym grown.since) had) leaves);
       stuck = stuck;
       certain = λ calm. stands_all layout told u none (grown.doubtless calm few) leaves;
     }
@@ -198,7 +199,7 @@ ran_over knows moment js answers youngest (Some t) new opened does = λ h stands
     let s = opened h stands agreeing in
     let v = s.0 in
     let before : v.opened ≡ length v.seen = s.6 ∙ (ap (λ (l : List Revision). length l) (sym s.4) ∙ length-map v.seen (λ (x : Recorded). x.revision)) in
-    subst (λ g. Ran moment (opened_at t.first t.operations) js answers youngest g new) s.4 (subst (λ n. Ran moment n js answers youngest (revisions v.seen) new) s.5 (does v s.1 s.2 before (subst (λ n. HoldBytes n.files v.seen) (sym s.5) s.8) (ap (λ p. are_harmless p.faults) s.3)))
+    subst (λ g. Ran moment (opened_at t.first t.operations) js answers youngest g new) s.4 (subst (λ n. Ran moment n js answers youngest (revisions v.seen) new) s.5 (does v s.1 s.2 before (subst (λ (n : Since). HoldBytes n.files v.seen) (sym s.5) s.8) (ap (λ p. are_harmless p.faults) s.3)))
 
 -- so it has the names below the number in `txn-current`
 pub opened_given : (knows : View → Type 0) (old : Option Trace) (least : ℕ) → IfSome old (λ t. (h : List Revision) (stands : StandsFor (files_now t) h) → LeftoversAgree stands → HasSeenAll knows t stands.opened.min_unpacked_rev stands.opened.next_txn.number h)

@@ -44,7 +44,7 @@ module _ (before told : Option Trace) (v : SeatView) (firm : Performs FirmNames 
   }
 
   pub has_nothing : v.told ≡ true → (v.opened ≡ length v.seen) × (v.pass.mine ≡ []) × (v.pass.faults ≡ []) × HoldBytes v.since.files v.seen
-  has_nothing knows = let s = (sees knows).1 in (s.opened, s.mine, s.faults, subst (λ n. HoldBytes n.files v.seen) (sym s.since) s.bytes)
+  has_nothing knows = let s = (sees knows).1 in (s.opened, s.mine, s.faults, subst (λ (n : Since). HoldBytes n.files v.seen) (sym s.since) s.bytes)
 
 -- ---- what became of them
 

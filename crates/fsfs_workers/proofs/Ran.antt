@@ -14,6 +14,7 @@ use Rattle.fsfs_machine.specs.declared.machine.Coming.{Coming}
 use Rattle.fsfs_machine.specs.Kept.{IsIn, AreOnce}
 use Rattle.fsfs_machine.specs.Machine.{revisions}
 use Rattle.fsfs_machine.proofs.Growing.{revisions_length}
+use Rattle.fsfs_turn.specs.declared.since.Since.{Since}
 use Rattle.fsfs_turn.specs.Alone.{are_harmless}
 use Rattle.fsfs_turn.specs.Past.{IsPart}
 use Rattle.fsfs_turn.specs.Views.{Begins, Looked}
@@ -119,7 +120,7 @@ module _ (moment young : ℕ) (js : List Job) (answers : List JobAnswer) (v u : 
     lasting = λ m image. (leaves.own m image).1;
     bytes = λ m image r less.
         let p = leaves.moments m image in
-        bytes_stay u.layout u.since.files m v.seen h p.0 leaves.doubt says (subst (λ n. HoldBytes n.files v.seen) (sym both.since) had) (begins_on h u.seen v.seen begins both.grows) p.1 (omega (arith, p.2, since_then, was_long)) p.3 r (omega (arith, less, was_long));
+        bytes_stay u.layout u.since.files m v.seen h p.0 leaves.doubt says (subst (λ (n : Since). HoldBytes n.files v.seen) (sym both.since) had) (begins_on h u.seen v.seen begins both.grows) p.1 (omega (arith, p.2, since_then, was_long)) p.3 r (omega (arith, less, was_long));
     seen = h;
     are = refl;
     whole = λ m image r x at. leaves.whole m image r x (ap (λ (l : List Recorded). slice_get l r) (sym all) ∙ at);
