@@ -30,4 +30,5 @@ pub mod Seen
 pub mod Listing
 pub mod BenchCauses
 pub mod Unopened
+pub mod Bytes
 pub mod RunLemmas
