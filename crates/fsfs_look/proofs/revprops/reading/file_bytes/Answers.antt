@@ -1,10 +1,11 @@
-use Rattle.std.proofs.Common.{◌≡◌, ◌<◌, ℕ, List, length, arith}
+use Rattle.std.proofs.Common.{ℕ, List, length, drop, subst, arith}
 use Rattle.std.specs.declared.vec.Vec.{Vec}
 use Rattle.std.specs.declared.alloc.Global.{Global}
 use Rattle.std.proofs.lemmas.Result.{err_from_is_err_and}
-use Rattle.std.proofs.lemmas.Grind.{common_steps}
+use Rattle.fsfs_base.specs.Grammar.Relations.{GoesOn}
+use Rattle.fsfs_layout.specs.Hash.Dump.{IsDump}
 use Rattle.fsfs_revision.proofs.Keeping.{keeps_trans}
-use Rattle.fsfs_look.proofs.RevpropsFileLemmas.{file_read, file_wrong}
+use Rattle.fsfs_look.proofs.RevpropsFileLemmas.{file_wrong, front_read}
 use Rattle.fsfs_look.proofs.revprops.reading.file_bytes.Goals as goal
 
 abbrev items : Vec ℕ Global → List ℕ
@@ -26,3 +27,8 @@ loop-preserved g c =
       kept = keeps_trans _ _ _ inv.kept c.in_ok-count.ensures.kept;
       later = omega (arith, inv.later, c.in_ok-count.ensures.cause.later);
     }
+
+pub returns-then-leave_form-clause-read : goal.returns-then-leave_form-clause-read
+returns-then-leave_form-clause-read g c =
+    front_read (g.B.RevProps.may_read c.args.book.now) (g.B.RevProps.may_read c.loop.book) c.loop.invariant.fewer c.args.rev _ c.look.new.buffer (drop (length c.look.new.buffer) c.in_ok-bytes.bytes.items) c.in_ok-bytes.bytes.len c.in_ok-count.count
+    c.in_ok-count.ensures.read (grind (arith, c.deref_mut.ensures.len)) (grind (arith, c.in_ok-bytes.ensures.len, c.if-count-size.false)) c.in_ok-count.ensures.bound (subst (λ (b : List ℕ). ¬ GoesOn IsDump b) c.deref.ensures.value (c.leave_form.ensures c.if-leave_form.true))
