@@ -31,4 +31,5 @@ pub mod Listing
 pub mod BenchCauses
 pub mod Full
 pub mod Unopened
+pub mod Bytes
 pub mod RunLemmas

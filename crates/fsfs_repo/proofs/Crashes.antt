@@ -13,8 +13,9 @@ pub survives : (layout : Layout) (young : ℕ) (stuck : Option DiskPlace) (told 
 survives layout young stuck None v known = tt
 survives layout young stuck (Some t) v known = record {
   moments = λ m image. moment_stands layout young stuck t v known m image;
+  own = known.2;
   whole = λ m image r x at. (seen_is_whole layout young stuck t v known.0 m image).0 r x at;
   named = λ m image. (seen_is_whole layout young stuck t v known.0 m image).1;
-  stands = λ m image. let s = image_stands layout young stuck t v known m image in (s.0, s.1, s.2, s.3, s.5);
+  stands = λ m image. let s = image_stands layout young stuck t v known m image in (s.0, s.1, s.2, s.3, s.5, s.7);
   doubtless = λ outside harmless m image. ((nothing_in_doubt layout young stuck t v known outside harmless).1 m image).1;
 }

@@ -1,6 +1,6 @@
 -- Each image of a store whose pass is alone stands for what the pass has seen, but for a revision in doubt.
 use Rattle.std.proofs.Common.{◌≡◌, ◌<◌, ◌≤◌, ◌+◌, ◌++◌, ℕ, List, length, ⊎_elim, sym, ap, subst, ◌∙◌, arith, drop}
-use Rattle.std.specs.Prelude.{Option, Some, None}
+use Rattle.std.specs.Prelude.{Option, Some, None, IfSome}
 use Rattle.fsfs_base.specs.Files.{Files}
 use Rattle.fsfs_layout.specs.declared.layout.Layout.{Layout}
 use Rattle.fsfs_disk.specs.Trace.{Trace, IsImage, ImageSince}
@@ -9,13 +9,14 @@ use Rattle.fsfs_base.specs.declared.places.place.DiskPlace.{DiskPlace}
 use Rattle.fsfs_machine.specs.declared.machine.Recorded.{Recorded}
 use Rattle.fsfs_machine.specs.declared.machine.Coming.{Coming}
 use Rattle.fsfs_machine.specs.Machine.{revisions}
+use Rattle.fsfs_machine.specs.Kept.{Follows}
 use Rattle.fsfs_turn.specs.Past.{doubt, IsPart}
 use Rattle.fsfs_turn.specs.Views.{View}
 use Rattle.fsfs_turn.specs.Whole.{HasHistory}
 use Rattle.fsfs_turn.specs.Alone.{KnowsAlone, LoneMomentsStand, LoneImagesStand, NothingInDoubt}
 use Rattle.fsfs_turn.proofs.Stepping.{take_drop}
 use Rattle.fsfs_turn.proofs.Locking.{free}
-use Rattle.fsfs_turn.proofs.Wholeness.{has_history, part_shown}
+use Rattle.fsfs_turn.proofs.Wholeness.{has_history, part_shown, if_doubtful}
 use Rattle.fsfs_turn.proofs.OwnFiles.{own_now}
 use Rattle.fsfs_turn.proofs.Standings.{files_stand, part_stands}
 use Rattle.fsfs_turn.proofs.Alone.{same_by_length}
@@ -31,6 +32,10 @@ module _ (layout : Layout) (young : ℕ) (stuck : Option DiskPlace) (t : Trace) 
   pub all_seen : known.0.0.history ≡ v.seen
   all_seen = same_by_length v.seen known.0.0.history (drop v.pass.seen known.0.0.history, take_drop v.pass.seen known.0.0.history ∙ ap (λ l. l ++ drop v.pass.seen known.0.0.history) (sym known.0.2.seen)) (omega (arith, long))
 
+  -- the revision in doubt follows it
+  follows : IfSome (doubt known.0.0.lock) (Follows v.seen)
+  follows = subst (λ h. IfSome (doubt known.0.0.lock) (Follows h)) all_seen (if_doubtful (Follows known.0.0.history) known.0.0.lock known.0.1.kept.next)
+
   -- a part that has all of it, where there is no doubt
   all_of_it : (h g : List Recorded) (d : Option Coming) → d ≡ None → IsPart h d g → length h ≤ length g → g ≡ h
   all_of_it h g d is part le = ⊎_elim (λ b. sym (same_by_length g h b le)) (λ y. absurd (some_is_none y.0 (sym is ∙ y.1))) part
@@ -39,7 +44,7 @@ module _ (layout : Layout) (young : ℕ) (stuck : Option DiskPlace) (t : Trace) 
   quiet outside unstuck = ap (λ l. doubt l) (free layout young stuck t known.0.0 v known.0.1 known.0.2 known.0.3 known.0.4 known.0.5 known.0.6 outside unstuck)
 
   -- the same of each moment since the opening, in the middle of a call too
-  pub moment_stands : (m : Files) → ImageSince v.since t.first t.operations m → (d : Option Coming) × (g : List Recorded) × IsPart v.seen d g × (v.opened ≤ length g) × HasHistory layout m g × StandsFor m (revisions g)
+  pub moment_stands : (m : Files) → ImageSince v.since.operations t.first t.operations m → (d : Option Coming) × (g : List Recorded) × IsPart v.seen d g × (v.opened ≤ length g) × HasHistory layout m g × StandsFor m (revisions g) × IfSome d (Follows v.seen)
   moment_stands m image =
       let w = known.0.0 in
       let store = known.0.1 in
@@ -53,13 +58,14 @@ module _ (layout : Layout) (young : ℕ) (stuck : Option DiskPlace) (t : Trace) 
         subst (λ h. IsPart h (doubt w.lock) p.0) all_seen p.3,
         p.2,
         has,
-        files_stand layout w.floor m left.0 p.0 store.whole left.1 left.3 left.4 p.4 has (known.2 m image),
+        files_stand layout w.floor m left.0 p.0 store.whole left.1 left.3 left.4 p.4 has (known.2 m image).0,
+        follows,
       )
 
   pub image_stands : (m : Files) → IsImage t.first t.operations m
-      → (d : Option Coming) × (g : List Recorded) × IsPart v.seen d g × (length v.seen ≤ length g) × HasHistory layout m g × StandsFor m (revisions g) × (v.section ≡ None → stuck ≡ None → g ≡ v.seen)
+      → (d : Option Coming) × (g : List Recorded) × IsPart v.seen d g × (length v.seen ≤ length g) × HasHistory layout m g × StandsFor m (revisions g) × (v.section ≡ None → stuck ≡ None → g ≡ v.seen) × IfSome d (Follows v.seen)
   image_stands m image =
-      let p = part_stands layout young stuck t v known.0 (own_now layout v.since t known.2) m image in (
+      let p = part_stands layout young stuck t v known.0 ((own_now layout v.since t known.2).0) m image in (
         doubt known.0.0.lock,
         p.0,
         subst (λ h. IsPart h (doubt known.0.0.lock) p.0) all_seen p.1,
@@ -67,6 +73,7 @@ module _ (layout : Layout) (young : ℕ) (stuck : Option DiskPlace) (t : Trace) 
         p.3,
         p.4,
         λ outside unstuck. all_of_it known.0.0.history p.0 (doubt known.0.0.lock) (quiet outside unstuck) p.1 p.2 ∙ all_seen,
+        follows,
       )
 
 pub lone_moments_stand : LoneMomentsStand

@@ -1,5 +1,5 @@
 -- The one pass of an owned store is alone: nobody else adds a revision, and nobody else leaves the lock stuck.
-use Rattle.std.specs.Prelude.{◌≡◌, ◌+◌, ◌≤◌, if◌then◌else◌, ℕ, List, [], ◌∷◌, ◌++◌, length, Bool, true, false, Option, Some, None}
+use Rattle.std.specs.Prelude.{◌≡◌, ◌+◌, ◌≤◌, if◌then◌else◌, ℕ, List, [], ◌∷◌, ◌++◌, length, Bool, true, false, Option, Some, None, IfSome}
 use Rattle.fsfs_base.specs.Files.{Files}
 use Rattle.fsfs_layout.specs.declared.layout.Layout.{Layout}
 use Rattle.fsfs_disk.specs.Trace.{Trace, IsImage, ImageSince}
@@ -12,6 +12,7 @@ use Rattle.fsfs_machine.specs.declared.machine.Coming.{Coming}
 use Rattle.fsfs_machine.specs.declared.machine.Section.{Section}
 use Rattle.fsfs_machine.specs.declared.machine.Section.TheVariants.{Doubtful}
 use Rattle.fsfs_machine.specs.Machine.{revisions}
+use Rattle.fsfs_machine.specs.Kept.{Follows}
 use Rattle.fsfs_turn.specs.Past.{IsPart}
 use Rattle.fsfs_turn.specs.Views.{View, Begins}
 use Rattle.fsfs_turn.specs.Standing.{Knows}
@@ -52,7 +53,8 @@ pub record IsAlone (young : ℕ) (stuck : Option DiskPlace) (v : View) : Type 0 
   -- nor was it found so before
   pub found : are_harmless v.pass.faults ≡ true → v.pass.stuck ≡ None
 
--- what the one pass of a store knows; and the files that no turn touches are in their formats, in each image of each moment since the opening
+-- what the one pass of a store knows; and the files that no turn changes are in their formats and have their bytes, in each image of each
+-- moment since the opening
 abbrev pub KnowsAlone : Layout → ℕ → Option DiskPlace → Option Trace → View → Type 0
 KnowsAlone layout young stuck told v = Knows layout young stuck told v × IsAlone young stuck v × OwnFilesLast layout v.since told
 
@@ -66,16 +68,16 @@ AloneAdds = (young now rev : ℕ) (stuck left : Option DiskPlace) (v u : View) (
     → (before ≡ v.seen) × (now ≡ young + 1)
 
 -- Each image of each moment since the opening, in the middle of a call too, stands for a first part of what the pass has seen, or for all
--- that with the revision in doubt; and has all that there was at the opening.
+-- that with the revision in doubt, which follows it by the landing of an entry; and has all that there was at the opening.
 abbrev pub LoneMomentsStand : Type 0
-LoneMomentsStand = (layout : Layout) (young : ℕ) (stuck : Option DiskPlace) (t : Trace) (v : View) → KnowsAlone layout young stuck (Some t) v → (m : Files) → ImageSince v.since t.first t.operations m
-    → (d : Option Coming) × (g : List Recorded) × IsPart v.seen d g × (v.opened ≤ length g) × HasHistory layout m g × StandsFor m (revisions g)
+LoneMomentsStand = (layout : Layout) (young : ℕ) (stuck : Option DiskPlace) (t : Trace) (v : View) → KnowsAlone layout young stuck (Some t) v → (m : Files) → ImageSince v.since.operations t.first t.operations m
+    → (d : Option Coming) × (g : List Recorded) × IsPart v.seen d g × (v.opened ≤ length g) × HasHistory layout m g × StandsFor m (revisions g) × IfSome d (Follows v.seen)
 
--- Each image now stands for what the pass has seen, or for that with the revision in doubt; where the lock isn't stuck and the pass is in
+-- Each image now stands for what the pass has seen, or for that with the revision in doubt, which follows it; where the lock isn't stuck and the pass is in
 -- no section, for what it has seen.
 abbrev pub LoneImagesStand : Type 0
 LoneImagesStand = (layout : Layout) (young : ℕ) (stuck : Option DiskPlace) (t : Trace) (v : View) → KnowsAlone layout young stuck (Some t) v → (m : Files) → IsImage t.first t.operations m
-    → (d : Option Coming) × (g : List Recorded) × IsPart v.seen d g × (length v.seen ≤ length g) × HasHistory layout m g × StandsFor m (revisions g) × (v.section ≡ None → stuck ≡ None → g ≡ v.seen)
+    → (d : Option Coming) × (g : List Recorded) × IsPart v.seen d g × (length v.seen ≤ length g) × HasHistory layout m g × StandsFor m (revisions g) × (v.section ≡ None → stuck ≡ None → g ≡ v.seen) × IfSome d (Follows v.seen)
 
 -- So it is where none of the pass's faults left a revision in doubt: then the lock isn't stuck.
 abbrev pub NothingInDoubt : Type 0
