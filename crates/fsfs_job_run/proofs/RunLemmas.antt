@@ -1,7 +1,7 @@
 -- A run of jobs over what a pass has seen is one over histories.
 use Rattle.std.proofs.Common.{◌≡◌, ◌⊎◌, ◌+◌, ℕ, zero, suc, List, [], ◌∷◌, length, true, refl, sym, ap, subst, ◌∙◌, length-append, append-nil, take, inl, inr, arith}
 use Rattle.std.proofs.lemmas.List.{map-append, length-map, take_at}
-use Rattle.std.specs.Prelude.{Option, Some, None, IfSome, Result, Err}
+use Rattle.std.specs.Prelude.{Option, Some, None, IfSome, option_map, Result, Err}
 use Rattle.fsfs_base.specs.Failures.{Rose}
 use Rattle.fsfs_layout.specs.Opening.{SaysFormat, small_texts}
 use Rattle.fsfs_layout.specs.declared.layout.Layout.{Layout}
@@ -47,7 +47,7 @@ use Rattle.fsfs_job_run.proofs.Unopened.{does_not_open}
 use Rattle.fsfs_job_run.specs.Openings.{OpensAs}
 use Rattle.fsfs_job_run.specs.Workers.Lines.{disk_faults_in, RoseBy}
 use Rattle.fsfs_job_run.specs.Histories.{EndsJob, EndJobs, DidScript}
-use Rattle.fsfs_job_run.specs.Runs.{AllStandFor, HoldsAll, IsNextName, IsPartOf, Ran, RanOver, RunScene, RunsScript, NotOpened, NotRead, NoRoom, Done}
+use Rattle.fsfs_job_run.specs.Runs.{AllStandFor, FollowsHistory, HoldsAll, IsNextName, IsPartOf, Ran, RanOver, RunScene, RunsScript, NotOpened, NotRead, NoRoom, Done}
 
 stays : (job : Job) (answer : JobAnswer) (h now : List Recorded) → Fails job answer → AddsBy answer h now → now ≡ h
 stays _ _ h now (ByDisk job line at) same = same
@@ -93,9 +93,17 @@ did_script moment js answers v u runs =
 
 -- ---- what is told of a run
 
-pub a_part : (h g : List Recorded) (d : Option Coming) → IfSome d (Follows h) → IsPart h d g → IsPartOf (revisions h) (revisions g)
-a_part h g d follows (inl (more, is)) = inl (revisions more, ap revisions is ∙ map-append (λ (x : Recorded). x.revision) g more)
-a_part h g d follows (inr (x, is, with)) = let f : Follows h x = subst (λ o. IfSome o (Follows h)) is follows in inr (x.revision, x.entry, f.0, f.1, ap revisions with ∙ map-append (λ (r : Recorded). r.revision) h (recorded x ∷ []))
+-- the revision in doubt, without its bytes
+abbrev pub doubt_of : Option Coming → Option Revision
+doubt_of d = option_map (λ (x : Coming). x.revision) d
+
+pub doubt_follows : (h : List Recorded) (d : Option Coming) → IfSome d (Follows h) → IfSome (doubt_of d) (FollowsHistory (revisions h))
+doubt_follows h None f = tt
+doubt_follows h (Some x) f = (x.entry, f.0, f.1)
+
+pub a_part : (h g : List Recorded) (d : Option Coming) → IsPart h d g → IsPartOf (revisions h) (doubt_of d) (revisions g)
+a_part h g d (inl (more, is)) = inl (revisions more, ap revisions is ∙ map-append (λ (x : Recorded). x.revision) g more)
+a_part h g d (inr (x, is, with)) = inr (x.revision, ap doubt_of is, ap revisions with ∙ map-append (λ (r : Recorded). r.revision) h (recorded x ∷ []))
 
 -- `was` are the revisions that there were at the opening
 held_all : (was : List Recorded) (layout : Layout) (told : Option Trace) (u : View) → u.opened ≡ length was → Begins u.seen was → HoldBytes u.since.files was → CrashesLeave layout told u
@@ -114,16 +122,18 @@ held_all was layout (Some t) u opened begins had leaves = (holds, refl)
       layout = layout;
       laid = says;
       lasting = λ m image. (leaves.own m image).1;
-      bytes = λ m image r less. let w = leaves.moments m image in bytes_stay layout u.since.files m was u.seen w.1 w.0 says had begins w.2 (omega (arith, w.3, opened)) w.4 r (omega (arith, less, long));
+      bytes = λ m image r less. let w = leaves.moments m image in bytes_stay layout u.since.files m was u.seen w.0 leaves.doubt says had begins w.1 (omega (arith, w.2, opened)) w.3 r (omega (arith, less, long));
       seen = u.seen;
       are = refl;
-      moments = λ m image. let w = leaves.moments m image in (w.1, w.4, a_part u.seen w.1 w.0 w.6 w.2, omega (arith, w.3, opened, long), w.5);
+      moments = λ m image. let w = leaves.moments m image in (w.0, w.3, a_part u.seen w.0 leaves.doubt w.1, omega (arith, w.2, opened, long), w.4);
+      doubt = doubt_of leaves.doubt;
+      follows = doubt_follows u.seen leaves.doubt leaves.follows;
       whole = leaves.whole;
       stands = λ m image.
           let w = leaves.stands m image in
           let a : length (revisions u.seen) ≡ length u.seen = length-map u.seen (λ (x : Recorded). x.revision) in
-          let b : length (revisions w.1) ≡ length w.1 = length-map w.1 (λ (x : Recorded). x.revision) in
-          (revisions w.1, a_part u.seen w.1 w.0 w.5 w.2, omega (arith, a, b, w.3), w.4);
+          let b : length (revisions w.0) ≡ length w.0 = length-map w.0 (λ (x : Recorded). x.revision) in
+          (revisions w.0, a_part u.seen w.0 leaves.doubt w.1, omega (arith, a, b, w.2), w.3);
       named = λ m image. subst (NamesFrom m) (sym (length-map u.seen (λ (x : Recorded). x.revision))) (leaves.named m image);
     }
 

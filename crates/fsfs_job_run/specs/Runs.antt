@@ -54,14 +54,18 @@ run_scene trace remaining read_faults written write_faults = record { trace = tr
 abbrev pub labels_in : RunScene → Option (List Label)
 labels_in a = option_map labels_now a.trace
 
--- a first part of the history, or the history with one revision more, which follows it by the landing of an entry: of a transaction over it
-abbrev pub IsPartOf : List Revision → List Revision → Type 0
-IsPartOf h part = ((rest : List Revision) × (h ≡ part ++ rest)) ⊎ ((next : Revision) × (e : Entry) × IsEntry h e × IsNext h e next × (part ≡ h ++ next ∷ []))
+-- a first part of the history, or the history with the revision in doubt
+abbrev pub IsPartOf : List Revision → Option Revision → List Revision → Type 0
+IsPartOf h doubt part = ((rest : List Revision) × (h ≡ part ++ rest)) ⊎ ((next : Revision) × (doubt ≡ Some next) × (part ≡ h ++ next ∷ []))
+
+-- the revision follows the history by the landing of an entry: of a transaction over it
+abbrev pub FollowsHistory : List Revision → Revision → Type 0
+FollowsHistory h next = (e : Entry) × IsEntry h e × IsNext h e next
 
 -- What a crash leaves behind, or in the middle of, a run that came from the history h to this one. Now each image has each revision of it whole, and
--- `current` names the last of them or a later one; it is a repository that stands for this history, or for it with one revision more. At each
+-- `current` names the last of them or a later one; it is a repository that stands for this history, or for it with the revision in doubt. At each
 -- moment since the opening (by the number of the disk's operations before it), in the middle of a call too, it is a repository that stands for
--- a first part of that history with all that was in h, or for the history with one revision more; its format, its identifier and its floor
+-- a first part of that history with all that was in h, or for the history with the revision in doubt; its format, its identifier and its floor
 -- are those of the files at the opening, and each revision of h has the bytes that it had there.
 pub record HoldsAll (since : Since) (t : Trace) (h now : List Revision) : Type 0 where
   -- how the files were laid out at the opening, as `db/format` said it
@@ -73,10 +77,13 @@ pub record HoldsAll (since : Since) (t : Trace) (h now : List Revision) : Type 0
   pub bytes : (m : Files) → ImageSince since.operations t.first t.operations m → (r : ℕ) → r < length h → rev_bytes layout m r ≡ rev_bytes layout since.files r
   pub seen : List Recorded
   pub are : revisions seen ≡ now
+  -- the revision in doubt, if there is one: for all of these images the same
+  pub doubt : Option Revision
+  pub follows : IfSome doubt (FollowsHistory now)
   pub whole : (m : Files) → IsImage t.first t.operations m → (r : ℕ) (x : Recorded) → slice_get seen r ≡ Some x → HasRevision layout m r x
   pub named : (m : Files) → IsImage t.first t.operations m → NamesFrom m (length now)
-  pub stands : (m : Files) → IsImage t.first t.operations m → (g : List Revision) × IsPartOf now g × (length now ≤ length g) × StandsFor m g
-  pub moments : (m : Files) → ImageSince since.operations t.first t.operations m → (g : List Recorded) × HasHistory layout m g × IsPartOf now (revisions g) × (length h ≤ length g) × StandsFor m (revisions g)
+  pub stands : (m : Files) → IsImage t.first t.operations m → (g : List Revision) × IsPartOf now doubt g × (length now ≤ length g) × StandsFor m g
+  pub moments : (m : Files) → ImageSince since.operations t.first t.operations m → (g : List Recorded) × HasHistory layout m g × IsPartOf now doubt (revisions g) × (length h ≤ length g) × StandsFor m (revisions g)
 
 -- the files of the disk are a repository that stands for this history and for no more, and so is each image that a crash now may leave
 pub record AllStandFor (t : Trace) (h : List Revision) : Type 0 where

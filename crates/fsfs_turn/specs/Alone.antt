@@ -67,17 +67,19 @@ abbrev pub AloneAdds : Type 0
 AloneAdds = (young now rev : ℕ) (stuck left : Option DiskPlace) (v u : View) (before : List Recorded) (next : Recorded) → IsAlone young stuck v → IsAlone now left u → u.seen ≡ before ++ next ∷ [] → Begins before v.seen → u.opened ≡ v.opened → u.pass.mine ≡ v.pass.mine ++ rev ∷ []
     → (before ≡ v.seen) × (now ≡ young + 1)
 
--- Each image of each moment since the opening, in the middle of a call too, stands for a first part of what the pass has seen, or for all
--- that with the revision in doubt, which follows it by the landing of an entry; and has all that there was at the opening.
-abbrev pub LoneMomentsStand : Type 0
-LoneMomentsStand = (layout : Layout) (young : ℕ) (stuck : Option DiskPlace) (t : Trace) (v : View) → KnowsAlone layout young stuck (Some t) v → (m : Files) → ImageSince v.since.operations t.first t.operations m
-    → (d : Option Coming) × (g : List Recorded) × IsPart v.seen d g × (v.opened ≤ length g) × HasHistory layout m g × StandsFor m (revisions g) × IfSome d (Follows v.seen)
+-- At most one revision is in doubt, and it follows what the pass has seen by the landing of an entry. Each image of each moment since the
+-- opening, in the middle of a call too, stands for a first part of what the pass has seen, or for all that with this revision; and has all
+-- that there was at the opening. Each image now has all that the pass has seen.
+pub record LoneImages (layout : Layout) (stuck : Option DiskPlace) (t : Trace) (v : View) : Type 0 where
+  pub doubt : Option Coming
+  pub follows : IfSome doubt (Follows v.seen)
+  pub moments : (m : Files) → ImageSince v.since.operations t.first t.operations m → (g : List Recorded) × IsPart v.seen doubt g × (v.opened ≤ length g) × HasHistory layout m g × StandsFor m (revisions g)
+  pub now : (m : Files) → IsImage t.first t.operations m → (g : List Recorded) × IsPart v.seen doubt g × (length v.seen ≤ length g) × HasHistory layout m g × StandsFor m (revisions g)
+  -- none is where the lock isn't stuck and the pass is in no section
+  pub certain : v.section ≡ None → stuck ≡ None → doubt ≡ None
 
--- Each image now stands for what the pass has seen, or for that with the revision in doubt, which follows it; where the lock isn't stuck and the pass is in
--- no section, for what it has seen.
 abbrev pub LoneImagesStand : Type 0
-LoneImagesStand = (layout : Layout) (young : ℕ) (stuck : Option DiskPlace) (t : Trace) (v : View) → KnowsAlone layout young stuck (Some t) v → (m : Files) → IsImage t.first t.operations m
-    → (d : Option Coming) × (g : List Recorded) × IsPart v.seen d g × (length v.seen ≤ length g) × HasHistory layout m g × StandsFor m (revisions g) × (v.section ≡ None → stuck ≡ None → g ≡ v.seen) × IfSome d (Follows v.seen)
+LoneImagesStand = (layout : Layout) (young : ℕ) (stuck : Option DiskPlace) (t : Trace) (v : View) → KnowsAlone layout young stuck (Some t) v → LoneImages layout stuck t v
 
 -- So it is where none of the pass's faults left a revision in doubt: then the lock isn't stuck.
 abbrev pub NothingInDoubt : Type 0

@@ -36,7 +36,7 @@ use Rattle.fsfs_job_run.specs.Workers.Lines.{JobLines, WorkerLines, dealt}
 use Rattle.fsfs_job_run.specs.Workers.Passes.{IsOnward, last_known}
 use Rattle.fsfs_job_run.proofs.BesideLemmas.{all_stay, begins_on, begins_itself}
 use Rattle.fsfs_job_run.proofs.Bytes.{bytes_stay}
-use Rattle.fsfs_job_run.proofs.RunLemmas.{a_part}
+use Rattle.fsfs_job_run.proofs.RunLemmas.{a_part, doubt_of, doubt_follows}
 use Rattle.fsfs_job_run.specs.Runs.{AllStandFor, HoldsAll}
 use Rattle.fsfs_workers.specs.Ready.{IsAtRest}
 use Rattle.fsfs_workers.specs.Two.{BothWorked, RanTwo}
@@ -117,6 +117,8 @@ module _ (moment young : ℕ) (js : List Job) (answers : List JobAnswer) (v u : 
   holds = record {
     layout = u.layout;
     laid = says;
+    doubt = doubt_of leaves.doubt;
+    follows = doubt_follows h leaves.doubt leaves.follows;
     lasting = λ m image. (leaves.own m image).1;
     bytes = λ m image r less.
         let p = leaves.moments m image in
@@ -129,8 +131,8 @@ module _ (moment young : ℕ) (js : List Job) (answers : List JobAnswer) (v u : 
         let p = leaves.now m image in
         let a = revisions_length h in
         let b = revisions_length p.0 in
-        (revisions p.0, a_part h p.0 leaves.doubt leaves.follows p.1, omega (arith, a, b, p.2), p.4);
-    moments = λ m image. let p = leaves.moments m image in (p.0, p.3, a_part h p.0 leaves.doubt leaves.follows p.1, omega (arith, p.2, since_then), p.4);
+        (revisions p.0, a_part h p.0 leaves.doubt p.1, omega (arith, a, b, p.2), p.4);
+    moments = λ m image. let p = leaves.moments m image in (p.0, p.3, a_part h p.0 leaves.doubt p.1, omega (arith, p.2, since_then), p.4);
   }
 
   held : (all : HoldsAll v.since t (revisions v.seen) (revisions h)) × (all.seen ≡ h)
