@@ -118,7 +118,7 @@ module _ {E : Type 0} (known : View → Type 0) {Lasting : Type 0} (s : StoreVie
 
 -- what is read of the file is its number
 module _ {L : Type 0} (s : StoreView L) (old new : List ℕ) (size : length old ≡ 64) (last : HasLastName s) where
-  file : Option (List ℕ)
+  abbrev file : Option (List ℕ)
   file = get last.files (only_name TxnCurrent)
 
   there : (P : Files → Type 0) → IfSome s.files P → P last.files
