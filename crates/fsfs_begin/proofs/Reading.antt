@@ -1,6 +1,6 @@
 -- The number that stands in `db/txn-current`, as a section's first call reads it.
 use Rattle.std.proofs.Common.{◌≡◌, ◌⊎◌, ◌<◌, ◌≤◌, ℕ, List, [], length, take, true, false, inl, inr, ⊎_elim, refl, sym, ap, subst, ◌∙◌, arith}
-use Rattle.std.specs.Prelude.{Option, Some, None, IfOk, IfErr, Result, Ok, Err, unwrap_or, nat_lt}
+use Rattle.std.specs.Prelude.{Option, Some, None, IfSome, IfOk, IfErr, Result, Ok, Err, unwrap_or, nat_lt}
 use Rattle.std.specs.FinMap.{get}
 use Rattle.fsfs_base.specs.Files.{Files}
 use Rattle.fsfs_base.specs.declared.grammar.base36.B36.{B36}
@@ -9,7 +9,7 @@ use Rattle.fsfs_fetch.specs.Views.{View as StoreView}
 use Rattle.fsfs_layout.specs.FileNames.{only_name}
 use Rattle.fsfs_layout.specs.Small.{IsBase36Line}
 use Rattle.fsfs_layout.specs.declared.only_file.OnlyFile.TheVariants.{TxnCurrent}
-use Rattle.fsfs_begin.proofs.CounterLemmas.{one_number}
+use Rattle.fsfs_begin.proofs.CounterLemmas.{no_line, one_number}
 use Rattle.fsfs_create.proofs.ShortTexts.{base36_line_short}
 use Rattle.fsfs_disk.proofs.FirstBytesLemmas.{first_of_text}
 use Rattle.fsfs_begin.specs.Drawing.{IsSmallIn}
@@ -21,7 +21,7 @@ use Rattle.fsfs_machine.specs.Machine.{is_fine_in, last_name}
 use Rattle.fsfs_turn.specs.Views.{View, Answers}
 use Rattle.fsfs_turn.specs.Learning.{ReadsCounter, CounterRead}
 use Rattle.fsfs_base.specs.declared.places.place.BeginPlace.TheVariants as place
-use Rattle.fsfs_begin.specs.Steps.{HasLastName, MeetsLastName}
+use Rattle.fsfs_begin.specs.Steps.{FilesStay, HasLastName, MeetsLastName}
 use Rattle.fsfs_begin.specs.Drawing.{Counts, HasRead}
 use Rattle.fsfs_begin.specs.Faults.{NoNumber}
 use Rattle.fsfs_begin.proofs.Going.{count_reached, count_stopped}
@@ -35,11 +35,19 @@ few_or_many n = elim (nat_lt n last_name) as (λ b. nat_lt n last_name ≡ b →
 -- the number that was read there is the last
 last_there : {Lasting : Type 0} (s : StoreView Lasting) (m : Files) (text : List ℕ) (n : ℕ) → s.files ≡ Some m → get m (only_name TxnCurrent) ≡ Some text → IsBase36Line text n → last_name ≤ n → HasLastName s
 last_there s m text n told there line many =
-    record { files = m; told = told; number = n; line = subst (λ (t : List ℕ). IsBase36Line t n) (sym (ap (λ (o : Option (List ℕ)). unwrap_or o []) there)) line; last = many }
+    record { files = m; told = told; none = record { number = n; line = subst (λ (t : List ℕ). IsBase36Line t n) (sym (ap (λ (o : Option (List ℕ)). unwrap_or o []) there)) line; last = many } }
 
 -- of turns before calls that left what no reading changes
 pub met_before : {T L : Type 0} (store : T → StoreView L) (old mid : T) → (store mid).below ≡ (store old).below → MeetsLastName store mid → MeetsLastName store old
 met_before store old mid same m = record { met = m.met; lasting = m.lasting ∙ same; last = m.last }
+
+-- of turns whose files are those
+pub last_still : {T L : Type 0} (store : T → StoreView L) (old new : T) → FilesStay store → (store new).below ≡ (store old).below → HasLastName (store old) → HasLastName (store new)
+last_still store old new stay same h = record { files = h.files; told = stay.files old new same ∙ h.told; none = h.none }
+
+-- what calls met stood there before, then
+pub last_before : {T L : Type 0} (store : T → StoreView L) (turns : T) → MeetsLastName store turns → FilesStay store → HasLastName (store turns)
+last_before store turns m stay = record { files = m.last.files; told = sym (stay.files turns m.met m.lasting) ∙ m.last.told; none = m.last.none }
 
 -- one case each
 pub either_way : {A B P Q : Type 0} → (A → B) → (P → Q) → A ⊎ P → B ⊎ Q
@@ -105,3 +113,35 @@ module _ {E : Type 0} (known : View → Type 0) {Lasting : Type 0} (s : StoreVie
       failed few =
           let t = subst (λ (q : Result (Option ℕ) E). (u : View) × (went : Went) × known u × Answers q went × CounterRead base c.number went v u) is (c.turned few) in
           (t.0, t.2, count_stopped base c.number v t.1 t.0 t.3 t.4)
+
+-- ---- where no name is left
+
+-- what is read of the file is its number
+module _ {L : Type 0} (s : StoreView L) (old new : List ℕ) (size : length old ≡ 64) (last : HasLastName s) where
+  abbrev file : Option (List ℕ)
+  file = get last.files (only_name TxnCurrent)
+
+  there : (P : Files → Type 0) → IfSome s.files P → P last.files
+  there P w = subst (λ (o : Option Files). IfSome o P) last.told w
+
+  number_last : (bytes : List ℕ) (found : Result B36 NameFault) → bytes ≡ take 64 (unwrap_or file []) → IfOk found (λ b. IsBase36Line bytes b.number) → IfOk found (λ b. last_name ≤ b.number)
+  number_last bytes (Err why) are ok = tt
+  number_last bytes (Ok b) are ok =
+      let line : IsBase36Line bytes last.none.number = subst (λ (t : List ℕ). IsBase36Line t last.none.number) (sym are) (first_of_text IsBase36Line 64 (unwrap_or file []) last.none.number base36_line_short last.none.line) in
+      let same : last.none.number ≡ b.number = one_number bytes last.none.number b.number line ok in
+      subst (λ n. last_name ≤ n) same last.none.last
+
+  pub full_some : {E : Type 0} (r : Result (Option ℕ) E) (count : ℕ) (bytes : List ℕ) (found : Result B36 NameFault) → r ≡ Ok (Some count) → bytes ≡ take count new → IfSome s.files (λ m. IfOk r (IsRead (get m (only_name TxnCurrent)) 0 old new))
+      → IfOk found (λ b. IsBase36Line bytes b.number) → IfOk found (λ b. last_name ≤ b.number)
+  full_some r count bytes found is are read ok =
+      let here : IsRead file 0 old new (Some count) = subst (λ q. IfOk q (IsRead file 0 old new)) is (there (λ m. IfOk r (IsRead (get m (only_name TxnCurrent)) 0 old new)) read) in
+      number_last bytes found (are ∙ read_first file old new (Some count) count size here refl) ok
+
+  -- there is such a file
+  pub full_none : {E : Type 0} (r : Result (Option ℕ) E) (found : Result B36 NameFault) → r ≡ Ok None → IfSome s.files (λ m. IfOk r (IsRead (get m (only_name TxnCurrent)) 0 old new)) → IfOk found (λ b. last_name ≤ b.number)
+  full_none r found is read =
+      by_file file refl (subst (λ q. IfOk q (IsRead file 0 old new)) is (there (λ m. IfOk r (IsRead (get m (only_name TxnCurrent)) 0 old new)) read))
+    where
+      by_file : (o : Option (List ℕ)) → file ≡ o → IsRead o 0 old new None → IfOk found (λ b. last_name ≤ b.number)
+      by_file None at here = absurd (no_line last.none.number (subst (λ (o : Option (List ℕ)). IsBase36Line (unwrap_or o []) last.none.number) at last.none.line))
+      by_file (Some text) at here = let h = here.0 in absurd cc

@@ -75,16 +75,24 @@ pub record HasFault (place : DiskPlace) (u : View) : Type 0 where
   pub later : List DiskPlace
   pub is : u.pass.faults ≡ before ++ place ∷ later
 
--- In `db/txn-current` the last number stands that a name has digits for: no name is left, since no number comes behind it.
-pub record HasLastName {Lasting : Type 0} (s : StoreView Lasting) : Type 0 where
-  pub files : Files
-  pub told : s.files ≡ Some files
+-- No name is left in these files: in `db/txn-current` the last number stands that a name has digits for, and no number comes behind it.
+pub record LeavesNoName (files : Files) : Type 0 where
   pub number : ℕ
   pub line : IsBase36Line (text_at files (only_name TxnCurrent)) number
   pub last : last_name ≤ number
+
+-- so it is, as the files are told
+pub record HasLastName {Lasting : Type 0} (s : StoreView Lasting) : Type 0 where
+  pub files : Files
+  pub told : s.files ≡ Some files
+  pub none : LeavesNoName files
 
 -- it stood there as a call of these turns met the files
 pub record MeetsLastName {T Lasting : Type 0} (store : T → StoreView Lasting) (turns : T) : Type 0 where
   pub met : T
   pub lasting : (store met).below ≡ (store turns).below
   pub last : HasLastName (store met)
+
+-- The files are of what no reading changes, as they are for a pass that is alone.
+pub record FilesStay {T Lasting : Type 0} (store : T → StoreView Lasting) : Type 0 where
+  pub files : (old new : T) → (store new).below ≡ (store old).below → (store new).files ≡ (store old).files

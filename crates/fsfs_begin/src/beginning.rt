@@ -10,7 +10,7 @@ ghost use Rattle.fsfs_turn.specs.Labels.{Relabels};
 ghost use Rattle.fsfs_turn.specs.Mountings.{RoseBy};
 ghost use Rattle.fsfs_turn.specs.Views.{View};
 ghost use Rattle.fsfs_turn.specs.Learning.{MayMake, drawn_of};
-ghost use Rattle.fsfs_begin.specs.Steps.{MeetsLastName, Moved};
+ghost use Rattle.fsfs_begin.specs.Steps.{FilesStay, HasLastName, MeetsLastName, Moved};
 ghost use Rattle.fsfs_begin.specs.Faults.{Cause, IfBench, IfDisk, IsAbove, IsDropped, LacksNumber, LeavesNone, bench_faults_in, read_fault};
 ghost use Rattle.fsfs_begin.specs.Begun.{HoldsRoot, IsMade, IsMadeAmong, HasBegun, HasBegunAmong};
 ghost use Rattle.fsfs_begin.specs.Labels.{IsNew, ListsNoMore};
@@ -102,6 +102,8 @@ pub fn begin<R, T: Turns<R>>(
         → IfErr result.1 (λ why. ((u : View) × T.knows result.0 u × Moved v u × Cause base why u
         × IfBench why (LeavesNone base (T.labels result.0) (Rose (T.faults turns) (T.faults result.0)) v u))
         ⊎ (MeetsLastName T.store turns × LacksNumber why × ((u : View) × T.knows result.0 u × Moved v u))) }
+    // Where no name is left and the files are of what no reading changes, none is begun, and all of that stays as it was.
+    ensures full { FilesStay T.store → HasLastName (T.store turns) → OnOk result.1 ⊥ × ((T.store result.0).below ≡ (T.store turns).below) }
     // Where what is known is of what no reading changes, as it is for a pass that is alone, reading tells it nothing.
     ensures alone { ((old new : T) (v : View) → (T.store new).below ≡ (T.store old).below → T.knows old v → T.knows new v)
         → (v : View) → T.knows turns v → v.section ≡ None

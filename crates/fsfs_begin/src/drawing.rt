@@ -7,7 +7,7 @@ ghost use Rattle.fsfs_machine.specs.declared.machine.Section.TheVariants.{Begun,
 ghost use Rattle.fsfs_machine.specs.Machine.{last_name};
 ghost use Rattle.fsfs_turn.specs.Labels.{KeepsLabels};
 ghost use Rattle.fsfs_turn.specs.Views.{View};
-ghost use Rattle.fsfs_begin.specs.Steps.{MeetsLastName, Moved};
+ghost use Rattle.fsfs_begin.specs.Steps.{FilesStay, HasLastName, MeetsLastName, Moved};
 ghost use Rattle.fsfs_begin.specs.Faults.{IfDisk, IfNameDisk, IsNoBase, IsNoBench, LacksNumber, NoNumber, named_fault};
 ghost use Rattle.fsfs_begin.specs.Drawing.{Counts, IsSmallIn, Raises, Draws, Drew};
 
@@ -38,6 +38,8 @@ fn read_number<R, T: Turns<R>>(rt: &R, turns: &mut T, base: RevNum) -> Result<B3
     requires due { T.bound turns.old ≡ true → (v : View) × T.knows turns.old v × (v.section ≡ Some Begun) × (base ≤ v.pass.least) }
     ensures counted { (v : View) → T.knows turns.old v → v.section ≡ Some Begun → base ≤ v.pass.least
         → Counts (T.knows turns.new) base result v ⊎ (T.knows turns.new v × IfOk result (λ b. last_name ≤ b.number) × IfErr result NoNumber × MeetsLastName T.store turns.old) }
+    ensures full { FilesStay T.store → HasLastName (T.store turns.old) → IfOk result (λ b. last_name ≤ b.number) }
+    ensures same { (T.store turns.new).below ≡ (T.store turns.old).below }
     ensures mounted { T.mounting turns.new ≡ T.mounting turns.old }
     ensures duty { T.bound turns.new ≡ T.bound turns.old }
     ensures listed { KeepsLabels (T.bound turns.old) (T.labels turns.old) (T.labels turns.new) }
@@ -90,6 +92,7 @@ fn next_name<R, T: Turns<R>>(
     ensures base { IfOk result (λ name. name.base ≡ base) }
     ensures drawn { (v : View) → T.knows turns.old v → v.section ≡ Some Begun → base ≤ v.pass.least
         → Draws (T.knows turns.new) base result v ⊎ (MeetsLastName T.store turns.old × OnOk result ⊥ × IfErr result NoNumber × T.knows turns.new v) }
+    ensures full { FilesStay T.store → HasLastName (T.store turns.old) → OnOk result ⊥ × ((T.store turns.new).below ≡ (T.store turns.old).below) }
     ensures mounted { T.mounting turns.new ≡ T.mounting turns.old }
     ensures duty { T.bound turns.new ≡ T.bound turns.old }
     ensures listed { KeepsLabels (T.bound turns.old) (T.labels turns.old) (T.labels turns.new) }
@@ -136,6 +139,7 @@ pub(crate) fn draw<R, T: Turns<R>>(
     ensures base { IfOk result (λ name. name.base ≡ base) }
     ensures drew { (v : View) → T.knows turns.old v → v.section ≡ None → base ≤ v.pass.least
         → Drew (T.knows turns.new) base result v ⊎ (MeetsLastName T.store turns.old × OnOk result ⊥ × IfErr result LacksNumber × ((u : View) × T.knows turns.new u × Moved v u)) }
+    ensures full { FilesStay T.store → HasLastName (T.store turns.old) → OnOk result ⊥ × ((T.store turns.new).below ≡ (T.store turns.old).below) }
     ensures mounted { T.mounting turns.new ≡ T.mounting turns.old }
     ensures duty { T.bound turns.new ≡ T.bound turns.old }
     ensures listed { KeepsLabels (T.bound turns.old) (T.labels turns.old) (T.labels turns.new) }

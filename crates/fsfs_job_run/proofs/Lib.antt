@@ -29,5 +29,7 @@ pub mod Answered
 pub mod Seen
 pub mod Listing
 pub mod BenchCauses
+pub mod Full
 pub mod Unopened
+pub mod Bytes
 pub mod RunLemmas

@@ -1,30 +1,36 @@
 -- A run of jobs over what a pass has seen is one over histories.
 use Rattle.std.proofs.Common.{◌≡◌, ◌⊎◌, ◌+◌, ℕ, zero, suc, List, [], ◌∷◌, length, true, refl, sym, ap, subst, ◌∙◌, length-append, append-nil, take, inl, inr, arith}
 use Rattle.std.proofs.lemmas.List.{map-append, length-map, take_at}
-use Rattle.std.specs.Prelude.{Option, Some, None, IfSome, Result, Err}
+use Rattle.std.specs.Prelude.{Option, Some, None, IfSome, option_map, Result, Err}
 use Rattle.fsfs_base.specs.Failures.{Rose}
+use Rattle.fsfs_layout.specs.Opening.{SaysFormat, small_texts}
 use Rattle.fsfs_layout.specs.declared.layout.Layout.{Layout}
+use Rattle.fsfs_layout.specs.declared.small_files.format_file.FormatFile.TheVariants.{Known}
 use Rattle.fsfs_layout.specs.declared.opened.Opened.{Opened}
 use Rattle.fsfs_base.specs.declared.places.place.DiskPlace.{DiskPlace}
 use Rattle.fsfs_base.specs.declared.places.open_fault.OpenFault.{OpenFault}
 use Rattle.fsfs_base.specs.declared.places.open_fault.OpenFault.TheVariants.{NotRepo, OtherFormat, Linear, Small, DiskFault, Memory}
+use Rattle.fsfs_repo.specs.BeginSteps.{LeavesNoName}
 use Rattle.fsfs_repo.specs.OpenFaults.{OpensBecause}
 use Rattle.fsfs_stands.specs.Files.{StandsFor}
-use Rattle.fsfs_repo.specs.Known.{HasSeenAll}
-use Rattle.fsfs_turn.specs.Opening.{LeftoversAgree, given_before}
-use Rattle.fsfs_machine.specs.Kept.{IsIn}
+use Rattle.fsfs_repo.specs.Known.{HasSeenAll, HoldBytes}
+use Rattle.fsfs_job_run.proofs.Bytes.{bytes_stay}
+use Rattle.fsfs_turn.specs.declared.since.Since.{Since}
+use Rattle.fsfs_turn.specs.Opening.{LeftoversAgree, given_before, opened_at}
+use Rattle.fsfs_machine.specs.Kept.{IsIn, Follows}
 use Rattle.fsfs_script.specs.Errors.{IfReadFault}
 use Rattle.fsfs_script.specs.Whole.{ReadsScript}
 use Rattle.fsfs_script.specs.declared.script_error.ScriptError.{ScriptError}
 use Rattle.fsfs_cli.specs.CommandFaults.{fault_from_open, fault_from_script}
 use Rattle.fsfs_cli.specs.declared.faults.fault.Fault.{Fault}
 use Rattle.fsfs_disk.specs.Trace.{Trace, NameChange, FirmNames, FailsAt, Performs, files_now}
-use Rattle.fsfs_disk.proofs.CrashLemmas.{files_are_image}
+use Rattle.fsfs_disk.proofs.CrashLemmas.{files_are_image, image_now}
 use Rattle.fsfs_machine.specs.declared.machine.Recorded.{Recorded}
 use Rattle.fsfs_machine.specs.declared.machine.Coming.{Coming}
 use Rattle.fsfs_machine.specs.Machine.{recorded, revisions}
 use Rattle.fsfs_tree.specs.Revisions.{Revision}
 use Rattle.fsfs_turn.specs.Views.{View, Begins}
+use Rattle.fsfs_turn.proofs.OwnFiles.{were_own}
 use Rattle.fsfs_turn.proofs.Reading.{begins_on}
 use Rattle.fsfs_job_run.specs.Serial.Counts.{IfCounted, StopsOver}
 use Rattle.fsfs_turn.specs.Alone.{are_harmless, KnowsAlone}
@@ -33,7 +39,7 @@ use Rattle.fsfs_turn.specs.Whole.{NamesFrom}
 use Rattle.fsfs_repo.specs.Owned.Crashes.{CrashesLeave}
 use Rattle.fsfs_script.specs.declared.job_lines.job.Job.{Job}
 use Rattle.fsfs_jobs.specs.declared.answer.JobAnswer.{JobAnswer}
-use Rattle.fsfs_job_run.specs.Serial.Jobs.{DoesJob, Fails, ByDisk, ByBench, ByStuck, ByMemory, ByNames, ByCounts, AddsBy, RunsJob, RunJobs, End, More, StuckBehindDoubt, bench_faults_in}
+use Rattle.fsfs_job_run.specs.Serial.Jobs.{DoesJob, Fails, ByDisk, ByBench, ByStuck, ByMemory, ByNames, ByCounts, AddsBy, RunsJob, RunJobs, End, More, StuckBehindDoubt, bench_faults_in, tell_full}
 use Rattle.fsfs_job_run.proofs.SerialJobLemmas.{runs_serial, grow}
 use Rattle.fsfs_job_run.proofs.ListedLemmas.{failed_on}
 use Rattle.fsfs_job_run.specs.Running.{DoAll, HasGiven}
@@ -41,7 +47,7 @@ use Rattle.fsfs_job_run.proofs.Unopened.{does_not_open}
 use Rattle.fsfs_job_run.specs.Openings.{OpensAs}
 use Rattle.fsfs_job_run.specs.Workers.Lines.{disk_faults_in, RoseBy}
 use Rattle.fsfs_job_run.specs.Histories.{EndsJob, EndJobs, DidScript}
-use Rattle.fsfs_job_run.specs.Runs.{AllStandFor, HoldsAll, IsNextName, IsPartOf, Ran, RanOver, RunScene, RunsScript, NotOpened, NotRead, NoRoom, Done}
+use Rattle.fsfs_job_run.specs.Runs.{AllStandFor, FollowsHistory, HoldsAll, IsNextName, IsPartOf, Ran, RanOver, RunScene, RunsScript, NotOpened, NotRead, NoRoom, Done}
 
 stays : (job : Job) (answer : JobAnswer) (h now : List Recorded) → Fails job answer → AddsBy answer h now → now ≡ h
 stays _ _ h now (ByDisk job line at) same = same
@@ -87,27 +93,47 @@ did_script moment js answers v u runs =
 
 -- ---- what is told of a run
 
-pub a_part : (h g : List Recorded) (d : Option Coming) → IsPart h d g → IsPartOf (revisions h) (revisions g)
-a_part h g d (inl (more, is)) = inl (revisions more, ap revisions is ∙ map-append (λ (x : Recorded). x.revision) g more)
-a_part h g d (inr (x, is, with)) = inr (x.revision, ap revisions with ∙ map-append (λ (r : Recorded). r.revision) h (recorded x ∷ []))
+-- the revision in doubt, without its bytes
+abbrev pub doubt_of : Option Coming → Option Revision
+doubt_of d = option_map (λ (x : Coming). x.revision) d
 
--- `before` is how many revisions there were at the opening
-held_all : (before : List Revision) (layout : Layout) (told : Option Trace) (u : View) → u.opened ≡ length before → CrashesLeave layout told u → IfSome told (λ t. (all : HoldsAll u.since t before (revisions u.seen)) × (all.seen ≡ u.seen))
-held_all before layout None u opened leaves = tt
-held_all before layout (Some t) u opened leaves = (holds, refl)
+pub doubt_follows : (h : List Recorded) (d : Option Coming) → IfSome d (Follows h) → IfSome (doubt_of d) (FollowsHistory (revisions h))
+doubt_follows h None f = tt
+doubt_follows h (Some x) f = (x.entry, f.0, f.1)
+
+pub a_part : (h g : List Recorded) (d : Option Coming) → IsPart h d g → IsPartOf (revisions h) (doubt_of d) (revisions g)
+a_part h g d (inl (more, is)) = inl (revisions more, ap revisions is ∙ map-append (λ (x : Recorded). x.revision) g more)
+a_part h g d (inr (x, is, with)) = inr (x.revision, ap doubt_of is, ap revisions with ∙ map-append (λ (r : Recorded). r.revision) h (recorded x ∷ []))
+
+-- `was` are the revisions that there were at the opening
+held_all : (was : List Recorded) (layout : Layout) (told : Option Trace) (u : View) → u.opened ≡ length was → Begins u.seen was → HoldBytes u.since.files was → CrashesLeave layout told u
+    → IfSome told (λ t. (all : HoldsAll u.since t (revisions was) (revisions u.seen)) × (all.seen ≡ u.seen))
+held_all was layout None u opened begins had leaves = tt
+held_all was layout (Some t) u opened begins had leaves = (holds, refl)
   where
-    holds : HoldsAll u.since t before (revisions u.seen)
+    says : SaysFormat (small_texts u.since.files) (Known layout)
+    says = (were_own layout u.since.files (files_now t) (leaves.own (files_now t) (image_now u.since.operations t.first t.operations (files_now t) (files_are_image t.first t.operations)))).format
+
+    long : length (revisions was) ≡ length was
+    long = length-map was (λ (x : Recorded). x.revision)
+
+    holds : HoldsAll u.since t (revisions was) (revisions u.seen)
     holds = record {
       layout = layout;
+      laid = says;
+      lasting = λ m image. (leaves.own m image).1;
+      bytes = λ m image r less. let w = leaves.moments m image in bytes_stay layout u.since.files m was u.seen w.0 leaves.doubt says had begins w.1 (omega (arith, w.2, opened)) w.3 r (omega (arith, less, long));
       seen = u.seen;
       are = refl;
-      moments = λ m image. let w = leaves.moments m image in (w.1, w.4, a_part u.seen w.1 w.0 w.2, omega (arith, w.3, opened), w.5);
+      moments = λ m image. let w = leaves.moments m image in (w.0, w.3, a_part u.seen w.0 leaves.doubt w.1, omega (arith, w.2, opened, long), w.4);
+      doubt = doubt_of leaves.doubt;
+      follows = doubt_follows u.seen leaves.doubt leaves.follows;
       whole = leaves.whole;
       stands = λ m image.
           let w = leaves.stands m image in
           let a : length (revisions u.seen) ≡ length u.seen = length-map u.seen (λ (x : Recorded). x.revision) in
-          let b : length (revisions w.1) ≡ length w.1 = length-map w.1 (λ (x : Recorded). x.revision) in
-          (revisions w.1, a_part u.seen w.1 w.0 w.2, omega (arith, a, b, w.3), w.4);
+          let b : length (revisions w.0) ≡ length w.0 = length-map w.0 (λ (x : Recorded). x.revision) in
+          (revisions w.0, a_part u.seen w.0 leaves.doubt w.1, omega (arith, a, b, w.2), w.3);
       named = λ m image. subst (NamesFrom m) (sym (length-map u.seen (λ (x : Recorded). x.revision))) (leaves.named m image);
     }
 
@@ -116,9 +142,9 @@ stands_all : (layout : Layout) (told : Option Trace) (u : View) → u.section �
 stands_all layout None u none few leaves = tt
 stands_all layout (Some t) u none few leaves = record { now = leaves.doubtless none few (files_now t) (files_are_image t.first t.operations); images = leaves.doubtless none few }
 
-pub ran : (moment : ℕ) (js : List Job) (answers : List JobAnswer) (youngest : ℕ) (v u : View) (layout : Layout) (told : Option Trace) → v.opened ≡ length v.seen → are_harmless v.pass.faults ≡ true → u.section ≡ None → StuckBehindDoubt answers → RunJobs moment js answers v u → length u.seen ≡ youngest + 1 → CrashesLeave layout told u
+pub ran : (moment : ℕ) (js : List Job) (answers : List JobAnswer) (youngest : ℕ) (v u : View) (layout : Layout) (told : Option Trace) → v.opened ≡ length v.seen → HoldBytes v.since.files v.seen → are_harmless v.pass.faults ≡ true → u.section ≡ None → (tell_full answers ≡ true → IfSome told (λ t. LeavesNoName (files_now t))) → StuckBehindDoubt answers → RunJobs moment js answers v u → length u.seen ≡ youngest + 1 → CrashesLeave layout told u
     → Ran moment v.since js answers youngest (revisions v.seen) told
-ran moment js answers youngest v u layout told opened few none stuck runs last leaves =
+ran moment js answers youngest v u layout told opened had few none full stuck runs last leaves =
     let grown = grow moment js answers v u runs in
     record {
       now = revisions u.seen;
@@ -127,7 +153,8 @@ ran moment js answers youngest v u layout told opened few none stuck runs last l
       did = did_script moment js answers v u runs;
       last = length-map u.seen (λ (x : Recorded). x.revision) ∙ last;
       held = subst (λ n. IfSome told (λ t. (all : HoldsAll n t (revisions v.seen) (revisions u.seen)) × (all.seen ≡ u.seen))) grown.since
-          (held_all (revisions v.seen) layout told u (grown.opened ∙ (opened ∙ sym (length-map v.seen (λ (x : Recorded). x.revision)))) leaves);
+          (held_all v.seen layout told u (grown.opened ∙ opened) grown.begins (subst (λ (n : Since). HoldBytes n.files v.seen) (sym grown.since) had) leaves);
+      full = full;
       stuck = stuck;
       certain = λ calm. stands_all layout told u none (grown.doubtless calm few) leaves;
     }
@@ -139,11 +166,11 @@ firm_fails change old new done = inr (inr done)
 
 -- ---- what a lone pass knows behind jobs
 
-pub ran_in : (layout : Layout) (young : ℕ) (stuck : Option DiskPlace) (told new : Option Trace) (moment : ℕ) (js : List Job) (answers : List JobAnswer) (youngest : ℕ) (v : View) → new ≡ told → v.opened ≡ length v.seen → are_harmless v.pass.faults ≡ true
-    → ((u : View) → KnowsAlone layout young stuck told u → length u.seen ≡ youngest + 1) → ((u : View) → KnowsAlone layout young stuck told u → CrashesLeave layout told u)
+pub ran_in : (layout : Layout) (young : ℕ) (stuck : Option DiskPlace) (told new : Option Trace) (moment : ℕ) (js : List Job) (answers : List JobAnswer) (youngest : ℕ) (v : View) → new ≡ told → v.opened ≡ length v.seen → HoldBytes v.since.files v.seen → are_harmless v.pass.faults ≡ true
+    → (tell_full answers ≡ true → IfSome told (λ t. LeavesNoName (files_now t))) → ((u : View) → KnowsAlone layout young stuck told u → length u.seen ≡ youngest + 1) → ((u : View) → KnowsAlone layout young stuck told u → CrashesLeave layout told u)
     → DoAll (KnowsAlone layout young stuck told) moment js answers v → Ran moment v.since js answers youngest (revisions v.seen) new
-ran_in layout young stuck told new moment js answers youngest v same opened few all leaves (u, known, none, runs, stuck_so) =
-    subst (Ran moment v.since js answers youngest (revisions v.seen)) (sym same) (ran moment js answers youngest v u layout told opened few none (stuck_so few) runs (all u known) (leaves u known))
+ran_in layout young stuck told new moment js answers youngest v same opened had few full all leaves (u, known, none, runs, stuck_so) =
+    subst (Ran moment v.since js answers youngest (revisions v.seen)) (sym same) (ran moment js answers youngest v u layout told opened had few none full (stuck_so few) runs (all u known) (leaves u known))
 
 -- ---- a run, told of a count that rose as well
 
@@ -178,13 +205,13 @@ not_read {B} moment before after a b o error fault is opens read rose firm writt
 
 -- over what the opening told
 pub ran_over : (knows : View → Type 0) (moment : ℕ) (js : List Job) (answers : List JobAnswer) (youngest : ℕ) (old new : Option Trace) → IfSome old (λ t. (h : List Revision) (stands : StandsFor (files_now t) h) → LeftoversAgree stands → HasSeenAll knows t stands.opened.min_unpacked_rev stands.opened.next_txn.number h)
-    → ((v : View) → knows v → v.section ≡ None → v.opened ≡ length v.seen → are_harmless v.pass.faults ≡ true → Ran moment v.since js answers youngest (revisions v.seen) new) → RanOver moment js answers youngest old new
+    → ((v : View) → knows v → v.section ≡ None → v.opened ≡ length v.seen → HoldBytes v.since.files v.seen → are_harmless v.pass.faults ≡ true → Ran moment v.since js answers youngest (revisions v.seen) new) → RanOver moment js answers youngest old new
 ran_over knows moment js answers youngest None new opened does = tt
 ran_over knows moment js answers youngest (Some t) new opened does = λ h stands agreeing.
     let s = opened h stands agreeing in
     let v = s.0 in
     let before : v.opened ≡ length v.seen = s.6 ∙ (ap (λ (l : List Revision). length l) (sym s.4) ∙ length-map v.seen (λ (x : Recorded). x.revision)) in
-    subst (λ g. Ran moment (length t.operations + 1) js answers youngest g new) s.4 (subst (λ n. Ran moment n js answers youngest (revisions v.seen) new) s.5 (does v s.1 s.2 before (ap (λ p. are_harmless p.faults) s.3)))
+    subst (λ g. Ran moment (opened_at t.first t.operations) js answers youngest g new) s.4 (subst (λ n. Ran moment n js answers youngest (revisions v.seen) new) s.5 (does v s.1 s.2 before (subst (λ (n : Since). HoldBytes n.files v.seen) (sym s.5) s.8) (ap (λ p. are_harmless p.faults) s.3)))
 
 -- so it has the names below the number in `txn-current`
 pub opened_given : (knows : View → Type 0) (old : Option Trace) (least : ℕ) → IfSome old (λ t. (h : List Revision) (stands : StandsFor (files_now t) h) → LeftoversAgree stands → HasSeenAll knows t stands.opened.min_unpacked_rev stands.opened.next_txn.number h)

@@ -1,20 +1,27 @@
 -- What a run of a script does to a disk, its input and its output.
-use Rattle.std.specs.Prelude.{◌≡◌, ◌⊎◌, ◌≤◌, ◌+◌, ◌++◌, ◌∷◌, [], ℕ, zero, suc, List, length, Option, Some, IfSome, option_map, Result, Ok, Err, slice_get}
+use Rattle.std.specs.Prelude.{◌≡◌, ◌⊎◌, ◌≤◌, ◌<◌, ◌+◌, ◌++◌, ◌∷◌, [], ℕ, zero, suc, List, length, true, Option, Some, IfSome, option_map, Result, Ok, Err, slice_get}
 use Rattle.fsfs_base.specs.Failures.{Rose}
 use Rattle.fsfs_base.specs.Files.{Files}
 use Rattle.fsfs_layout.specs.declared.layout.Layout.{Layout}
+use Rattle.fsfs_layout.specs.Opening.{SaysFormat, small_texts}
 use Rattle.fsfs_layout.specs.declared.opened.Opened.{Opened}
+use Rattle.fsfs_layout.specs.declared.small_files.format_file.FormatFile.TheVariants.{Known}
+use Rattle.fsfs_revision.specs.RevBytes.{rev_bytes}
 use Rattle.fsfs_tree.specs.Revisions.{Revision}
 use Rattle.fsfs_disk.specs.Labels.{Label}
 use Rattle.fsfs_disk.specs.Trace.{Trace, FirmNames, FailsAt, ImageSince, IsImage, files_now, labels_now}
 use Rattle.fsfs_base.specs.Streams.{Adds}
 use Rattle.fsfs_base.specs.Output.{AddsFront}
 use Rattle.fsfs_stands.specs.Files.{StandsFor}
+use Rattle.fsfs_model.specs.Flat.Transactions.{Entry, IsEntry, IsNext}
+use Rattle.fsfs_repo.specs.BeginSteps.{LeavesNoName}
 use Rattle.fsfs_repo.specs.OpenFaults.{OpensBecause}
 use Rattle.fsfs_base.specs.declared.places.open_fault.OpenFault.{OpenFault}
 use Rattle.fsfs_machine.specs.declared.machine.Recorded.{Recorded}
 use Rattle.fsfs_machine.specs.Machine.{revisions}
-use Rattle.fsfs_turn.specs.Opening.{LeftoversAgree}
+use Rattle.fsfs_turn.specs.Opening.{LeftoversAgree, opened_at}
+use Rattle.fsfs_turn.specs.Stands.{AreLasting}
+use Rattle.fsfs_turn.specs.declared.since.Since.{Since}
 use Rattle.fsfs_turn.specs.Whole.{HasHistory, HasRevision, NamesFrom}
 use Rattle.fsfs_script.specs.declared.job_lines.job.Job.{Job}
 use Rattle.fsfs_script.specs.Errors.{IfReadFault}
@@ -26,7 +33,7 @@ use Rattle.fsfs_cli.specs.declared.faults.fault.Fault.TheVariants.{Outside, Memo
 use Rattle.fsfs_cli.specs.declared.faults.outside_fault.OutsideFault.TheVariants.{Write}
 use Rattle.fsfs_jobs.specs.Lines.{greatest_status, run_text}
 use Rattle.fsfs_jobs.specs.declared.answer.JobAnswer.{JobAnswer}
-use Rattle.fsfs_job_run.specs.Serial.Jobs.{StuckBehindDoubt, TellNoDoubt, bench_faults_in}
+use Rattle.fsfs_job_run.specs.Serial.Jobs.{StuckBehindDoubt, TellNoDoubt, bench_faults_in, tell_full}
 use Rattle.fsfs_job_run.specs.Serial.Listed.{LeavesListed}
 use Rattle.fsfs_job_run.specs.Workers.Lines.{disk_faults_in, RoseBy}
 use Rattle.fsfs_job_run.specs.Openings.{OpensAs, DoesNotOpen}
@@ -47,22 +54,36 @@ run_scene trace remaining read_faults written write_faults = record { trace = tr
 abbrev pub labels_in : RunScene → Option (List Label)
 labels_in a = option_map labels_now a.trace
 
--- a first part of the history, or the history with one revision more
-abbrev pub IsPartOf : List Revision → List Revision → Type 0
-IsPartOf h part = ((rest : List Revision) × (h ≡ part ++ rest)) ⊎ ((next : Revision) × (part ≡ h ++ next ∷ []))
+-- a first part of the history, or the history with the revision in doubt
+abbrev pub IsPartOf : List Revision → Option Revision → List Revision → Type 0
+IsPartOf h doubt part = ((rest : List Revision) × (h ≡ part ++ rest)) ⊎ ((next : Revision) × (doubt ≡ Some next) × (part ≡ h ++ next ∷ []))
+
+-- the revision follows the history by the landing of an entry: of a transaction over it
+abbrev pub FollowsHistory : List Revision → Revision → Type 0
+FollowsHistory h next = (e : Entry) × IsEntry h e × IsNext h e next
 
 -- What a crash leaves behind, or in the middle of, a run that came from the history h to this one. Now each image has each revision of it whole, and
--- `current` names the last of them or a later one; it is a repository that stands for this history, or for it with one revision more. At each
+-- `current` names the last of them or a later one; it is a repository that stands for this history, or for it with the revision in doubt. At each
 -- moment since the opening (by the number of the disk's operations before it), in the middle of a call too, it is a repository that stands for
--- a first part of that history with all that was in h, or for the history with one revision more.
-pub record HoldsAll (since : ℕ) (t : Trace) (h now : List Revision) : Type 0 where
+-- a first part of that history with all that was in h, or for the history with the revision in doubt; its format, its identifier and its floor
+-- are those of the files at the opening, and each revision of h has the bytes that it had there.
+pub record HoldsAll (since : Since) (t : Trace) (h now : List Revision) : Type 0 where
+  -- how the files were laid out at the opening, as `db/format` said it
   pub layout : Layout
+  pub laid : SaysFormat (small_texts since.files) (Known layout)
+  -- that file and the others that say what a repository is are as they were then: so are its format, its identifier and its floor
+  pub lasting : (m : Files) → ImageSince since.operations t.first t.operations m → AreLasting since.files m
+  -- each revision that there was has the bytes that it had, packed or not
+  pub bytes : (m : Files) → ImageSince since.operations t.first t.operations m → (r : ℕ) → r < length h → rev_bytes layout m r ≡ rev_bytes layout since.files r
   pub seen : List Recorded
   pub are : revisions seen ≡ now
+  -- the revision in doubt, if there is one: for all of these images the same
+  pub doubt : Option Revision
+  pub follows : IfSome doubt (FollowsHistory now)
   pub whole : (m : Files) → IsImage t.first t.operations m → (r : ℕ) (x : Recorded) → slice_get seen r ≡ Some x → HasRevision layout m r x
   pub named : (m : Files) → IsImage t.first t.operations m → NamesFrom m (length now)
-  pub stands : (m : Files) → IsImage t.first t.operations m → (g : List Revision) × IsPartOf now g × (length now ≤ length g) × StandsFor m g
-  pub moments : (m : Files) → ImageSince since t.first t.operations m → (g : List Recorded) × HasHistory layout m g × IsPartOf now (revisions g) × (length h ≤ length g) × StandsFor m (revisions g)
+  pub stands : (m : Files) → IsImage t.first t.operations m → (g : List Revision) × IsPartOf now doubt g × (length now ≤ length g) × StandsFor m g
+  pub moments : (m : Files) → ImageSince since.operations t.first t.operations m → (g : List Recorded) × HasHistory layout m g × IsPartOf now doubt (revisions g) × (length h ≤ length g) × StandsFor m (revisions g)
 
 -- the files of the disk are a repository that stands for this history and for no more, and so is each image that a crash now may leave
 pub record AllStandFor (t : Trace) (h : List Revision) : Type 0 where
@@ -70,7 +91,7 @@ pub record AllStandFor (t : Trace) (h : List Revision) : Type 0 where
   pub images : (m : Files) → IsImage t.first t.operations m → StandsFor m h
 
 -- the jobs were done over the history, the last line names the youngest revision of what they came to, and the disk holds it
-pub record Ran (moment since : ℕ) (js : List Job) (answers : List JobAnswer) (youngest : ℕ) (h : List Revision) (told : Option Trace) : Type 0 where
+pub record Ran (moment : ℕ) (since : Since) (js : List Job) (answers : List JobAnswer) (youngest : ℕ) (h : List Revision) (told : Option Trace) : Type 0 where
   pub now : List Revision
   -- the same revisions, with the bytes beside each
   pub seen : List Recorded
@@ -79,6 +100,8 @@ pub record Ran (moment since : ℕ) (js : List Job) (answers : List JobAnswer) (
   pub last : length now ≡ youngest + 1
   -- these are the bytes that it holds
   pub held : IfSome told (λ t. (all : HoldsAll since t h now) × (all.seen ≡ seen))
+  -- A line tells that names are full only where no name is left: behind the run the last number that a name has digits for stands in `txn-current`.
+  pub full : tell_full answers ≡ true → IfSome told (λ t. LeavesNoName (files_now t))
   -- the lock is told to be stuck only behind a line that tells of a fault as `current` was renamed or made firm
   pub stuck : StuckBehindDoubt answers
   -- nothing is in doubt where no line tells of a fault as `current` was renamed or made firm
@@ -87,7 +110,7 @@ pub record Ran (moment since : ℕ) (js : List Job) (answers : List JobAnswer) (
 -- where the files stood for a history, packed or not, and files that are left over of packed revisions have the same bytes
 abbrev pub RanOver : ℕ → List Job → List JobAnswer → ℕ → Option Trace → Option Trace → Type 0
 RanOver moment js answers youngest old new =
-    IfSome old (λ t. (h : List Revision) (stands : StandsFor (files_now t) h) → LeftoversAgree stands → Ran moment (length t.operations + 1) js answers youngest h new)
+    IfSome old (λ t. (h : List Revision) (stands : StandsFor (files_now t) h) → LeftoversAgree stands → Ran moment (opened_at t.first t.operations) js answers youngest h new)
 
 -- no job was done and nothing was printed; of the disk no more was done than that its names were made firm
 pub record IsUntouched (a b : RunScene) : Type 0 where

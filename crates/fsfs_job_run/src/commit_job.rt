@@ -1,5 +1,5 @@
 //! A job that commits.
-ghost use Rattle.std.specs.Prelude.{◌≡◌, ◌⊎◌, ◌≤◌, ◌<◌, ℕ, [], None, length, OnOk, IfErr};
+ghost use Rattle.std.specs.Prelude.{◌≡◌, ◌⊎◌, ◌≤◌, ◌<◌, ℕ, [], true, false, None, length, OnOk, IfErr};
 ghost use Rattle.fsfs_base.specs.Failures.{Rose};
 ghost use Rattle.fsfs_tree.specs.Dated.{last_of};
 ghost use Rattle.fsfs_tree.specs.Revisions.{tree_of};
@@ -9,11 +9,12 @@ ghost use Rattle.fsfs_turn.specs.Bytes.{bytes_of};
 ghost use Rattle.fsfs_turn.specs.Mountings.{RoseBy};
 ghost use Rattle.fsfs_turn.specs.Views.{View};
 ghost use Rattle.fsfs_repo.specs.BeginLabels.{IsUnlisted};
+ghost use Rattle.fsfs_repo.specs.BeginSteps.{HasLastName};
 ghost use Rattle.fsfs_disk.specs.Transactions.Txns.{pair_of, txn_label};
 ghost use Rattle.fsfs_repo.specs.TxnStanding.{Stands};
 ghost use Rattle.fsfs_jobs.specs.JobEdits.Editing.{AreEditing, IfBench, IfDisk};
 ghost use Rattle.fsfs_job_run.specs.TextReads.{IfAnswerFails};
-ghost use Rattle.fsfs_job_run.specs.Serial.Jobs.{bench_told};
+ghost use Rattle.fsfs_job_run.specs.Serial.Jobs.{bench_told, tells_full};
 ghost use Rattle.fsfs_job_run.specs.Serial.Listed.{LeavesListed};
 ghost use Rattle.fsfs_job_run.specs.Running.{CommitsSo, HasGiven};
 ghost use Rattle.fsfs_jobs.specs.Serial.{base_of as base_in};
@@ -79,6 +80,9 @@ fn edit_and_commit<D: Disk, R, G: Gate>(
         → Stands (bytes_of v.seen) (tree_of (revisions v.seen)) (last_of (revisions v.seen)) txn.base (⟦<HeldNodes<D::Bench> as Own>⟧.txn txn.own) (⟦<HeldNodes<D::Bench> as Own>⟧.settled txn.own) (tree_of (revisions v.seen) txn.base) []
         → CommitsSo (⟦<Owned<D> as Turns<R>>⟧.knows result.0.turns) (Rose (⟦<Owned<D> as Turns<R>>⟧.faults repo.turns) (⟦<Owned<D> as Turns<R>>⟧.faults result.0.turns)) micros job.now result.1 v }
     ensures cause { IfAnswerFails result.1 (Rose (⟦<Owned<D> as Turns<R>>⟧.faults repo.turns) (⟦<Owned<D> as Turns<R>>⟧.faults result.0.turns)) }
+    ensures unfull { (v : View) → ⟦<Owned<D> as Turns<R>>⟧.knows repo.turns v → txn.base < length v.seen
+        → Stands (bytes_of v.seen) (tree_of (revisions v.seen)) (last_of (revisions v.seen)) txn.base (⟦<HeldNodes<D::Bench> as Own>⟧.txn txn.own) (⟦<HeldNodes<D::Bench> as Own>⟧.settled txn.own) (tree_of (revisions v.seen) txn.base) []
+        → tells_full result.1 ≡ false }
     ensures listed { IsUnlisted (txn_label (pair_of (⟦<HeldNodes<D::Bench> as Own>⟧.txn txn.own))) (Rose (⟦<Owned<D> as Turns<R>>⟧.faults repo.turns) (⟦<Owned<D> as Turns<R>>⟧.faults result.0.turns)) (⟦<Owned<D> as Turns<R>>⟧.labels repo.turns) (⟦<Owned<D> as Turns<R>>⟧.labels result.0.turns) }
     ensures mounted { D.mount_path result.0.turns.disk ≡ D.mount_path repo.turns.disk }
     ensures benches { RoseBy (bench_told result.1) (D.bench_faults repo.turns.disk) (D.bench_faults result.0.turns.disk) }
@@ -105,6 +109,9 @@ fn begin_and_commit<D: Disk, R, G: Gate>(
     ensures does { (v : View) → ⟦<Owned<D> as Turns<R>>⟧.knows repo.turns v → v.section ≡ None → v.pass.least ≡ last_of (revisions v.seen) → base ≡ base_in job.now.base (last_of (revisions v.seen)) → base ≤ last_of (revisions v.seen)
         → CommitsSo (⟦<Owned<D> as Turns<R>>⟧.knows result.0.turns) (Rose (⟦<Owned<D> as Turns<R>>⟧.faults repo.turns) (⟦<Owned<D> as Turns<R>>⟧.faults result.0.turns)) micros job.now result.1 v }
     ensures cause { IfAnswerFails result.1 (Rose (⟦<Owned<D> as Turns<R>>⟧.faults repo.turns) (⟦<Owned<D> as Turns<R>>⟧.faults result.0.turns)) }
+    // Names are told to be full only where no name is left, and then all stays as it was.
+    ensures full { (v : View) → ⟦<Owned<D> as Turns<R>>⟧.knows repo.turns v → v.section ≡ None → tells_full result.1 ≡ true → HasLastName (⟦<Owned<D> as Turns<R>>⟧.store repo.turns) }
+    ensures stays { HasLastName (⟦<Owned<D> as Turns<R>>⟧.store repo.turns) → (⟦<Owned<D> as Turns<R>>⟧.store result.0.turns).below ≡ (⟦<Owned<D> as Turns<R>>⟧.store repo.turns).below }
     // Whatever is known: the transaction that was begun is listed no more, unless a call of the disk failed.
     ensures listed { (least : ℕ) → HasGiven (⟦<Owned<D> as Turns<R>>⟧.knows repo.turns) least → LeavesListed least 1 (⟦<Owned<D> as Turns<R>>⟧.labels repo.turns) (⟦<Owned<D> as Turns<R>>⟧.labels result.0.turns) ⊎ Rose (⟦<Owned<D> as Turns<R>>⟧.faults repo.turns) (⟦<Owned<D> as Turns<R>>⟧.faults result.0.turns) }
     ensures mounted { D.mount_path result.0.turns.disk ≡ D.mount_path repo.turns.disk }
@@ -135,6 +142,9 @@ pub(crate) fn commit_job<D: Disk, R, G: Gate>(
     ensures does { (v : View) → ⟦<Owned<D> as Turns<R>>⟧.knows repo.turns v → v.section ≡ None
         → CommitsSo (⟦<Owned<D> as Turns<R>>⟧.knows result.0.turns) (Rose (⟦<Owned<D> as Turns<R>>⟧.faults repo.turns) (⟦<Owned<D> as Turns<R>>⟧.faults result.0.turns)) micros job.now result.1 v }
     ensures cause { IfAnswerFails result.1 (Rose (⟦<Owned<D> as Turns<R>>⟧.faults repo.turns) (⟦<Owned<D> as Turns<R>>⟧.faults result.0.turns)) }
+    // Names are told to be full only where no name is left, and then all stays as it was.
+    ensures full { (v : View) → ⟦<Owned<D> as Turns<R>>⟧.knows repo.turns v → v.section ≡ None → tells_full result.1 ≡ true → HasLastName (⟦<Owned<D> as Turns<R>>⟧.store repo.turns) }
+    ensures stays { HasLastName (⟦<Owned<D> as Turns<R>>⟧.store repo.turns) → (⟦<Owned<D> as Turns<R>>⟧.store result.0.turns).below ≡ (⟦<Owned<D> as Turns<R>>⟧.store repo.turns).below }
     ensures listed { (least : ℕ) → HasGiven (⟦<Owned<D> as Turns<R>>⟧.knows repo.turns) least → LeavesListed least 1 (⟦<Owned<D> as Turns<R>>⟧.labels repo.turns) (⟦<Owned<D> as Turns<R>>⟧.labels result.0.turns) ⊎ Rose (⟦<Owned<D> as Turns<R>>⟧.faults repo.turns) (⟦<Owned<D> as Turns<R>>⟧.faults result.0.turns) }
     ensures mounted { D.mount_path result.0.turns.disk ≡ D.mount_path repo.turns.disk }
     ensures benches { RoseBy (bench_told result.1) (D.bench_faults repo.turns.disk) (D.bench_faults result.0.turns.disk) }

@@ -1,5 +1,5 @@
 //! The end of a job's transaction.
-ghost use Rattle.std.specs.Prelude.{◌≡◌, ◌≤◌, None};
+ghost use Rattle.std.specs.Prelude.{◌≡◌, ◌≤◌, false, None};
 ghost use Rattle.fsfs_base.specs.Failures.{Rose};
 ghost use Rattle.fsfs_machine.specs.declared.machine.Txn.{Txn as MachineTxn};
 ghost use Rattle.fsfs_machine.specs.Kept.{IsIn};
@@ -16,7 +16,7 @@ ghost use Rattle.fsfs_jobs.specs.declared.answer.JobAnswer.TheVariants.{Stopped}
 ghost use Rattle.fsfs_jobs.specs.Properties.{undated_properties};
 ghost use Rattle.fsfs_job_run.specs.Faults.{fault_of_merge, answer_of_bar};
 ghost use Rattle.fsfs_job_run.specs.TextReads.{IfAnswerFails};
-ghost use Rattle.fsfs_job_run.specs.Serial.Jobs.{bench_told};
+ghost use Rattle.fsfs_job_run.specs.Serial.Jobs.{bench_told, tells_full};
 ghost use Rattle.fsfs_job_run.specs.Running.{IsNoRequest, Stays};
 ghost use Rattle.fsfs_job_run.specs.Ending.{EndsSo};
 
@@ -103,6 +103,7 @@ fn commit_with<D: Disk, R, G: Gate>(
         → IsTxnOf v.seen (⟦<HeldNodes<D::Bench> as Own>⟧.txn txn.own) txn.base (⟦<HeldNodes<D::Bench> as Own>⟧.settled txn.own) x
         → EndsSo (⟦<Owned<D> as Turns<R>>⟧.knows result.0.turns) (Rose (⟦<Owned<D> as Turns<R>>⟧.faults repo.turns) (⟦<Owned<D> as Turns<R>>⟧.faults result.0.turns)) micros job.now result.1 x v }
     ensures plain { IsNoRequest result.1 }
+    ensures unfull { tells_full result.1 ≡ false }
     // Whatever the disk tells: it is told to have failed only where the count of failed calls rose in this call.
     ensures cause { IfAnswerFails result.1 (Rose (⟦<Owned<D> as Turns<R>>⟧.faults repo.turns) (⟦<Owned<D> as Turns<R>>⟧.faults result.0.turns)) }
     // Nor is its transaction listed any more, unless a call of the disk failed.
@@ -137,6 +138,7 @@ pub(crate) fn commit_edited<D: Disk, R, G: Gate>(
         → IsTxnOf v.seen (⟦<HeldNodes<D::Bench> as Own>⟧.txn txn.own) txn.base (⟦<HeldNodes<D::Bench> as Own>⟧.settled txn.own) x
         → EndsSo (⟦<Owned<D> as Turns<R>>⟧.knows result.0.turns) (Rose (⟦<Owned<D> as Turns<R>>⟧.faults repo.turns) (⟦<Owned<D> as Turns<R>>⟧.faults result.0.turns)) micros job.now result.1 x v }
     ensures plain { IsNoRequest result.1 }
+    ensures unfull { tells_full result.1 ≡ false }
     // Whatever the disk tells: it is told to have failed only where the count of failed calls rose in this call.
     ensures cause { IfAnswerFails result.1 (Rose (⟦<Owned<D> as Turns<R>>⟧.faults repo.turns) (⟦<Owned<D> as Turns<R>>⟧.faults result.0.turns)) }
     // Nor is its transaction listed any more, unless a call of the disk failed.

@@ -1,11 +1,12 @@
 //! One job over a repository.
-ghost use Rattle.std.specs.Prelude.{◌≡◌, ◌⊎◌, ◌≤◌, ℕ, None};
+ghost use Rattle.std.specs.Prelude.{◌≡◌, ◌⊎◌, ◌≤◌, ℕ, true, None};
 ghost use Rattle.fsfs_base.specs.Failures.{Rose};
 ghost use Rattle.fsfs_turn.specs.Mountings.{RoseBy};
 ghost use Rattle.fsfs_turn.specs.Views.{View};
+ghost use Rattle.fsfs_repo.specs.BeginSteps.{HasLastName};
 ghost use Rattle.fsfs_repo.specs.Owned.Crashes.{CrashesLeave};
 ghost use Rattle.fsfs_job_run.specs.TextReads.{IfAnswerFails};
-ghost use Rattle.fsfs_job_run.specs.Serial.Jobs.{bench_told};
+ghost use Rattle.fsfs_job_run.specs.Serial.Jobs.{bench_told, tells_full};
 ghost use Rattle.fsfs_job_run.specs.Serial.Listed.{LeavesListed};
 ghost use Rattle.fsfs_job_run.specs.Running.{DoesSo, HasGiven, IfCounted, StopsOver};
 
@@ -36,6 +37,9 @@ pub fn do_job<D: Disk, R, G: Gate>(
         → DoesSo (⟦<Owned<D> as Turns<R>>⟧.knows result.0.turns) (Rose (⟦<Owned<D> as Turns<R>>⟧.faults repo.turns) (⟦<Owned<D> as Turns<R>>⟧.faults result.0.turns)) micros job.now result.1 v }
     // Where it is refused for mergeinfo: by the flat model, or for counts in the bytes.
     ensures counted { (v : View) → ⟦<Owned<D> as Turns<R>>⟧.knows repo.turns v → v.section ≡ None → IfCounted job.now result.1 (StopsOver v.seen) }
+    // Where it is told that names are full, no name is left; and where none is, a job leaves the repository as it was.
+    ensures full { (v : View) → ⟦<Owned<D> as Turns<R>>⟧.knows repo.turns v → v.section ≡ None → tells_full result.1 ≡ true → HasLastName (⟦<Owned<D> as Turns<R>>⟧.store repo.turns) }
+    ensures stays { HasLastName (⟦<Owned<D> as Turns<R>>⟧.store repo.turns) → (⟦<Owned<D> as Turns<R>>⟧.store result.0.turns).below ≡ (⟦<Owned<D> as Turns<R>>⟧.store repo.turns).below }
     // What is known then says what a crash leaves, at each moment of the job too.
     ensures crashes { (u : View) → ⟦<Owned<D> as Turns<R>>⟧.knows result.0.turns u → CrashesLeave result.0.turns.layout (D.trace result.0.turns.disk) u }
     // Whatever the disk tells: it is told to have failed only where the count of failed calls rose in this job.

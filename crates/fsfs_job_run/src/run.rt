@@ -1,10 +1,11 @@
 //! The jobs of a script one after another.
-ghost use Rattle.std.specs.Prelude.{◌≡◌, ◌⊎◌, ◌≤◌, ℕ, None, length, IfOk, OnErr};
+ghost use Rattle.std.specs.Prelude.{◌≡◌, ◌⊎◌, ◌≤◌, ℕ, true, None, length, IfOk, OnErr};
 ghost use Rattle.fsfs_base.specs.Failures.{Rose};
 ghost use Rattle.fsfs_turn.specs.Mountings.{RoseBy};
 ghost use Rattle.fsfs_turn.specs.Views.{View};
+ghost use Rattle.fsfs_repo.specs.BeginSteps.{HasLastName};
 ghost use Rattle.fsfs_repo.specs.Owned.Crashes.{CrashesLeave};
-ghost use Rattle.fsfs_job_run.specs.Serial.Jobs.{bench_faults_in};
+ghost use Rattle.fsfs_job_run.specs.Serial.Jobs.{bench_faults_in, tell_full};
 ghost use Rattle.fsfs_job_run.specs.Serial.Listed.{LeavesListed};
 ghost use Rattle.fsfs_job_run.specs.Workers.Lines.{disk_faults_in};
 ghost use Rattle.fsfs_job_run.specs.Running.{DoAll, HasGiven};
@@ -33,6 +34,9 @@ pub fn run_jobs<D: Disk, R, G: Gate>(
     // Over what the pass knows, in no section: jobs one after another, and behind the last it is in none.
     ensures does { (v : View) → ⟦<Owned<D> as Turns<R>>⟧.knows repo.turns v → v.section ≡ None
         → IfOk result.1 (λ answers. DoAll (⟦<Owned<D> as Turns<R>>⟧.knows result.0.turns) micros jobs.now answers.items v) }
+    // An answer tells that names are full only where no name is left: then none is behind the last job either.
+    ensures full { (v : View) → ⟦<Owned<D> as Turns<R>>⟧.knows repo.turns v → v.section ≡ None
+        → IfOk result.1 (λ answers. tell_full answers.items ≡ true → HasLastName (⟦<Owned<D> as Turns<R>>⟧.store result.0.turns)) }
     ensures each { IfOk result.1 (λ answers. length answers.items ≡ length jobs.now) }
     ensures none { OnErr result.1 (result.0 ≡ repo) }
     ensures crashes { (u : View) → ⟦<Owned<D> as Turns<R>>⟧.knows result.0.turns u → CrashesLeave result.0.turns.layout (D.trace result.0.turns.disk) u }

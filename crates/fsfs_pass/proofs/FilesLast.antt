@@ -6,6 +6,7 @@ use Rattle.fsfs_disk.specs.Trace.{Trace, files_now}
 use Rattle.fsfs_disk.specs.Trace as real
 use Rattle.fsfs_disk.specs.Labels.{Label}
 use Rattle.fsfs_turn.specs.Stands.{OwnFilesLast}
+use Rattle.fsfs_turn.specs.declared.since.Since.{Since}
 use Rattle.fsfs_turn.proofs.OwnFiles.{SparesOwn, IsNotOwn, own_last}
 use Rattle.fsfs_pass.specs.Met.{Lasts}
 use Rattle.fsfs_pass.proofs.Lasting.{IsPassingChange, lasts_behind, lasts_failed, lasts_torn, lasts_unmoved}
@@ -33,13 +34,13 @@ module _ (layout : Layout) (n : ℕ) (t new : Trace) where
 -- ---- the files that no turn touches
 
 -- they are in their formats in each image of each moment then, where they were before
-abbrev pub OwnStays : Layout → ℕ → Trace → Trace → Type 0
+abbrev pub OwnStays : Layout → Since → Trace → Trace → Type 0
 OwnStays layout since t new = OwnFilesLast layout since (Some t) → OwnFilesLast layout since (Some new)
 
 some_is : (a b : Trace) → Some a ≡ Some b → a ≡ b
 some_is a b e = cc
 
-module _ (layout : Layout) (since : ℕ) (t new : Trace) where
+module _ (layout : Layout) (since : Since) (t new : Trace) where
   own_behind : (change : real.NameChange) → SparesOwn change → real.Performs change (Some t) (Some new) → OwnStays layout since t new
   own_behind change spares done own = subst (λ z. OwnFilesLast layout since (Some z)) (sym (some_is new (real.add_operation (real.Done change) t) done)) (own_last layout since t (real.Done change) spares own)
 

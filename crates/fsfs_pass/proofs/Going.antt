@@ -21,6 +21,7 @@ use Rattle.fsfs_turn.specs.Past.{doubt, Safe}
 use Rattle.fsfs_turn.specs.Views.{View, Sees, is_held}
 use Rattle.fsfs_turn.specs.Standing.{IsStore}
 use Rattle.fsfs_turn.specs.Stands.{OwnFilesLast}
+use Rattle.fsfs_turn.specs.declared.since.Since.{Since}
 use Rattle.fsfs_turn.specs.Telling.{TellsSeen}
 use Rattle.fsfs_turn.proofs.TurnEnds.{StaysWith, IsAfter}
 use Rattle.fsfs_turn.proofs.Moves.{Moved, call_moved}
@@ -106,7 +107,7 @@ module _ (first : SeatView) (views : List SeatView) (lock young : ℕ) (t : Trac
     here = subst (λ l. Moved l young new w (view_of me) (view_of after_call) a.world.lock) own.layout moved
 
     owns_here : OwnFilesLast first.layout first.since (Some new)
-    owns_here = subst (λ (y : Layout × ℕ). OwnStays y.0 y.1 t new) (λ i. (own.layout i, own.since i)) owns s.own
+    owns_here = subst (λ (y : Layout × Since). OwnStays y.0 y.1 t new) (λ i. (own.layout i, own.since i)) owns s.own
 
     adds : Adds me after_call young young
     adds =

@@ -21,6 +21,7 @@ use Rattle.fsfs_turn.specs.Past.{doubt, Safe}
 use Rattle.fsfs_turn.specs.Found.{seen_within}
 use Rattle.fsfs_turn.specs.Standing.{IsStore}
 use Rattle.fsfs_turn.specs.Stands.{OwnFilesLast}
+use Rattle.fsfs_turn.specs.declared.since.Since.{Since}
 use Rattle.fsfs_turn.proofs.Moves.{Spares, Moved}
 use Rattle.fsfs_pass.specs.declared.seats.seat_view.Before.{Before}
 use Rattle.fsfs_pass.specs.declared.seats.seat_view.Kin.{Kin}
@@ -195,7 +196,7 @@ module _ (first : SeatView) (views : List SeatView) (lock young : ℕ) (t : Trac
   seat_sees = own.sees
 
   pub seat_safe : Safe first.layout me.since t me.opened s.world.floor s.world.history (doubt s.world.lock)
-  seat_safe = subst (λ (y : ℕ × ℕ). Safe first.layout y.0 t y.1 s.world.floor s.world.history (doubt s.world.lock)) (λ i. (sym own.since i, sym own.opened i)) s.safe
+  seat_safe = subst (λ (y : Since × ℕ). Safe first.layout y.0 t y.1 s.world.floor s.world.history (doubt s.world.lock)) (λ i. (sym own.since i, sym own.opened i)) s.safe
 
   -- behind a step of its pass the table holds the state after it
   -- it has met the trace as it is then
@@ -212,7 +213,7 @@ module _ (first : SeatView) (views : List SeatView) (lock young : ℕ) (t : Trac
   goes_on u l lock2 young2 t2 m same lock_is sure lasts owns short met adds turns = record {
     world = m.world;
     store = subst (λ o. IsStore first.layout young2 o t2 m.world) (sym (ap stuck_place m.lock_is)) m.store;
-    safe = subst (λ (y : ℕ × ℕ). Safe first.layout y.0 t2 y.1 m.world.floor m.world.history (doubt m.world.lock)) (λ i. ((m.since_is ∙ own.since) i, (m.opened_is ∙ own.opened) i)) m.safe;
+    safe = subst (λ (y : Since × ℕ). Safe first.layout y.0 t2 y.1 m.world.floor m.world.history (doubt m.world.lock)) (λ i. ((m.since_is ∙ own.since) i, (m.opened_is ∙ own.opened) i)) m.safe;
     own = owns;
     up = m.sees.up;
     short = short;

@@ -26,6 +26,7 @@ use Rattle.fsfs_machine.proofs.Answering.{seen_of}
 use Rattle.fsfs_turn.specs.Past.{doubt, Safe}
 use Rattle.fsfs_turn.specs.Standing.{IsStore}
 use Rattle.fsfs_turn.specs.Stands.{OwnFilesLast}
+use Rattle.fsfs_turn.specs.declared.since.Since.{Since}
 use Rattle.fsfs_turn.specs.Alone.{are_harmless}
 use Rattle.fsfs_turn.specs.Views.{Begins, is_held, Looked, FoundStuck, Revealed}
 use Rattle.fsfs_turn.proofs.Alone.{same_by_length}
@@ -370,8 +371,8 @@ module _ (began : DiskSeen) (first : SeatView) where
               ap (λ l. doubt l) (word_free k.world.lock k.up (sym k.lock_is ∙ free)),
               none_of me.0.pass.stuck (harmful_so (is_some me.0.pass.stuck) (λ is. absurd (let stuck = k.causes.found id me.0 at (seat_stays me.0 sits) is in omega (arith, stuck, free)))),
             );
-        safe = subst (λ (y : Layout × (ℕ × ℕ)). Safe y.0 y.1.0 t y.1.1 k.world.floor k.world.history (doubt k.world.lock)) (λ i. (sym o.layout i, (sym o.since i, sym o.opened i))) k.safe;
-        own = subst (λ (y : Layout × ℕ). OwnFilesLast y.0 y.1 (Some t)) (λ i. (sym o.layout i, sym o.since i)) k.own;
+        safe = subst (λ (y : Layout × (Since × ℕ)). Safe y.0 y.1.0 t y.1.1 k.world.floor k.world.history (doubt k.world.lock)) (λ i. (sym o.layout i, (sym o.since i, sym o.opened i))) k.safe;
+        own = subst (λ (y : Layout × Since). OwnFilesLast y.0 y.1 (Some t)) (λ i. (sym o.layout i, sym o.since i)) k.own;
       }
         where
           o : Seated first k.world t id me.0

@@ -72,7 +72,7 @@ pub record Store (first : SeatView) (views : List SeatView) (lock young : ℕ) (
   pub world : World
   pub store : IsStore first.layout young (stuck_place world.lock) t world
   pub safe : Safe first.layout first.since t first.opened world.floor world.history (doubt world.lock)
-  -- the files that no turn touches are in their formats in each of these images
+  -- the files that no turn changes are in their formats, with the bytes of the opening, in each of these images
   pub own : OwnFilesLast first.layout first.since (Some t)
   pub up : is_up world.lock ≡ true
   pub short : HasShortFiles (files_now t)

@@ -2,6 +2,7 @@
 use Rattle.std.specs.Prelude.{◌≡◌, ◌+◌, ◌-◌, ◌/◌, ◌^◌, ◌++◌, ℕ, List, [], ◌∷◌, length, nat_le, Bool, true, false, Option, Some, None, if◌then◌else◌}
 use mathlib.Core.Option.{some}
 use lib.ListN.{get_elem?}
+use Rattle.std.specs.FinMap.{empty}
 use Rattle.fsfs_machine.specs.declared.machine.Recorded.{Recorded}
 use Rattle.fsfs_disk.specs.Trace.{Trace}
 use Rattle.fsfs_base.specs.declared.places.place.DiskPlace.{DiskPlace}
@@ -128,7 +129,7 @@ settled_view met v = record v { met = met; kin = record v.kin { stage = Sitting 
 abbrev pub left_view : SeatView
 left_view = record {
   layout = record { format = Four; folders = OneFolder; sized = tt };
-  since = 0;
+  since = record { operations = 0; files = empty };
   opened = 0;
   number = 0;
   pass = first_pass 0 0;

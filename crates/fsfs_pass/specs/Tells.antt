@@ -84,7 +84,7 @@ pub record IsOwn (w : World) (number : ℕ) (x : ℕ × List ℕ) : Type 0 where
 
 -- The disk with this trace is that of a state of the machine that is kept, of which the pass knows what it knows. Each image of each
 -- moment since the opening, in the middle of a call too, stands for a first part of its history, or for it with the revision in doubt; and
--- has the files that no turn touches in their formats.
+-- has the files that no turn changes in their formats, with the bytes of the opening.
 pub record IsMet (v : SeatView) (t : Trace) : Type 0 where
   pub world : World
   pub store : IsStore v.layout world.young (stuck_place world.lock) t world

@@ -11,6 +11,7 @@ use Rattle.fsfs_images.proofs.Showing.{image_read}
 use Rattle.fsfs_machine.specs.declared.machine.Recorded.{Recorded}
 use Rattle.fsfs_machine.specs.declared.machine.Coming.{Coming}
 use Rattle.fsfs_machine.specs.Machine.{World, stuck_place, recorded, revisions}
+use Rattle.fsfs_machine.specs.Kept.{Follows}
 use Rattle.fsfs_machine.proofs.Growing.{got_before}
 use Rattle.fsfs_turn.specs.Found.{get_taken, seen_within}
 use Rattle.fsfs_turn.specs.Past.{doubt, IsPart, WasLeft}
@@ -22,7 +23,7 @@ use Rattle.fsfs_turn.proofs.Alone.{same_by_length}
 use Rattle.fsfs_turn.proofs.Moments.{numbers, past_of}
 use Rattle.fsfs_turn.proofs.Standings.{files_stand}
 use Rattle.fsfs_turn.proofs.Stepping.{take_drop}
-use Rattle.fsfs_turn.proofs.Wholeness.{has_history, part_shown}
+use Rattle.fsfs_turn.proofs.Wholeness.{has_history, part_shown, if_doubtful}
 use Rattle.fsfs_pass.specs.declared.seats.seat_view.SeatView.{SeatView}
 use Rattle.fsfs_pass.specs.Seats.{view_of}
 use Rattle.fsfs_pass.specs.Tells.{IsMet}
@@ -63,7 +64,7 @@ module _ (v : SeatView) (t : Trace) (met : IsMet v t) where
       (r.0, r.2, past_of (length w.history) w.floor w.history w.lock r.0 (omega arith) store.kept.floor (store.kept.stands r.0 r.1), n.0, n.1)
 
   all_now : (m : Files) → real.IsImage t.first t.operations m → HasPart (length w.history) m
-  all_now m i = has_past (length w.history) m (left_now m i) (met.own m (image_now v.since t.first t.operations m i))
+  all_now m i = has_past (length w.history) m (left_now m i) (met.own m (image_now v.since.operations t.first t.operations m i)).0
 
   pub leaves : Leaves v t
   leaves = record {
@@ -71,8 +72,10 @@ module _ (v : SeatView) (t : Trace) (met : IsMet v t) where
     begins = (drop v.pass.seen w.history, take_drop v.pass.seen w.history ∙ ap (λ l. l ++ drop v.pass.seen w.history) (sym sees.seen));
     least = met.least;
     doubt = doubt w.lock;
-    moments = λ m i. has_past v.opened m (met.safe m i) (met.own m i);
+    follows = if_doubtful (Follows w.history) w.lock store.kept.next;
+    moments = λ m i. has_past v.opened m (met.safe m i) (met.own m i).0;
     now = all_now;
+    own = met.own;
     whole = λ m i r x at.
         let g = all_now m i in
         let here : slice_get w.history r ≡ Some x = get_taken v.pass.seen r w.history x (ap (λ l. slice_get l r) (sym sees.seen) ∙ at) in

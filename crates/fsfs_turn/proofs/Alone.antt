@@ -31,6 +31,7 @@ use Rattle.fsfs_turn.specs.Views.{View, Begins, coming_of, IsDue, Answers, Calle
 use Rattle.fsfs_turn.specs.Learning.{PropsRead, FloorRead, drawn_of, CounterRead, ReadsCounter, Listed, BenchMade, Purged, SpentPurged}
 use Rattle.fsfs_turn.specs.Standing.{Knows}
 use Rattle.fsfs_turn.specs.Stands.{OwnFilesLast}
+use Rattle.fsfs_turn.specs.declared.since.Since.{Since}
 use Rattle.fsfs_turn.specs.Alone.{brings_doubt, are_harmless, is_doubtful, is_doubtful_at, KnowsAlone, AloneStays, AloneAdds}
 use Rattle.fsfs_turn.specs.Found.{seen_within}
 use Rattle.fsfs_turn.proofs.OwnFiles.{IsNotOwn, SparesOwn, own_last}
@@ -153,7 +154,7 @@ goes_by_adoption change spares old new without held left result ok err = goes_at
 pub goes_if_there : {E : Type 0} (change : real.NameChange) → SparesOwn change → (old new : Option Trace) (result : Result Bool E) → IfOk result (λ there. PerformsIfThere there change old new) → OnErr result (FailsAt change old new) → GoesOn old new
 goes_if_there change spares old new result ok err = goes_at change spares old new (ended_if_there change old new result ok err)
 
-own_next : (layout : Layout) (since now : ℕ) (old new : Option Trace) → now ≡ since → GoesOn old new → OwnFilesLast layout since old → OwnFilesLast layout now new
+own_next : (layout : Layout) (since now : Since) (old new : Option Trace) → now ≡ since → GoesOn old new → OwnFilesLast layout since old → OwnFilesLast layout now new
 own_next layout since now old new same goes own = subst (λ n. OwnFilesLast layout n new) (sym same) (⊎_elim
     (λ is. subst (λ o. OwnFilesLast layout since o) (sym is) own)
     (λ more. subst (λ o. OwnFilesLast layout since o) (sym more.2) (added old more.0 more.1 own)) goes)

@@ -35,7 +35,7 @@ use Rattle.fsfs_turn.specs.Alone.{KnowsAlone}
 use Rattle.fsfs_turn.specs.Views.{View, Sees}
 use Rattle.fsfs_turn.specs.Standing.{no_others, IsStore}
 use Rattle.fsfs_turn.specs.Stands.{HasOwnFiles}
-use Rattle.fsfs_turn.specs.Opening.{new_revision, NewStoreIsKnown}
+use Rattle.fsfs_turn.specs.Opening.{new_revision, NewStoreIsKnown, opened_at}
 use Rattle.fsfs_turn.specs.Past.{HasCounter, Safe}
 use Rattle.fsfs_images.proofs.Showing.{own_file, image_read}
 use Rattle.fsfs_turn.proofs.Moments.{past_of, numbers}
@@ -103,7 +103,7 @@ module _ (first : Files) (labels : List Label) (before : List Operation) (date :
   world = created ((date_name, date) ∷ []) first_bytes
 
   view : View
-  view = record { layout = new.layout; since = length before + 1; opened = 1; number = 0; pass = first_pass 1 0; seen = new_revision date ∷ []; section = None; sure = false; given = [] }
+  view = record { layout = new.layout; since = opened_at first before; opened = 1; number = 0; pass = first_pass 1 0; seen = new_revision date ∷ []; section = None; sure = false; given = [] }
 
   store : IsStore new.layout 0 None (record { first = first; labels = labels; operations = Done real.FirmNames ∷ before }) world
   unfolding world disk
@@ -113,7 +113,7 @@ module _ (first : Files) (labels : List Label) (before : List Operation) (date :
   unfolding world view
   sees = record { pass = refl; seen = refl; section = refl; up = refl; sure = λ e. absurd cc; whole = λ z e. absurd cc; given = λ k i. absurd i; opened = omega arith; shown = all_show }
 
-  safe : Safe new.layout (length before + 1) (record { first = first; labels = labels; operations = Done real.FirmNames ∷ before }) 1 0 (new_revision date ∷ []) None
+  safe : Safe new.layout (opened_at first before) (record { first = first; labels = labels; operations = Done real.FirmNames ∷ before }) 1 0 (new_revision date ∷ []) None
   unfolding disk
   safe m i =
       let r = image_read new.layout 0 no_others first (Done real.FirmNames ∷ before) (Firm ∷ disk) (Opening before disk read) m (now i) in
@@ -137,7 +137,7 @@ module _ (first : Files) (labels : List Label) (before : List Operation) (date :
         uuid = (s.opened.uuid, s.small.behind.uuid);
       }
 
-  pub new_is_known : (v : View) × KnowsAlone new.layout 0 None (Some (record { first = first; labels = labels; operations = Done real.FirmNames ∷ before })) v × (v.section ≡ None) × (v.pass ≡ first_pass 1 0) × (v.seen ≡ new_revision date ∷ []) × (v.since ≡ length before + 1)
+  pub new_is_known : (v : View) × KnowsAlone new.layout 0 None (Some (record { first = first; labels = labels; operations = Done real.FirmNames ∷ before })) v × (v.section ≡ None) × (v.pass ≡ first_pass 1 0) × (v.seen ≡ new_revision date ∷ []) × (v.since ≡ opened_at first before)
   unfolding view world
   new_is_known = (view, ((world, store, sees, refl, refl, safe, refl), record { all = refl; own = refl; free = λ harmless. refl; sound = λ harmless. refl; found = λ harmless. refl }, own_from_opening new.layout first before own), refl, refl, refl, refl)
 

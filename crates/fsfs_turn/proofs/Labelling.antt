@@ -23,6 +23,7 @@ use Rattle.fsfs_machine.specs.declared.machine.Step.TheVariants as step
 use Rattle.fsfs_machine.specs.Machine.{World, did, barred, either, answer, learns, held_by, is_there, is_outside, labelled, unlabelled, begun_txn, made, purged, purged_spent, listed, turned}
 use Rattle.fsfs_machine.specs.Kept.{Kept, IsIn, AllGiven, one}
 use Rattle.fsfs_images.specs.Shown.{IsTraceOf, Attempting, KeepingLabel, DroppingLabel}
+use Rattle.fsfs_turn.specs.declared.since.Since.{Since}
 use Rattle.fsfs_turn.specs.Past.{doubt, Safe}
 use Rattle.fsfs_turn.specs.Views.{View, Sees, with_txns, IsTxnOver}
 use Rattle.fsfs_turn.specs.Learning.{has_number, kept_names, with_labels, with_named, with_spent, Listed, MayMake, BenchMade, MayPurge, Purged, SpentPurged}
@@ -69,14 +70,14 @@ kept_given ls (k ∷ ks) given all = elim (has_number k ls) as (λ b. AllGiven g
 
 -- ---- a call on a label changes no file
 
-pub safe_label : (layout : Layout) (since n f : ℕ) (h : List Recorded) (d : Option Coming) (old : Trace) (op : Operation)
+pub safe_label : (layout : Layout) (since : Since) (n f : ℕ) (h : List Recorded) (d : Option Coming) (old : Trace) (op : Operation)
     → ((m : Files) → IsImage old.first (op ∷ old.operations) m → IsImage old.first old.operations m)
     → ((m : Files) → (ImageAfter (change_of op) (files_after old.first old.operations) (IsImage old.first old.operations) m) ⊎ (TornBy (change_of op) (IsImage old.first old.operations) m) → IsImage old.first old.operations m)
     → Safe layout since old n f h d → Safe layout since (add_operation op old) n f h d
 safe_label layout since n f h d old op images middle safe m i =
-    safe m (⊎_elim (λ a. image_now since old.first old.operations m (images m a))
-    (λ b. ⊎_elim (λ a. image_now since old.first old.operations m (middle m (inl a)))
-    (λ t. ⊎_elim (λ c. image_now since old.first old.operations m (middle m (inr c))) (λ before. before) t) b.1) i)
+    safe m (⊎_elim (λ a. image_now since.operations old.first old.operations m (images m a))
+    (λ b. ⊎_elim (λ a. image_now since.operations old.first old.operations m (middle m (inl a)))
+    (λ t. ⊎_elim (λ c. image_now since.operations old.first old.operations m (middle m (inr c))) (λ before. before) t) b.1) i)
 
 -- outside of each section
 outside_is : (p : ℕ) (lock : Lock) → held_by p lock ≡ None → is_outside p lock ≡ true

@@ -18,6 +18,7 @@ use Rattle.fsfs_machine.specs.Disk.{Disk, IsImage}
 use Rattle.fsfs_machine.specs.Machine.{World, either, after, spoiled, is_due, is_quiet, recorded, with_next}
 use Rattle.fsfs_machine.specs.Kept.{Kept, StandsFor, StandsForEither, StandsIn, Stands, FloorIs}
 use Rattle.fsfs_images.specs.Shown.{AreRead}
+use Rattle.fsfs_turn.specs.declared.since.Since.{Since}
 use Rattle.fsfs_turn.specs.Views.{Begins}
 use Rattle.fsfs_turn.specs.Past.{doubt_in, doubt, IsPart, IsPast, HasCounter, WasLeft, Safe}
 use Rattle.fsfs_turn.proofs.Stepping.{take_drop}
@@ -152,7 +153,7 @@ quiet_doubt Over quiet = refl
 pub past_more : (n f : ℕ) (h k : List Recorded) (d b : Option Coming) (e : Disk) → ((g : List Recorded) → IsPart h d g → IsPart k b g) → IsPast n f h d e → IsPast n f k b e
 past_more n f h k d b e more p = (p.0, p.1, p.2, more p.0 p.3, p.4)
 
-pub safe_more : (layout : Layout) (since n f : ℕ) (t : Trace) (h k : List Recorded) (d b : Option Coming) → ((g : List Recorded) → IsPart h d g → IsPart k b g) → Safe layout since t n f h d → Safe layout since t n f k b
+pub safe_more : (layout : Layout) (since : Since) (n f : ℕ) (t : Trace) (h k : List Recorded) (d b : Option Coming) → ((g : List Recorded) → IsPart h d g → IsPart k b g) → Safe layout since t n f h d → Safe layout since t n f k b
 safe_more layout since n f t h k d b more safe m i = let s = safe m i in (s.0, s.1, past_more n f h k d b s.0 more s.2, s.3, s.4)
 
 -- the revision in doubt is in the history now
@@ -168,7 +169,7 @@ pub part_due : (h : List Recorded) (s : Section) (place : DiskPlace) (went : Wen
 part_due h s place went g due p = ⊎_elim (λ b. inl b) (λ y. inr (y.0, doubt_after s went ∙ doubt_before s place y.0 due y.1, y.2)) p
 
 -- an operation on the disk: its images now, those in its middle, and those before
-pub safe_step : (layout : Layout) (since n f : ℕ) (h : List Recorded) (old : Trace) (op : Operation) (now then : Disk) (lock mid : Lock) (d : Option Coming) → n ≤ length h → f ≤ length h
+pub safe_step : (layout : Layout) (since : Since) (n f : ℕ) (h : List Recorded) (old : Trace) (op : Operation) (now then : Disk) (lock mid : Lock) (d : Option Coming) → n ≤ length h → f ≤ length h
     → ((m : Files) → real.IsImage old.first (op ∷ old.operations) m → (e : Disk) × IsImage now e × AreRead layout f m e)
     → ((e : Disk) → IsImage now e → Stands f h lock e) → ((e : Disk) → IsImage now e → FloorIs f e × HasCounter e)
     → ((m : Files) → (ImageAfter (change_of op) (files_after old.first old.operations) (real.IsImage old.first old.operations) m) ⊎ (TornBy (change_of op) (real.IsImage old.first old.operations) m) → (e : Disk) × IsImage then e × AreRead layout f m e)
@@ -183,5 +184,5 @@ safe_step layout since n f h old op now then lock mid d le floor images stands s
     from_mid c = let r = middle m c in let s = small_mid r.0 r.1 in (r.0, r.2, subst (λ b. IsPast n f h b r.0) same (past_of n f h mid r.0 le floor (stands_mid r.0 r.1)), s.0, s.1)
 
 -- a call that failed before it reached the disk
-pub safe_not : (layout : Layout) (since n : ℕ) (old : Trace) (w : World) (s : Section) (place : DiskPlace) (went : Went) → is_due s place ≡ true → Safe layout since old n w.floor w.history (doubt_in s) → Safe layout since old n w.floor w.history (doubt_in (either went (after s) (spoiled s)))
+pub safe_not : (layout : Layout) (since : Since) (n : ℕ) (old : Trace) (w : World) (s : Section) (place : DiskPlace) (went : Went) → is_due s place ≡ true → Safe layout since old n w.floor w.history (doubt_in s) → Safe layout since old n w.floor w.history (doubt_in (either went (after s) (spoiled s)))
 safe_not layout since n old w s place went due safe = safe_more layout since n w.floor old w.history w.history (doubt_in s) (doubt_in (either went (after s) (spoiled s))) (λ g q. part_due w.history s place went g due q) safe

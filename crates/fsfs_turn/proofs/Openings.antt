@@ -51,7 +51,7 @@ use Rattle.fsfs_turn.specs.Bytes.{bytes_beside, bytes_of, ShowsOne, BytesShow, A
 use Rattle.fsfs_turn.specs.Alone.{KnowsAlone}
 use Rattle.fsfs_turn.specs.Views.{View, Sees}
 use Rattle.fsfs_turn.specs.Standing.{no_others, IsWhole, IsStore}
-use Rattle.fsfs_turn.specs.Opening.{LeftoversAgree, StoreIsKnown, given_before}
+use Rattle.fsfs_turn.specs.Opening.{LeftoversAgree, StoreIsKnown, given_before, opened_at}
 use Rattle.fsfs_turn.specs.Past.{Safe}
 use Rattle.fsfs_turn.proofs.Beginning.{at_none, ok_is}
 use Rattle.fsfs_turn.proofs.FirstParts.{ids_lower}
@@ -331,7 +331,7 @@ module _ (first : Files) (labels : List Label) (before : List Operation) (h : Li
   }
 
   abbrev view : View
-  view = record { layout = layout; since = length before + 1; opened = length g; number = 0; pass = first_pass (length g) f; seen = g; section = None; sure = false; given = given_before s.opened.next_txn.number }
+  view = record { layout = layout; since = opened_at first before; opened = length g; number = 0; pass = first_pass (length g) f; seen = g; section = None; sure = false; given = given_before s.opened.next_txn.number }
 
   abbrev trace : Trace
   trace = record { first = first; labels = labels; operations = Done real.FirmNames ∷ before }
@@ -342,7 +342,7 @@ module _ (first : Files) (labels : List Label) (before : List Operation) (h : Li
   sees : Sees world view
   sees = record { pass = refl; seen = sym (take_all (length g) g (omega arith)); section = refl; up = refl; sure = λ e. absurd cc; whole = λ z e. absurd cc; given = λ q i. i; opened = omega arith; shown = all_show }
 
-  safe : Safe layout (length before + 1) trace (length g) f g None
+  safe : Safe layout (opened_at first before) trace (length g) f g None
   safe z i =
       let r = image_read layout f no_others first (Done real.FirmNames ∷ before) (Firm ∷ disk) (Opening before disk read) z (now i) in
       let n = numbers world kept r.0 r.1 in
@@ -354,7 +354,7 @@ module _ (first : Files) (labels : List Label) (before : List Operation) (h : Li
       stands : (e : Disk) → IsImage (Firm ∷ disk) e → Stands f g Free e
       stands = kept.stands
 
-  pub is_known : (v : View) × KnowsAlone layout s.opened.youngest None (Some trace) v × (v.section ≡ None) × (v.pass ≡ first_pass (length h) s.opened.min_unpacked_rev) × (revisions v.seen ≡ h) × (v.since ≡ length before + 1) × (v.given ≡ given_before s.opened.next_txn.number)
+  pub is_known : (v : View) × KnowsAlone layout s.opened.youngest None (Some trace) v × (v.section ≡ None) × (v.pass ≡ first_pass (length h) s.opened.min_unpacked_rev) × (revisions v.seen ≡ h) × (v.since ≡ opened_at first before) × (v.given ≡ given_before s.opened.next_txn.number)
   is_known = (view, ((world, store, sees, refl, refl, safe, refl), record { all = (let c = s.count in omega (arith, long, c)); own = omega arith; free = λ harmless. refl; sound = λ harmless. refl; found = λ harmless. refl }, own_from_opening layout first before (own_opened (files_after first before) h s)), refl, ap (λ n. first_pass n s.opened.min_unpacked_rev) long, revisions_are, refl, refl)
 
 pub store_is_known : StoreIsKnown

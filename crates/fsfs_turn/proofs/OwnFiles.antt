@@ -1,4 +1,4 @@
--- The files that no turn touches are in their formats in each image of each moment.
+-- The files that no turn changes are in their formats, and have their bytes, in each image of each moment.
 use Rattle.std.proofs.Common.{◌≡◌, ◌+◌, ℕ, List, [], ◌∷◌, length, true, false, ⊎_elim, refl, sym, ap, subst, ◌∙◌, arith}
 use Rattle.std.specs.Prelude.{Bool, Option, Some, None, unwrap_or}
 use Rattle.std.specs.FinMap.{get, insert, remove}
@@ -26,7 +26,8 @@ use Rattle.fsfs_machine.specs.declared.machine.Txn.{Txn}
 use Rattle.fsfs_images.specs.RealNames.{machine_file, machine_name}
 use Rattle.fsfs_images.specs.Shown.{Fits, IsBeside}
 use Rattle.fsfs_images.proofs.RealNaming.{fits_in}
-use Rattle.fsfs_turn.specs.Stands.{HasOwnFiles}
+use Rattle.fsfs_turn.specs.declared.since.Since.{Since}
+use Rattle.fsfs_turn.specs.Stands.{HasOwnFiles, KeepsOwnFiles, is_lasting}
 use Rattle.fsfs_turn.specs.Views.{View, rev_name, IsDue, MayAdopt}
 
 abbrev pub is_own : RepositoryFile → Bool
@@ -56,11 +57,26 @@ own_moves a b layout same own = record {
   uuid = (own.uuid.0, subst (λ (o : Option (List ℕ)). IsUuid (unwrap_or o []) own.uuid.0) (sym (same only.Uuid refl)) own.uuid.1);
 }
 
+-- they are among those that last
+own_lasts : (f : OnlyFile) → is_own (file.Only f) ≡ true → is_lasting f ≡ true
+own_lasts only.Format own = refl
+own_lasts only.FsType own = refl
+own_lasts only.Uuid own = refl
+own_lasts f own = absurd cc
+
+-- where those that last are the same, all that is known of them is
+keeps_moves : (a b : Files) (layout : Layout) (first : Files) → ((f : OnlyFile) → is_lasting f ≡ true → get b (only_name f) ≡ get a (only_name f)) → KeepsOwnFiles layout first a → KeepsOwnFiles layout first b
+keeps_moves a b layout first same keeps = (own_moves a b layout (λ f own. same f (own_lasts f own)) keeps.0, λ f lasts. same f lasts ∙ keeps.1 f lasts)
+
+-- so the formats were those that they are
+pub were_own : (layout : Layout) (before files : Files) → KeepsOwnFiles layout before files → HasOwnFiles before layout
+were_own layout before files keeps = own_moves files before layout (λ f own. sym (keeps.1 f (own_lasts f own))) keeps.0
+
 -- ---- changes that spare them
 
 -- none of them has this name
 abbrev pub IsNotOwn : List ℕ → Type 0
-IsNotOwn name = (f : OnlyFile) → is_own (file.Only f) ≡ true → only_name f ≡ name → ⊥
+IsNotOwn name = (f : OnlyFile) → is_lasting f ≡ true → only_name f ≡ name → ⊥
 
 abbrev pub SparesOwn : NameChange → Type 0
 SparesOwn (Put name bytes) = IsNotOwn name
@@ -71,24 +87,30 @@ SparesOwn FirmNames = Unit {0}
 SparesOwn (KeepLabel l) = Unit {0}
 SparesOwn (DropLabel l) = Unit {0}
 
--- a name of the machine's is none of theirs
-machine_spares : (layout : Layout) (n : FileName) → Fits n → (name : List ℕ) → name ≡ machine_name layout n → IsNotOwn name
-machine_spares layout n fits name named f own e = own_beside layout f own n fits (sym (e ∙ named))
+abbrev lasts_as : RepositoryFile → Bool
+lasts_as (file.Only f) = is_lasting f
+lasts_as f = false
+
+-- a name of the machine's is none of theirs, but for the floor's
+machine_spares : (layout : Layout) (n : FileName) → lasts_as (machine_file n) ≡ false → Fits n → (name : List ℕ) → name ≡ machine_name layout n → IsNotOwn name
+machine_spares layout n changes fits name named f lasts e =
+    let same : machine_file n ≡ file.Only f = names_apart layout (machine_file n) (file.Only f) (fits_in layout n fits) tt (sym (e ∙ named)) in
+    both_ways (lasts_as (machine_file n)) changes (ap lasts_as same ∙ lasts)
 
 pub due_spares : (v : View) (place : DiskPlace) (change : NameChange) → IsDue v place change → SparesOwn change
-due_spares v (Begin begin.Put) (Put name bytes) d = machine_spares v.layout CounterNext tt name d.2
-due_spares v (Begin begin.Rename) (Rename from to) d = (machine_spares v.layout CounterNext tt from d.2, machine_spares v.layout Counter tt to d.3)
+due_spares v (Begin begin.Put) (Put name bytes) d = machine_spares v.layout CounterNext refl tt name d.2
+due_spares v (Begin begin.Rename) (Rename from to) d = (machine_spares v.layout CounterNext refl tt from d.2, machine_spares v.layout Counter refl tt to d.3)
 due_spares v (Begin begin.Firm) FirmNames d = tt
-due_spares v (Commit PutProps) (Put name bytes) d = machine_spares v.layout (Props (length v.seen)) d.4 name d.2
+due_spares v (Commit PutProps) (Put name bytes) d = machine_spares v.layout (Props (length v.seen)) refl d.4 name d.2
 due_spares v (Commit FirmRev) FirmNames d = tt
-due_spares v (Commit PutCurrent) (Put name bytes) d = machine_spares v.layout CurrentNext tt name d.2
-due_spares v (Commit RenameCurrent) (Rename from to) d = (machine_spares v.layout CurrentNext tt from d.2, machine_spares v.layout Current tt to d.3)
+due_spares v (Commit PutCurrent) (Put name bytes) d = machine_spares v.layout CurrentNext refl tt name d.2
+due_spares v (Commit RenameCurrent) (Rename from to) d = (machine_spares v.layout CurrentNext refl tt from d.2, machine_spares v.layout Current refl tt to d.3)
 due_spares v (Commit FirmCurrent) FirmNames d = tt
 due_spares v place change d = absurd d
 
 -- nor is that of a commit's first file
 pub adopt_spares : (v : View) (txn : Txn) (properties : List (List ℕ × List ℕ)) (next : Revision) (bytes : List ℕ) → MayAdopt v txn properties next bytes → (name : List ℕ) → name ≡ rev_name v (length v.seen) → IsNotOwn name
-adopt_spares v txn properties next bytes may name named = machine_spares v.layout (Rev (length v.seen)) may.fits name named
+adopt_spares v txn properties next bytes may name named = machine_spares v.layout (Rev (length v.seen)) refl may.fits name named
 
 -- ---- an operation more
 
@@ -96,22 +118,22 @@ moved : (name from to : List ℕ) (o : Option (List ℕ)) (m : Files) → (name 
 moved name from to None m not_from not_to = get_left (remove m from) to name not_to ∙ get_left m from name not_from
 moved name from to (Some bytes) m not_from not_to = get_kept (remove m from) to bytes name not_to ∙ get_left m from name not_from
 
-module _ (layout : Layout) (now : Files) (Before : Files → Type 0) (here : HasOwnFiles now layout) (before : (m : Files) → Before m → HasOwnFiles m layout) where
-  put_beside : (name bytes : List ℕ) → IsNotOwn name → (m : Files) → (was : Files) × Before was × (m ≡ insert was name bytes) → HasOwnFiles m layout
-  put_beside name bytes spares m w = own_moves w.0 m layout (λ f own. ap (λ z. get z (only_name f)) w.2 ∙ get_kept w.0 name bytes (only_name f) (spares f own)) (before w.0 w.1)
+module _ (layout : Layout) (first now : Files) (Before : Files → Type 0) (here : KeepsOwnFiles layout first now) (before : (m : Files) → Before m → KeepsOwnFiles layout first m) where
+  put_beside : (name bytes : List ℕ) → IsNotOwn name → (m : Files) → (was : Files) × Before was × (m ≡ insert was name bytes) → KeepsOwnFiles layout first m
+  put_beside name bytes spares m w = keeps_moves w.0 m layout first (λ f own. ap (λ z. get z (only_name f)) w.2 ∙ get_kept w.0 name bytes (only_name f) (spares f own)) (before w.0 w.1)
 
-  own_after : (change : NameChange) → SparesOwn change → (m : Files) → ImageAfter change now Before m → HasOwnFiles m layout
+  own_after : (change : NameChange) → SparesOwn change → (m : Files) → ImageAfter change now Before m → KeepsOwnFiles layout first m
   own_after (Put name bytes) spares m i = ⊎_elim (before m) (put_beside name bytes spares m) i
   own_after (Adopt name bytes) spares m i = ⊎_elim (before m) (put_beside name bytes spares m) i
   own_after (Rename from to) spares m i = ⊎_elim (before m)
-      (λ w. own_moves w.0 m layout (λ f own. ap (λ z. get z (only_name f)) w.2 ∙ moved (only_name f) from to (get now from) w.0 (spares.0 f own) (spares.1 f own)) (before w.0 w.1)) i
+      (λ w. keeps_moves w.0 m layout first (λ f own. ap (λ z. get z (only_name f)) w.2 ∙ moved (only_name f) from to (get now from) w.0 (spares.0 f own) (spares.1 f own)) (before w.0 w.1)) i
   own_after (Remove name) spares m i = ⊎_elim (before m)
-      (λ w. own_moves w.0 m layout (λ f own. ap (λ z. get z (only_name f)) w.2 ∙ get_left w.0 name (only_name f) (spares f own)) (before w.0 w.1)) i
-  own_after FirmNames spares m i = subst (λ z. HasOwnFiles z layout) (sym i) here
+      (λ w. keeps_moves w.0 m layout first (λ f own. ap (λ z. get z (only_name f)) w.2 ∙ get_left w.0 name (only_name f) (spares f own)) (before w.0 w.1)) i
+  own_after FirmNames spares m i = subst (λ z. KeepsOwnFiles layout first z) (sym i) here
   own_after (KeepLabel l) spares m i = before m i
   own_after (DropLabel l) spares m i = before m i
 
-  own_torn : (change : NameChange) → SparesOwn change → (m : Files) → TornBy change Before m → HasOwnFiles m layout
+  own_torn : (change : NameChange) → SparesOwn change → (m : Files) → TornBy change Before m → KeepsOwnFiles layout first m
   own_torn (Put name bytes) spares m t = put_beside name t.0 spares m (t.1, t.2, t.3)
   own_torn (Adopt name bytes) spares m t = absurd t
   own_torn (Rename from to) spares m t = absurd t
@@ -121,28 +143,28 @@ module _ (layout : Layout) (now : Files) (Before : Files → Type 0) (here : Has
   own_torn (DropLabel l) spares m t = absurd t
 
 -- one that spares them, torn or not
-pub own_last : (layout : Layout) (since : ℕ) (t : Trace) (op : Operation) → SparesOwn (change_of op) → ((m : Files) → ImageSince since t.first t.operations m → HasOwnFiles m layout)
-    → (m : Files) → ImageSince since t.first (op ∷ t.operations) m → HasOwnFiles m layout
+pub own_last : (layout : Layout) (since : Since) (t : Trace) (op : Operation) → SparesOwn (change_of op) → ((m : Files) → ImageSince since.operations t.first t.operations m → KeepsOwnFiles layout since.files m)
+    → (m : Files) → ImageSince since.operations t.first (op ∷ t.operations) m → KeepsOwnFiles layout since.files m
 own_last layout since t op spares all m i = ⊎_elim (now op spares)
-    (λ b. ⊎_elim (own_after layout (files_now t) (IsImage t.first t.operations) here before (change_of op) spares m)
-    (λ c. ⊎_elim (own_torn layout (files_now t) (IsImage t.first t.operations) here before (change_of op) spares m) (all m) c) b.1) i
+    (λ b. ⊎_elim (own_after layout since.files (files_now t) (IsImage t.first t.operations) here before (change_of op) spares m)
+    (λ c. ⊎_elim (own_torn layout since.files (files_now t) (IsImage t.first t.operations) here before (change_of op) spares m) (all m) c) b.1) i
   where
-    before : (z : Files) → IsImage t.first t.operations z → HasOwnFiles z layout
-    before z is = all z (image_now since t.first t.operations z is)
+    before : (z : Files) → IsImage t.first t.operations z → KeepsOwnFiles layout since.files z
+    before z is = all z (image_now since.operations t.first t.operations z is)
 
-    here : HasOwnFiles (files_now t) layout
+    here : KeepsOwnFiles layout since.files (files_now t)
     here = before (files_now t) (files_are_image t.first t.operations)
 
-    now : (op : Operation) → SparesOwn (change_of op) → IsImage t.first (op ∷ t.operations) m → HasOwnFiles m layout
-    now (Done change) spares is = own_after layout (files_now t) (IsImage t.first t.operations) here before change spares m is
+    now : (op : Operation) → SparesOwn (change_of op) → IsImage t.first (op ∷ t.operations) m → KeepsOwnFiles layout since.files m
+    now (Done change) spares is = own_after layout since.files (files_now t) (IsImage t.first t.operations) here before change spares m is
     now (Attempted change) spares is = before m is
 
 -- ---- the opening
 
 -- from the firming of names on, with which a store is opened
-pub own_from_opening : (layout : Layout) (first : Files) (before : List Operation) → HasOwnFiles (files_after first before) layout → (m : Files) → ImageSince (length before + 1) first (Done FirmNames ∷ before) m → HasOwnFiles m layout
-own_from_opening layout first before own m i = ⊎_elim (λ is. subst (λ z. HasOwnFiles z layout) (sym is) own) (λ b. absurd (omega (arith, b.0))) i
+pub own_from_opening : (layout : Layout) (first : Files) (before : List Operation) → HasOwnFiles (files_after first before) layout → (m : Files) → ImageSince (length before + 1) first (Done FirmNames ∷ before) m → KeepsOwnFiles layout (files_after first before) m
+own_from_opening layout first before own m i = ⊎_elim (λ is. subst (λ z. KeepsOwnFiles layout (files_after first before) z) (sym is) (own, λ f lasts. refl)) (λ b. absurd (omega (arith, b.0))) i
 
 -- the files now are one of the images
-pub own_now : (layout : Layout) (since : ℕ) (t : Trace) → ((m : Files) → ImageSince since t.first t.operations m → HasOwnFiles m layout) → HasOwnFiles (files_now t) layout
-own_now layout since t all = all (files_now t) (image_now since t.first t.operations (files_now t) (files_are_image t.first t.operations))
+pub own_now : (layout : Layout) (since : Since) (t : Trace) → ((m : Files) → ImageSince since.operations t.first t.operations m → KeepsOwnFiles layout since.files m) → KeepsOwnFiles layout since.files (files_now t)
+own_now layout since t all = all (files_now t) (image_now since.operations t.first t.operations (files_now t) (files_are_image t.first t.operations))

@@ -24,7 +24,7 @@ use Rattle.fsfs_machine.specs.declared.contents.Contents.TheVariants.{Number}
 use Rattle.fsfs_machine.specs.declared.machine.Recorded.{Recorded}
 use Rattle.fsfs_machine.specs.Disk.{Disk, found, IsImage}
 use Rattle.fsfs_machine.specs.Machine.{revisions}
-use Rattle.fsfs_machine.specs.Kept.{FloorIs}
+use Rattle.fsfs_machine.specs.Kept.{Follows, FloorIs}
 use Rattle.fsfs_machine.proofs.Growing.{revisions_length}
 use Rattle.fsfs_images.specs.RealNames.{machine_name}
 use Rattle.fsfs_images.specs.Shown.{AreRead}
@@ -41,7 +41,7 @@ use Rattle.fsfs_turn.proofs.Moments.{past_of, numbers}
 use Rattle.fsfs_turn.proofs.OwnFiles.{own_beside, own_moves}
 use Rattle.fsfs_turn.proofs.Locking.{seen_within}
 use Rattle.fsfs_turn.proofs.Stepping.{take_drop}
-use Rattle.fsfs_turn.proofs.Wholeness.{has_history, part_shown}
+use Rattle.fsfs_turn.proofs.Wholeness.{has_history, part_shown, if_doubtful}
 
 -- ---- revisions without the bytes beside them
 
@@ -142,4 +142,5 @@ images_stand layout young stuck t v known own m image =
       p.1,
       omega (arith, p.2, seen_within known.0 v known.2),
       p.4,
+      if_doubtful (Follows known.0.history) known.0.lock known.1.kept.next,
     )

@@ -12,7 +12,7 @@ use Rattle.fsfs_base.specs.Files.{Files}
 use Rattle.fsfs_layout.specs.declared.layout.Layout.{Layout}
 use Rattle.fsfs_revision.specs.RevBytes.{floor_in}
 use Rattle.fsfs_revision.proofs.FloorLemmas.{floor_is}
-use Rattle.fsfs_disk.specs.Trace.{Operation, ImageSince}
+use Rattle.fsfs_disk.specs.Trace.{Operation, ImageSince, files_now}
 use Rattle.fsfs_disk.specs.Trace as real
 use Rattle.fsfs_machine.specs.declared.contents.FileName.TheVariants.{Current, Props}
 use Rattle.fsfs_machine.specs.declared.contents.Contents.TheVariants.{PropsFile, Number}
@@ -24,7 +24,7 @@ use Rattle.fsfs_machine.specs.declared.machine.Lock.{Lock}
 use Rattle.fsfs_machine.specs.declared.machine.Lock.TheVariants.{Free, Held, Stuck, Down, DownDoubtful}
 use Rattle.fsfs_machine.specs.Disk.{Disk, found, IsImage}
 use Rattle.fsfs_machine.specs.Machine.{World, with_next}
-use Rattle.fsfs_machine.specs.Kept.{coming, coming_in, StandsFor, Stands, FloorIs}
+use Rattle.fsfs_machine.specs.Kept.{coming, coming_in, Follows, StandsFor, Stands, FloorIs}
 use Rattle.fsfs_machine.proofs.Answering.{has_all}
 use Rattle.fsfs_layout.specs.Small.{IsRevLine}
 use Rattle.fsfs_images.specs.RealNames.{machine_name}
@@ -94,24 +94,25 @@ has_history layout f m e g whole floors all stands show = record { each = each; 
     names : NamesLastOf m (length g)
     names = record { text = current.0; there = current.1; number = stands.1.0; line = current.2; last = stands.1.2 }
 
+-- the revision in doubt is the one to come
+pub if_doubtful : (P : Coming → Type 0) (lock : Lock) → IfSome (coming lock) P → IfSome (doubt lock) P
+if_doubtful P (Held p s) c = in_section s c
+  where
+    in_section : (s : Section) → IfSome (coming_in s) P → IfSome (doubt_in s) P
+    in_section (CurrentRenamed x) c = c
+    in_section (CurrentFirm x) c = c
+    in_section (Doubtful place x) c = c
+    in_section s c = tt
+if_doubtful P (Stuck place x) c = c
+if_doubtful P (DownDoubtful x) c = c
+if_doubtful P Free c = tt
+if_doubtful P Down c = tt
+
 -- the bytes of a part show it
 pub part_shown : (h : List Recorded) (lock : Lock) (g : List Recorded) → AllShow h → IfSome (coming lock) (λ x. BytesShow (with_next h x)) → 0 < length g → IsPart h (doubt lock) g → BytesShow g
 part_shown h lock g all next some p = ⊎_elim
     (λ b. subst (λ l. BytesShow l) (ap (λ l. take (length g) l) b.1 ∙ take-append-le (length g) g b.0 (omega arith) ∙ take_all (length g) g (omega arith)) (all (length g) some))
-    (λ y. subst (λ l. BytesShow l) (sym y.2) (in_doubt lock y.0 next y.1)) p
-  where
-    in_section : (s : Section) (x : Coming) → IfSome (coming_in s) (λ z. BytesShow (with_next h z)) → doubt_in s ≡ Some x → BytesShow (with_next h x)
-    in_section (CurrentRenamed z) x n is = let same : z ≡ x = cc in subst (λ k. BytesShow (with_next h k)) same n
-    in_section (CurrentFirm z) x n is = let same : z ≡ x = cc in subst (λ k. BytesShow (with_next h k)) same n
-    in_section (Doubtful place z) x n is = let same : z ≡ x = cc in subst (λ k. BytesShow (with_next h k)) same n
-    in_section s x n is = absurd cc
-
-    in_doubt : (lock : Lock) (x : Coming) → IfSome (coming lock) (λ z. BytesShow (with_next h z)) → doubt lock ≡ Some x → BytesShow (with_next h x)
-    in_doubt (Held p s) x n is = in_section s x n is
-    in_doubt (Stuck place z) x n is = let same : z ≡ x = cc in subst (λ k. BytesShow (with_next h k)) same n
-    in_doubt (DownDoubtful z) x n is = let same : z ≡ x = cc in subst (λ k. BytesShow (with_next h k)) same n
-    in_doubt Free x n is = absurd cc
-    in_doubt Down x n is = absurd cc
+    (λ y. subst (λ l. BytesShow l) (sym y.2) (subst (λ o. IfSome o (λ x. BytesShow (with_next h x))) y.1 (if_doubtful (λ x. BytesShow (with_next h x)) lock next))) p
 
 pub each_moment_stands : EachMomentStands
 each_moment_stands layout young stuck t v known m i =
@@ -129,6 +130,7 @@ each_moment_stands layout young stuck t v known m i =
       p.3,
       p.2,
       has_history layout w.floor m left.0 p.0 store.whole left.3 left.1 p.1 (part_shown w.history w.lock p.0 store.shown store.coming some p.3),
+      if_doubtful (Follows w.history) w.lock store.kept.next,
     )
 
 pub known_from_now : KnownFromNow
@@ -148,5 +150,5 @@ known_from_now layout young stuck t v known =
     now first [] m i = i
     now first (op ∷ ops) m i = ⊎_elim (λ a. a) (λ b. absurd (omega (arith, b.0))) i
 
-    safe : Safe layout (length t.operations) t (length v.seen) known.0.floor known.0.history (doubt known.0.lock)
+    safe : Safe layout (record { operations = length t.operations; files = files_now t }) t (length v.seen) known.0.floor known.0.history (doubt known.0.lock)
     safe m i = past m (now t.first t.operations m i)

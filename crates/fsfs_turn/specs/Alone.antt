@@ -1,5 +1,5 @@
 -- The one pass of an owned store is alone: nobody else adds a revision, and nobody else leaves the lock stuck.
-use Rattle.std.specs.Prelude.{◌≡◌, ◌+◌, ◌≤◌, if◌then◌else◌, ℕ, List, [], ◌∷◌, ◌++◌, length, Bool, true, false, Option, Some, None}
+use Rattle.std.specs.Prelude.{◌≡◌, ◌+◌, ◌≤◌, if◌then◌else◌, ℕ, List, [], ◌∷◌, ◌++◌, length, Bool, true, false, Option, Some, None, IfSome}
 use Rattle.fsfs_base.specs.Files.{Files}
 use Rattle.fsfs_layout.specs.declared.layout.Layout.{Layout}
 use Rattle.fsfs_disk.specs.Trace.{Trace, IsImage, ImageSince}
@@ -12,6 +12,7 @@ use Rattle.fsfs_machine.specs.declared.machine.Coming.{Coming}
 use Rattle.fsfs_machine.specs.declared.machine.Section.{Section}
 use Rattle.fsfs_machine.specs.declared.machine.Section.TheVariants.{Doubtful}
 use Rattle.fsfs_machine.specs.Machine.{revisions}
+use Rattle.fsfs_machine.specs.Kept.{Follows}
 use Rattle.fsfs_turn.specs.Past.{IsPart}
 use Rattle.fsfs_turn.specs.Views.{View, Begins}
 use Rattle.fsfs_turn.specs.Standing.{Knows}
@@ -52,7 +53,8 @@ pub record IsAlone (young : ℕ) (stuck : Option DiskPlace) (v : View) : Type 0 
   -- nor was it found so before
   pub found : are_harmless v.pass.faults ≡ true → v.pass.stuck ≡ None
 
--- what the one pass of a store knows; and the files that no turn touches are in their formats, in each image of each moment since the opening
+-- what the one pass of a store knows; and the files that no turn changes are in their formats and have their bytes, in each image of each
+-- moment since the opening
 abbrev pub KnowsAlone : Layout → ℕ → Option DiskPlace → Option Trace → View → Type 0
 KnowsAlone layout young stuck told v = Knows layout young stuck told v × IsAlone young stuck v × OwnFilesLast layout v.since told
 
@@ -65,17 +67,19 @@ abbrev pub AloneAdds : Type 0
 AloneAdds = (young now rev : ℕ) (stuck left : Option DiskPlace) (v u : View) (before : List Recorded) (next : Recorded) → IsAlone young stuck v → IsAlone now left u → u.seen ≡ before ++ next ∷ [] → Begins before v.seen → u.opened ≡ v.opened → u.pass.mine ≡ v.pass.mine ++ rev ∷ []
     → (before ≡ v.seen) × (now ≡ young + 1)
 
--- Each image of each moment since the opening, in the middle of a call too, stands for a first part of what the pass has seen, or for all
--- that with the revision in doubt; and has all that there was at the opening.
-abbrev pub LoneMomentsStand : Type 0
-LoneMomentsStand = (layout : Layout) (young : ℕ) (stuck : Option DiskPlace) (t : Trace) (v : View) → KnowsAlone layout young stuck (Some t) v → (m : Files) → ImageSince v.since t.first t.operations m
-    → (d : Option Coming) × (g : List Recorded) × IsPart v.seen d g × (v.opened ≤ length g) × HasHistory layout m g × StandsFor m (revisions g)
+-- At most one revision is in doubt, and it follows what the pass has seen by the landing of an entry. Each image of each moment since the
+-- opening, in the middle of a call too, stands for a first part of what the pass has seen, or for all that with this revision; and has all
+-- that there was at the opening. Each image now has all that the pass has seen.
+pub record LoneImages (layout : Layout) (stuck : Option DiskPlace) (t : Trace) (v : View) : Type 0 where
+  pub doubt : Option Coming
+  pub follows : IfSome doubt (Follows v.seen)
+  pub moments : (m : Files) → ImageSince v.since.operations t.first t.operations m → (g : List Recorded) × IsPart v.seen doubt g × (v.opened ≤ length g) × HasHistory layout m g × StandsFor m (revisions g)
+  pub now : (m : Files) → IsImage t.first t.operations m → (g : List Recorded) × IsPart v.seen doubt g × (length v.seen ≤ length g) × HasHistory layout m g × StandsFor m (revisions g)
+  -- none is where the lock isn't stuck and the pass is in no section
+  pub certain : v.section ≡ None → stuck ≡ None → doubt ≡ None
 
--- Each image now stands for what the pass has seen, or for that with the revision in doubt; where the lock isn't stuck and the pass is in
--- no section, for what it has seen.
 abbrev pub LoneImagesStand : Type 0
-LoneImagesStand = (layout : Layout) (young : ℕ) (stuck : Option DiskPlace) (t : Trace) (v : View) → KnowsAlone layout young stuck (Some t) v → (m : Files) → IsImage t.first t.operations m
-    → (d : Option Coming) × (g : List Recorded) × IsPart v.seen d g × (length v.seen ≤ length g) × HasHistory layout m g × StandsFor m (revisions g) × (v.section ≡ None → stuck ≡ None → g ≡ v.seen)
+LoneImagesStand = (layout : Layout) (young : ℕ) (stuck : Option DiskPlace) (t : Trace) (v : View) → KnowsAlone layout young stuck (Some t) v → LoneImages layout stuck t v
 
 -- So it is where none of the pass's faults left a revision in doubt: then the lock isn't stuck.
 abbrev pub NothingInDoubt : Type 0

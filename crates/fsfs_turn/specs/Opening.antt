@@ -12,8 +12,13 @@ use Rattle.fsfs_stands.specs.Files.{StandsFor}
 use Rattle.fsfs_stands.specs.NewRepository.{HoldsNew}
 use Rattle.fsfs_machine.specs.declared.machine.Recorded.{Recorded}
 use Rattle.fsfs_machine.specs.Machine.{first_revision, first_pass, revisions}
+use Rattle.fsfs_turn.specs.declared.since.Since.{Since}
 use Rattle.fsfs_turn.specs.Views.{View}
 use Rattle.fsfs_turn.specs.Alone.{KnowsAlone}
+
+-- the moment behind an opening, which made the names firm after these operations
+abbrev pub opened_at : Files → List Operation → Since
+opened_at first before = record { operations = length before + 1; files = files_after first before }
 
 -- revision 0, with the bytes beside it
 abbrev pub new_revision : List ℕ → Recorded
@@ -24,7 +29,7 @@ new_revision date = first_revision ((date_name, date) ∷ []) first_bytes
 abbrev pub NewStoreIsKnown : Type 0
 NewStoreIsKnown = (first : Files) (labels : List Label) (before : List Operation) (date : List ℕ) (new : HoldsNew (files_after first before) date)
     → (v : View) × KnowsAlone new.layout 0 None (Some (record { first = first; labels = labels; operations = Done FirmNames ∷ before })) v
-    × (v.section ≡ None) × (v.pass ≡ first_pass 1 0) × (v.seen ≡ new_revision date ∷ []) × (v.since ≡ length before + 1)
+    × (v.section ≡ None) × (v.pass ≡ first_pass 1 0) × (v.seen ≡ new_revision date ∷ []) × (v.since ≡ opened_at first before)
 
 -- where a file is left over of a revision that is packed, it has the same bytes
 abbrev pub LeftoversAgree : {files : Files} {h : List Revision} → StandsFor files h → Type 0
@@ -41,4 +46,4 @@ given_before (suc n) = n ∷ []
 abbrev pub StoreIsKnown : Type 0
 StoreIsKnown = (first : Files) (labels : List Label) (before : List Operation) (h : List Revision) (s : StandsFor (files_after first before) h) → LeftoversAgree s
     → (v : View) × KnowsAlone s.opened.layout s.opened.youngest None (Some (record { first = first; labels = labels; operations = Done FirmNames ∷ before })) v
-    × (v.section ≡ None) × (v.pass ≡ first_pass (length h) s.opened.min_unpacked_rev) × (revisions v.seen ≡ h) × (v.since ≡ length before + 1) × (v.given ≡ given_before s.opened.next_txn.number)
+    × (v.section ≡ None) × (v.pass ≡ first_pass (length h) s.opened.min_unpacked_rev) × (revisions v.seen ≡ h) × (v.since ≡ opened_at first before) × (v.given ≡ given_before s.opened.next_txn.number)

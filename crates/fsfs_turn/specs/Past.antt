@@ -16,6 +16,7 @@ use Rattle.fsfs_machine.specs.Machine.{with_next}
 use Rattle.fsfs_machine.specs.Kept.{StandsFor, FloorIs}
 use Rattle.fsfs_images.specs.Shown.{AreRead}
 use Rattle.fsfs_turn.specs.Views.{Begins}
+use Rattle.fsfs_turn.specs.declared.since.Since.{Since}
 
 -- the revision that `current` may name though it isn't revealed
 abbrev pub doubt_in : Section → Option Coming
@@ -47,5 +48,5 @@ abbrev pub WasLeft : Layout → ℕ → ℕ → List Recorded → Option Coming 
 WasLeft layout opening f h d m = (e : Disk) × AreRead layout f m e × IsPast opening f h d e × FloorIs f e × HasCounter e
 
 -- each image of each moment since then, in the middle of a call too
-abbrev pub Safe : Layout → ℕ → Trace → ℕ → ℕ → List Recorded → Option Coming → Type 0
-Safe layout since t opening f h d = (m : Files) → ImageSince since t.first t.operations m → WasLeft layout opening f h d m
+abbrev pub Safe : Layout → Since → Trace → ℕ → ℕ → List Recorded → Option Coming → Type 0
+Safe layout since t opening f h d = (m : Files) → ImageSince since.operations t.first t.operations m → WasLeft layout opening f h d m

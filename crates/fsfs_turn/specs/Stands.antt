@@ -1,11 +1,13 @@
 -- What the images of a store stand for, in the words of files.
-use Rattle.std.specs.Prelude.{◌≤◌, ℕ, List, length, Option, Some, IfSome}
+use Rattle.std.specs.Prelude.{◌≡◌, ◌≤◌, ℕ, List, length, Bool, true, false, Option, Some, IfSome}
+use Rattle.std.specs.FinMap.{get}
 use Rattle.fsfs_base.specs.Files.{Files}
 use Rattle.fsfs_layout.specs.FileNames.{only_name}
 use Rattle.fsfs_layout.specs.Opening.{small_texts, SaysFormat, text_at}
 use Rattle.fsfs_layout.specs.Small.{IsUuid}
 use Rattle.fsfs_layout.specs.declared.layout.Layout.{Layout}
 use Rattle.fsfs_layout.specs.declared.small_files.format_file.FormatFile.TheVariants.{Known}
+use Rattle.fsfs_layout.specs.declared.only_file.OnlyFile.{OnlyFile}
 use Rattle.fsfs_layout.specs.declared.only_file.OnlyFile.TheVariants as only
 use Rattle.fsfs_disk.specs.Trace.{Trace, files_now, IsImage, ImageSince}
 use Rattle.fsfs_base.specs.declared.places.place.DiskPlace.{DiskPlace}
@@ -13,22 +15,42 @@ use Rattle.fsfs_stands.specs.Files.{StandsFor}
 use Rattle.fsfs_machine.specs.declared.machine.Recorded.{Recorded}
 use Rattle.fsfs_machine.specs.declared.machine.Coming.{Coming}
 use Rattle.fsfs_machine.specs.Machine.{revisions}
+use Rattle.fsfs_machine.specs.Kept.{Follows}
+use Rattle.fsfs_turn.specs.declared.since.Since.{Since}
 use Rattle.fsfs_turn.specs.Past.{IsPart}
 use Rattle.fsfs_turn.specs.Views.{View, Begins}
 use Rattle.fsfs_turn.specs.Standing.{Knows}
 
--- the files that no turn touches are in their formats
+-- the files that say what a repository is are in their formats
 pub record HasOwnFiles (files : Files) (layout : Layout) : Type 0 where
   pub format : SaysFormat (small_texts files) (Known layout)
   pub uuid : (uuid : List ℕ) × IsUuid (text_at files (only_name only.Uuid)) uuid
 
--- where the disk tells its files, they are in each image of each moment since then, in the middle of a call too
-abbrev pub OwnFilesLast : Layout → ℕ → Option Trace → Type 0
-OwnFilesLast layout since told = IfSome told (λ t. (m : Files) → ImageSince since t.first t.operations m → HasOwnFiles m layout)
+-- The files that no turn changes: the formats, the kind of store, the identifier, and the oldest revision that isn't packed. Turns pack
+-- nothing, so the floor neither falls nor rises.
+abbrev pub is_lasting : OnlyFile → Bool
+is_lasting only.RepositoryFormat = true
+is_lasting only.Format = true
+is_lasting only.FsType = true
+is_lasting only.Uuid = true
+is_lasting only.MinUnpackedRev = true
+is_lasting f = false
+
+-- they have the bytes that they had before
+abbrev pub AreLasting : Files → Files → Type 0
+AreLasting before files = (f : OnlyFile) → is_lasting f ≡ true → get files (only_name f) ≡ get before (only_name f)
+
+-- they are in their formats, and have the bytes that they had before
+abbrev pub KeepsOwnFiles : Layout → Files → Files → Type 0
+KeepsOwnFiles layout before files = HasOwnFiles files layout × AreLasting before files
+
+-- where the disk tells its files, so it is in each image of each moment since then, in the middle of a call too
+abbrev pub OwnFilesLast : Layout → Since → Option Trace → Type 0
+OwnFilesLast layout since told = IfSome told (λ t. (m : Files) → ImageSince since.operations t.first t.operations m → KeepsOwnFiles layout since.files m)
 
 -- Each image now stands for a first part of the history (which begins with what the pass has seen) that has at least all that the pass
--- has seen, or for the history with the revision in doubt.
+-- has seen, or for the history with the revision in doubt, which follows it by the landing of an entry.
 abbrev pub ImagesStand : Type 0
 ImagesStand = (layout : Layout) (young : ℕ) (stuck : Option DiskPlace) (t : Trace) (v : View) → Knows layout young stuck (Some t) v → HasOwnFiles (files_now t) layout
     → (m : Files) → IsImage t.first t.operations m
-    → (h : List Recorded) × (d : Option Coming) × (g : List Recorded) × Begins h v.seen × IsPart h d g × (length v.seen ≤ length g) × StandsFor m (revisions g)
+    → (h : List Recorded) × (d : Option Coming) × (g : List Recorded) × Begins h v.seen × IsPart h d g × (length v.seen ≤ length g) × StandsFor m (revisions g) × IfSome d (Follows h)

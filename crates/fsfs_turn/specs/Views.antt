@@ -31,13 +31,14 @@ use Rattle.fsfs_machine.specs.declared.machine.Step.TheVariants as step
 use Rattle.fsfs_machine.specs.Machine.{World, Did, Happens, held_by, is_up, is_fine_in, is_quiet, either, answer, learns, reveals, after, spoiled, entry_of, revisions, with_next}
 use Rattle.fsfs_machine.specs.Kept.{Kept, IsIn, coming_in}
 use Rattle.fsfs_turn.specs.Bytes.{BytesShow, AllShow}
+use Rattle.fsfs_turn.specs.declared.since.Since.{Since}
 
 -- What a pass knows. Nothing here but `seen` of the history is more than a machine's pass has.
 pub record View : Type 0 where
   -- how the files are laid out
   pub layout : Layout
-  -- how many operations its disk had done at the moment from which images are spoken of: the opening, or a later one
-  pub since : ℕ
+  -- the moment from which images are spoken of, the opening or a later one: how many operations its disk had done, and the files then
+  pub since : Since
   -- how many revisions there were then
   pub opened : ℕ
   -- its number

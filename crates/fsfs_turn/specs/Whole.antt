@@ -1,5 +1,5 @@
 -- What a pass has seen is whole in each image.
-use Rattle.std.specs.Prelude.{◌≡◌, ◌≤◌, ◌+◌, ℕ, List, length, Option, Some, Ok, slice_get}
+use Rattle.std.specs.Prelude.{◌≡◌, ◌≤◌, ◌+◌, ℕ, List, length, Option, Some, IfSome, Ok, slice_get}
 use Rattle.std.specs.FinMap.{get}
 use Rattle.fsfs_base.specs.Files.{Files}
 use Rattle.fsfs_layout.specs.FileNames.{file_name, only_name}
@@ -9,10 +9,11 @@ use Rattle.fsfs_layout.specs.declared.only_file.OnlyFile.TheVariants as only
 use Rattle.fsfs_layout.specs.declared.repository_file.RepositoryFile.TheVariants as file
 use Rattle.fsfs_revision.specs.RevBytes.{rev_bytes}
 use Rattle.fsfs_layout.specs.Hash.Dump.{IsDump}
-use Rattle.fsfs_disk.specs.Trace.{Trace, IsImage, ImageSince}
+use Rattle.fsfs_disk.specs.Trace.{Trace, files_now, IsImage, ImageSince}
 use Rattle.fsfs_base.specs.declared.places.place.DiskPlace.{DiskPlace}
 use Rattle.fsfs_machine.specs.declared.machine.Recorded.{Recorded}
 use Rattle.fsfs_machine.specs.declared.machine.Coming.{Coming}
+use Rattle.fsfs_machine.specs.Kept.{Follows}
 use Rattle.fsfs_turn.specs.Bytes.{BytesShow}
 use Rattle.fsfs_turn.specs.Past.{IsPart}
 use Rattle.fsfs_turn.specs.Views.{View, Begins}
@@ -53,12 +54,13 @@ pub record HasHistory (layout : Layout) (m : Files) (g : List Recorded) : Type 0
   pub shown : BytesShow g
 
 -- Each image of each moment since the opening, in the middle of a call too, stands for a first part of the history now (which begins
--- with what the pass has seen), or for the history now with the one revision that `current` may name though it isn't revealed.
+-- with what the pass has seen), or for the history now with the one revision that `current` may name though it isn't revealed; that follows it
+-- by the landing of an entry.
 abbrev pub EachMomentStands : Type 0
-EachMomentStands = (layout : Layout) (young : ℕ) (stuck : Option DiskPlace) (t : Trace) (v : View) → Knows layout young stuck (Some t) v → (m : Files) → ImageSince v.since t.first t.operations m
-    → (h : List Recorded) × (d : Option Coming) × (g : List Recorded) × Begins h v.seen × IsPart h d g × (v.opened ≤ length g) × HasHistory layout m g
+EachMomentStands = (layout : Layout) (young : ℕ) (stuck : Option DiskPlace) (t : Trace) (v : View) → Knows layout young stuck (Some t) v → (m : Files) → ImageSince v.since.operations t.first t.operations m
+    → (h : List Recorded) × (d : Option Coming) × (g : List Recorded) × Begins h v.seen × IsPart h d g × (v.opened ≤ length g) × HasHistory layout m g × IfSome d (Follows h)
 
 -- From any moment on it is known that images have all that the pass has seen by then: what was acknowledged is whole in each image of
 -- each later moment.
 abbrev pub KnownFromNow : Type 0
-KnownFromNow = (layout : Layout) (young : ℕ) (stuck : Option DiskPlace) (t : Trace) (v : View) → Knows layout young stuck (Some t) v → Knows layout young stuck (Some t) (record v { since = length t.operations; opened = length v.seen })
+KnownFromNow = (layout : Layout) (young : ℕ) (stuck : Option DiskPlace) (t : Trace) (v : View) → Knows layout young stuck (Some t) v → Knows layout young stuck (Some t) (record v { since = record { operations = length t.operations; files = files_now t }; opened = length v.seen })

@@ -54,7 +54,7 @@ pub trait Turns<R> {
     /// The name is in use, as far as the disk tells.
     ghost in_use: { Self → List ℕ → Type 0 };
 
-    /// What neither reading nor taking the lock changes.
+    /// What neither reading nor taking and giving the lock changes.
     ghost Lasting: { Type 0 };
 
     /// What it tells one who reads: how the files are laid out, which revisions there are, and the files as the last call met them.
@@ -104,6 +104,7 @@ pub trait Turns<R> {
         ensures mounted { mounting self.new ≡ mounting self.old }
         ensures duty { bound self.new ≡ bound self.old }
         ensures listed { KeepsLabels (bound self.old) (labels self.old) (labels self.new) }
+        ensures same { (store self.new).below ≡ (store self.old).below }
         ensures turned { (v : View) → knows self.old v → MayGive v → (u : View) × knows self.new u × LockGiven (GiveLock v.number) v u }
         ensures faults { faults self.new ≡ faults self.old };
 

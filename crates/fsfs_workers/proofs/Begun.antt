@@ -1,13 +1,16 @@
 -- What two workers need of the first pass of a repository that was just opened, and what they come to.
-use Rattle.std.proofs.Common.{◌≡◌, ◌+◌, ℕ, List, [], length, true, false, refl, sym, ap, subst, ◌∙◌}
+use Rattle.std.proofs.Common.{◌≡◌, ℕ, List, [], length, true, false, refl, sym, ap, subst, ◌∙◌}
 use Rattle.std.specs.Prelude.{Option, Some, None, IfSome, is_some}
 use Rattle.fsfs_tree.specs.Revisions.{Revision}
 use Rattle.fsfs_layout.specs.declared.layout.Layout.{Layout}
 use Rattle.fsfs_disk.specs.Trace.{Trace, FirmNames, Performs}
 use Rattle.fsfs_machine.specs.Machine.{revisions}
+use Rattle.fsfs_turn.specs.Opening.{opened_at}
+use Rattle.fsfs_turn.specs.declared.since.Since.{Since}
 use Rattle.fsfs_pass.specs.declared.seats.seat_view.SeatView.{SeatView}
 use Rattle.fsfs_pass.specs.Seats.{IsSitting}
 use Rattle.fsfs_pass.specs.Tells.{TellsIt}
+use Rattle.fsfs_repo.specs.Known.{HoldBytes}
 use Rattle.fsfs_repo.specs.Shared.FirstPass.{SeesAll}
 use Rattle.fsfs_script.specs.declared.job_lines.job.Job.{Job}
 use Rattle.fsfs_jobs.specs.declared.answer.JobAnswer.{JobAnswer}
@@ -40,12 +43,12 @@ module _ (before told : Option Trace) (v : SeatView) (firm : Performs FirmNames 
     outside = λ knows. (sees knows).1.outside;
   }
 
-  pub has_nothing : v.told ≡ true → (v.opened ≡ length v.seen) × (v.pass.mine ≡ []) × (v.pass.faults ≡ [])
-  has_nothing knows = let s = (sees knows).1 in (s.opened, s.mine, s.faults)
+  pub has_nothing : v.told ≡ true → (v.opened ≡ length v.seen) × (v.pass.mine ≡ []) × (v.pass.faults ≡ []) × HoldBytes v.since.files v.seen
+  has_nothing knows = let s = (sees knows).1 in (s.opened, s.mine, s.faults, subst (λ (n : Since). HoldBytes n.files v.seen) (sym s.since) s.bytes)
 
 -- ---- what became of them
 
-beside : (moment since later : ℕ) (js : List Job) (answers : List JobAnswer) (youngest : ℕ) (h : List Revision) (t : Trace) → since ≡ later → RanTwo moment since js answers youngest h t → RanBeside moment later 2 js answers youngest h (Some t)
+beside : (moment : ℕ) (since later : Since) (js : List Job) (answers : List JobAnswer) (youngest : ℕ) (h : List Revision) (t : Trace) → since ≡ later → RanTwo moment since js answers youngest h t → RanBeside moment later 2 js answers youngest h (Some t)
 beside moment since later js answers youngest h t same r = record {
   now = r.now;
   lines = r.lines;
@@ -60,6 +63,6 @@ pub beside_over : (before left : Option Trace) (v : SeatView) → IfSome before 
 beside_over None left v seen same moment js answers youngest ran = tt
 beside_over (Some t) left v seen same moment js answers youngest ran = (revisions v.seen, seen.stands, at left same ran)
   where
-    at : (o : Option Trace) → is_some o ≡ v.told → ((z : Trace) → o ≡ Some z → RanTwo moment v.since js answers youngest (revisions v.seen) z) → RanBeside moment (length t.operations + 1) 2 js answers youngest (revisions v.seen) o
+    at : (o : Option Trace) → is_some o ≡ v.told → ((z : Trace) → o ≡ Some z → RanTwo moment v.since js answers youngest (revisions v.seen) z) → RanBeside moment (opened_at t.first t.operations) 2 js answers youngest (revisions v.seen) o
     at None none did = let tells = seen.told in absurd cc
-    at (Some z) same did = beside moment v.since (length t.operations + 1) js answers youngest (revisions v.seen) z seen.since (did z refl)
+    at (Some z) same did = beside moment v.since (opened_at t.first t.operations) js answers youngest (revisions v.seen) z seen.since (did z refl)

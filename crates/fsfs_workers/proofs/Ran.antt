@@ -3,25 +3,30 @@ use Rattle.std.proofs.Common.{◌≡◌, ◌<◌, ◌≤◌, ◌+◌, ◌++◌, 
 use Rattle.std.proofs.lemmas.List.{map-append}
 use Rattle.std.specs.Prelude.{Option, Some, None, IfSome, is_some, slice_get}
 use Rattle.fsfs_base.specs.Files.{Files}
+use Rattle.fsfs_layout.specs.Opening.{SaysFormat, small_texts}
+use Rattle.fsfs_layout.specs.declared.small_files.format_file.FormatFile.TheVariants.{Known}
 use Rattle.fsfs_tree.specs.Dated.{last_of}
 use Rattle.fsfs_disk.specs.Trace.{Trace, IsImage, files_now}
-use Rattle.fsfs_disk.proofs.CrashLemmas.{files_are_image}
+use Rattle.fsfs_disk.proofs.CrashLemmas.{files_are_image, image_now}
 use Rattle.fsfs_stands.specs.Files.{StandsFor}
 use Rattle.fsfs_machine.specs.declared.machine.Recorded.{Recorded}
 use Rattle.fsfs_machine.specs.declared.machine.Coming.{Coming}
 use Rattle.fsfs_machine.specs.Kept.{IsIn, AreOnce}
 use Rattle.fsfs_machine.specs.Machine.{revisions}
 use Rattle.fsfs_machine.proofs.Growing.{revisions_length}
+use Rattle.fsfs_turn.specs.declared.since.Since.{Since}
 use Rattle.fsfs_turn.specs.Alone.{are_harmless}
 use Rattle.fsfs_turn.specs.Past.{IsPart}
 use Rattle.fsfs_turn.specs.Views.{Begins, Looked}
 use Rattle.fsfs_turn.specs.Whole.{NamesFrom}
 use Rattle.fsfs_turn.proofs.Alone.{same_by_length}
+use Rattle.fsfs_turn.proofs.OwnFiles.{were_own}
 use Rattle.fsfs_pass.specs.declared.seats.seat_view.Kin.{Kin}
 use Rattle.fsfs_pass.specs.declared.seats.seat_view.SeatView.{SeatView}
 use Rattle.fsfs_pass.specs.Seats.{all_parts, alone, look_view, view_of}
 use Rattle.fsfs_pass.specs.Kinship.{all_own, own_in}
 use Rattle.fsfs_pass.proofs.Following.{grown_long}
+use Rattle.fsfs_repo.specs.Known.{HoldBytes}
 use Rattle.fsfs_repo.specs.Shared.Left.{Leaves}
 use Rattle.fsfs_script.specs.declared.job_lines.job.Job.{Job}
 use Rattle.fsfs_jobs.specs.declared.answer.JobAnswer.{JobAnswer}
@@ -30,7 +35,8 @@ use Rattle.fsfs_job_run.specs.Workers.Beside.{GoesOnFrom}
 use Rattle.fsfs_job_run.specs.Workers.Lines.{JobLines, WorkerLines, dealt}
 use Rattle.fsfs_job_run.specs.Workers.Passes.{IsOnward, last_known}
 use Rattle.fsfs_job_run.proofs.BesideLemmas.{all_stay, begins_on, begins_itself}
-use Rattle.fsfs_job_run.proofs.RunLemmas.{a_part}
+use Rattle.fsfs_job_run.proofs.Bytes.{bytes_stay}
+use Rattle.fsfs_job_run.proofs.RunLemmas.{a_part, doubt_of, doubt_follows}
 use Rattle.fsfs_job_run.specs.Runs.{AllStandFor, HoldsAll}
 use Rattle.fsfs_workers.specs.Ready.{IsAtRest}
 use Rattle.fsfs_workers.specs.Two.{BothWorked, RanTwo}
@@ -50,7 +56,7 @@ whole_part h g d none (inr (x, is, with)) long = let no : Some x ≡ None = sym 
 
 -- v is what the first pass knew as it began, u what it knew when the other was joined into it; behind that it looked, and closed the repository
 module _ (moment young : ℕ) (js : List Job) (answers : List JobAnswer) (v u : SeatView) (met : Option Trace) (t : Trace) (both : BothWorked moment js answers v u) (looked : Looked young (view_of u) (view_of (look_view young met u))) (leaves : Leaves (look_view young met u) t)
-    (opened : v.opened ≡ length v.seen) (mine : v.pass.mine ≡ []) (faults : v.pass.faults ≡ []) (kin : v.kin ≡ alone) (parts : u.kin.parts ≡ all_parts) where
+    (opened : v.opened ≡ length v.seen) (had : HoldBytes v.since.files v.seen) (mine : v.pass.mine ≡ []) (faults : v.pass.faults ≡ []) (kin : v.kin ≡ alone) (parts : u.kin.parts ≡ all_parts) where
   abbrev h : List Recorded
   h = leaves.history
 
@@ -101,9 +107,22 @@ module _ (moment young : ℕ) (js : List Job) (answers : List JobAnswer) (v u : 
 
   -- ---- the disk
 
+  was_long : length (revisions v.seen) ≡ length v.seen
+  was_long = revisions_length v.seen
+
+  says : SaysFormat (small_texts u.since.files) (Known u.layout)
+  says = (were_own u.layout u.since.files (files_now t) (leaves.own (files_now t) (image_now u.since.operations t.first t.operations (files_now t) (files_are_image t.first t.operations)))).format
+
   abbrev holds : HoldsAll u.since t (revisions v.seen) (revisions h)
   holds = record {
     layout = u.layout;
+    laid = says;
+    doubt = doubt_of leaves.doubt;
+    follows = doubt_follows h leaves.doubt leaves.follows;
+    lasting = λ m image. (leaves.own m image).1;
+    bytes = λ m image r less.
+        let p = leaves.moments m image in
+        bytes_stay u.layout u.since.files m v.seen h p.0 leaves.doubt says (subst (λ (n : Since). HoldBytes n.files v.seen) (sym both.since) had) (begins_on h u.seen v.seen begins both.grows) p.1 (omega (arith, p.2, since_then, was_long)) p.3 r (omega (arith, less, was_long));
     seen = h;
     are = refl;
     whole = λ m image r x at. leaves.whole m image r x (ap (λ (l : List Recorded). slice_get l r) (sym all) ∙ at);
@@ -141,11 +160,11 @@ module _ (moment young : ℕ) (js : List Job) (answers : List JobAnswer) (v u : 
 -- the same, where the disk that was given back tells; s is what the first pass knew as it closed the repository
 pub ran_so : (moment young : ℕ) (js : List Job) (answers : List JobAnswer) (v u s : SeatView) (told : Option Trace) (t : Trace) → told ≡ Some t → s ≡ look_view young s.met u → s.told ≡ is_some told → IfSome told (λ t. Leaves s t)
     → (v.told ≡ true → BothWorked moment js answers v u) → (u.told ≡ true → Looked young (view_of u) (view_of (look_view young s.met u))) → IsAtRest u → u.told ≡ v.told
-    → (v.told ≡ true → (v.opened ≡ length v.seen) × (v.pass.mine ≡ []) × (v.pass.faults ≡ [])) → v.kin ≡ alone → u.kin.parts ≡ v.kin.parts → RanTwo moment v.since js answers young (revisions v.seen) t
+    → (v.told ≡ true → (v.opened ≡ length v.seen) × (v.pass.mine ≡ []) × (v.pass.faults ≡ []) × HoldBytes v.since.files v.seen) → v.kin ≡ alone → u.kin.parts ≡ v.kin.parts → RanTwo moment v.since js answers young (revisions v.seen) t
 ran_so moment young js answers v u s told t is s_is closed left both looked rests duty seen kin same_parts =
     let told_last : u.told ≡ true = sym (ap (λ (z : SeatView). z.told) s_is) ∙ closed ∙ ap (λ (o : Option Trace). is_some o) is in
     let told_first : v.told ≡ true = sym duty ∙ told_last in
     let begun = seen told_first in
     let parts : u.kin.parts ≡ all_parts = same_parts ∙ ap (λ (k : Kin). k.parts) kin in
     let leaves = subst (λ (z : SeatView). Leaves z t) s_is (subst (λ (o : Option Trace). IfSome o (λ t. Leaves s t)) is left) in
-    ran_two moment young js answers v u s.met t (both told_first) (looked told_last) leaves begun.0 begun.1 begun.2 kin parts (leaves.calm parts (rests.outside told_last))
+    ran_two moment young js answers v u s.met t (both told_first) (looked told_last) leaves begun.0 begun.3 begun.1 begun.2 kin parts (leaves.calm parts (rests.outside told_last))

@@ -14,6 +14,8 @@ use Rattle.fsfs_script.specs.declared.job_lines.job.Job.{Job}
 use Rattle.fsfs_script.specs.Errors.{IfReadFault}
 use Rattle.fsfs_script.specs.Whole.{ReadsScript, EndsSource}
 use Rattle.fsfs_script.specs.declared.script_error.ScriptError.{ScriptError}
+use Rattle.fsfs_turn.specs.Opening.{opened_at}
+use Rattle.fsfs_turn.specs.declared.since.Since.{Since}
 use Rattle.fsfs_cli.specs.CommandFaults.{fault_from_open, fault_from_script}
 use Rattle.fsfs_cli.specs.declared.faults.fault.Fault.{Fault}
 use Rattle.fsfs_cli.specs.declared.faults.fault.Fault.TheVariants.{Repository, Memory}
@@ -31,7 +33,7 @@ scene_where false a = record a { trace = None }
 
 -- The jobs were done beside each other over the history h: the lines are those of the one history that came of it, the last names its youngest
 -- revision, and the disk holds it.
-pub record RanBeside (moment since workers : ℕ) (js : List Job) (answers : List JobAnswer) (youngest : ℕ) (h : List Revision) (told : Option Trace) : Type 0 where
+pub record RanBeside (moment : ℕ) (since : Since) (workers : ℕ) (js : List Job) (answers : List JobAnswer) (youngest : ℕ) (h : List Revision) (told : Option Trace) : Type 0 where
   -- the history that came of it, with the bytes beside each revision
   pub now : List Recorded
   pub lines : JobLines moment workers js answers h now
@@ -46,7 +48,7 @@ pub record RanBeside (moment since workers : ℕ) (js : List Job) (answers : Lis
 -- the files stood for a history, and the jobs were done over it
 abbrev pub RanBesideOver : ℕ → ℕ → List Job → List JobAnswer → ℕ → Option Trace → Option Trace → Type 0
 RanBesideOver moment workers js answers youngest old new =
-    IfSome old (λ t. (h : List Revision) × StandsFor (files_now t) h × RanBeside moment (length t.operations + 1) workers js answers youngest h new)
+    IfSome old (λ t. (h : List Revision) × StandsFor (files_now t) h × RanBeside moment (opened_at t.first t.operations) workers js answers youngest h new)
 
 -- A run by its status or its fault, over what is told of the disk: as of one worker, but for what is told of the jobs. The repository is opened first.
 pub data RunsBeside (moment workers : ℕ) (known : Bool) (before after : ℕ) (benches : ℕ → Type 0) (a b : RunScene) : Result ℕ Fault → Type 0 where

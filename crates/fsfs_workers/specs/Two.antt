@@ -5,6 +5,7 @@ use Rattle.fsfs_disk.specs.Trace.{Trace}
 use Rattle.fsfs_machine.specs.declared.machine.Recorded.{Recorded}
 use Rattle.fsfs_machine.specs.Machine.{revisions}
 use Rattle.fsfs_turn.specs.Alone.{are_harmless}
+use Rattle.fsfs_turn.specs.declared.since.Since.{Since}
 use Rattle.fsfs_turn.specs.Views.{Begins}
 use Rattle.fsfs_pass.specs.declared.seats.seat_view.SeatView.{SeatView}
 use Rattle.fsfs_pass.specs.Seats.{view_of}
@@ -34,10 +35,9 @@ pub record BothWorked (moment : ℕ) (js : List Job) (answers : List JobAnswer) 
   -- nor does a line tell that the lock is stuck but where it was found so
   pub found : u.pass.stuck ≡ None → TellNoneStuck answers
 
--- WHAT A RUN OF TWO WORKERS COMES TO, over a disk that tells: of jobs that were done over the history h, since which `since` operations of the disk
--- are spoken of. The lines are those of the one history that came of it; the last names its youngest revision; and the disk that is given back
+-- WHAT A RUN OF TWO WORKERS COMES TO, over a disk that tells: of jobs that were done over the history h, since that moment. The lines are those of the one history that came of it; the last names its youngest revision; and the disk that is given back
 -- holds it.
-pub record RanTwo (moment since : ℕ) (js : List Job) (answers : List JobAnswer) (youngest : ℕ) (h : List Revision) (t : Trace) : Type 0 where
+pub record RanTwo (moment : ℕ) (since : Since) (js : List Job) (answers : List JobAnswer) (youngest : ℕ) (h : List Revision) (t : Trace) : Type 0 where
   -- the history that came of it, with the bytes beside each revision
   pub now : List Recorded
   pub lines : JobLines moment 2 js answers h now

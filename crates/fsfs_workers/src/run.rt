@@ -3,6 +3,7 @@ ghost use Rattle.std.specs.Prelude.{◌≡◌, ◌≤◌, [], length, true, Some
 ghost use Rattle.fsfs_disk.specs.Trace.{Trace};
 ghost use Rattle.fsfs_machine.specs.Machine.{revisions};
 ghost use Rattle.fsfs_pass.specs.Seats.{alone};
+ghost use Rattle.fsfs_repo.specs.Known.{HoldBytes};
 ghost use Rattle.fsfs_job_run.specs.Workers.Lines.{disk_faults_in, RoseBy};
 ghost use Rattle.fsfs_job_run.specs.Serial.Jobs.{bench_faults_in};
 ghost use Rattle.fsfs_workers.specs.Ready.{IsReady};
@@ -36,9 +37,9 @@ where
     requires sits { (seat.table_id ≡ repo.board.shared.table_id) × (seat.me.1 ≡ []) }
     requires ready { IsReady repo.layout (is_some (D.trace repo.first.value)) seat.me.0 }
     requires alone { seat.me.0.kin ≡ alone }
-    // It has seen all that there was as images began to be spoken of, has added nothing since, and met no fault; and it has met the disk as it
-    // was first.
-    requires seen { seat.me.0.told ≡ true → (seat.me.0.opened ≡ length seat.me.0.seen) × (seat.me.0.pass.mine ≡ []) × (seat.me.0.pass.faults ≡ []) }
+    // It has seen all that there was as images began to be spoken of, with the bytes of each, has added nothing since, and met no fault; and it
+    // has met the disk as it was first.
+    requires seen { seat.me.0.told ≡ true → (seat.me.0.opened ≡ length seat.me.0.seen) × (seat.me.0.pass.mine ≡ []) × (seat.me.0.pass.faults ≡ []) × HoldBytes seat.me.0.since.files seat.me.0.seen }
     // The table began with that disk.
     requires began { (repo.board.shared.key.value.disk.mount_path ≡ D.mount_path repo.first.value) × (repo.board.shared.key.value.disk.faults ≡ D.faults repo.first.value) × (repo.board.shared.key.value.disk.bench_faults ≡ D.bench_faults repo.first.value) }
     requires fresh { (seat.me.0.met ≡ D.trace repo.first.value) × (seat.me.0.failures ≡ 0) × (seat.me.0.bench_failures ≡ 0) }

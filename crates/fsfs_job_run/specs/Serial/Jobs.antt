@@ -1,5 +1,5 @@
 -- What a job does to what the pass of a repository knows, and jobs one after another.
-use Rattle.std.specs.Prelude.{◌≡◌, ◌⊎◌, ◌≤◌, ◌<◌, ◌+◌, ◌++◌, ℕ, List, [], ◌∷◌, length, Bool, true, false, None}
+use Rattle.std.specs.Prelude.{◌≡◌, ◌⊎◌, ◌≤◌, ◌<◌, ◌+◌, ◌++◌, ◌||◌, ℕ, List, [], ◌∷◌, length, Bool, true, false, None}
 use Rattle.fsfs_base.specs.Paths.{Path}
 use Rattle.fsfs_base.specs.Fields.Dates.{IsDateAt}
 use Rattle.fsfs_base.specs.declared.places.place.DiskPlace.{DiskPlace}
@@ -34,7 +34,8 @@ DoesJob moment h job answer now =
     (date : List ℕ) × IfAdded answer (IsDateAt moment date) × ((t : ℕ) → t < last_name → (named : ℕ) × (named ≤ t + 1) × Runs h date t job answer now named)
 
 -- What that definition does not decide: a call of the disk or of a bench failed, the lock is stuck, or memory was wanting; and of a job that
--- commits: no name was left, or counts of mergeinfo would have to change. (Why it was refused for these: `StopsOver`.)
+-- commits: no name was left, or counts of mergeinfo would have to change. (Why it was refused for these: `StopsOver`; and for names, where one
+-- worker does the jobs: `full` of `Ran`.)
 pub data Fails : Job → JobAnswer → Type 0 where
   ByDisk : (job : Job) (line : ℕ) (at : DiskPlace) → Fails job (Stopped line (Outside (Disk at)))
   ByBench : (job : Job) (line : ℕ) → Fails job (Stopped line (Outside Bench))
@@ -115,6 +116,16 @@ bench_faults_in (answer ∷ answers) = bench_told answer + bench_faults_in answe
 abbrev pub TellNoDoubt : List JobAnswer → Type 0
 TellNoDoubt [] = Unit {0}
 TellNoDoubt (answer ∷ answers) = (tells_doubt answer ≡ false) × TellNoDoubt answers
+
+-- it tells that no name is left for a transaction
+abbrev pub tells_full : JobAnswer → Bool
+tells_full (Stopped line (Limit NamesFull)) = true
+tells_full answer = false
+
+-- one of these does
+abbrev pub tell_full : List JobAnswer → Bool
+tell_full [] = false
+tell_full (answer ∷ answers) = tells_full answer || tell_full answers
 
 -- it tells that the lock is stuck
 abbrev pub tells_stuck : JobAnswer → Bool

@@ -1,10 +1,11 @@
 //! A job that reads.
-ghost use Rattle.std.specs.Prelude.{◌≡◌};
+ghost use Rattle.std.specs.Prelude.{◌≡◌, false};
 ghost use Rattle.fsfs_revision.specs.Told.{RevisionBytes, Knows, Keeps};
 ghost use Rattle.fsfs_tree.specs.Answers.{found_at};
 ghost use Rattle.fsfs_tree.specs.Nodes.{TreeFunction};
 ghost use Rattle.fsfs_revision.specs.Shows.Shown.{Shows};
 ghost use Rattle.fsfs_job_run.specs.TextReads.{IsFromLookError, IsNoBench, ReadsSo, HasAnswerCause};
+ghost use Rattle.fsfs_job_run.specs.Serial.Jobs.{tells_full};
 
 use crate::reads::text::read_text;
 use fsfs_base::{DiskPlace, FsPath, RevNum};
@@ -34,6 +35,7 @@ pub fn read_job<B: Book>(alloc: Global, book: &mut B, rev: RevNum, job: &ReadJob
     ensures kept { Keeps (B.told book.old) (B.told book.new) }
     ensures cause { HasAnswerCause (B.faults book.old) (B.faults book.new) result }
     ensures no_bench { IsNoBench result }
+    ensures unfull { tells_full result ≡ false }
 {
     match read_text(alloc, book, rev, &job.path) {
         Ok(read) => JobAnswer::Read(read),

@@ -1,6 +1,7 @@
 //! What a pass at the table knows. No value of these types is made: they stand in what a seat is told.
 use fsfs_layout::Layout;
 use fsfs_machine::{Line, Names, Numbers, Pass, Section};
+use fsfs_turn::Since;
 use std::collections::LinkedList;
 use std::marker::Model;
 
@@ -73,7 +74,7 @@ pub struct Kin {
 /// What a pass knows of the store, whether the disk tells its trace, and whether the pass has the disk.
 pub struct SeatView {
     pub layout: Layout,
-    pub since: u64,
+    pub since: Since,
     pub opened: u64,
     pub number: u64,
     pub pass: Pass,

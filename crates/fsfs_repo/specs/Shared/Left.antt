@@ -1,14 +1,15 @@
 -- What a shared repository leaves when it is closed.
-use Rattle.std.specs.Prelude.{◌≡◌, ◌≤◌, ◌<◌, ℕ, List, length, true, Option, Some, None, slice_get}
+use Rattle.std.specs.Prelude.{◌≡◌, ◌≤◌, ◌<◌, ℕ, List, length, true, Option, Some, None, IfSome, slice_get}
 use Rattle.fsfs_base.specs.Files.{Files}
 use Rattle.fsfs_disk.specs.Trace.{Trace, IsImage, ImageSince}
 use Rattle.fsfs_stands.specs.Files.{StandsFor}
 use Rattle.fsfs_machine.specs.declared.machine.Recorded.{Recorded}
 use Rattle.fsfs_machine.specs.declared.machine.Coming.{Coming}
 use Rattle.fsfs_machine.specs.Machine.{revisions}
-use Rattle.fsfs_machine.specs.Kept.{IsIn, AreOnce}
+use Rattle.fsfs_machine.specs.Kept.{IsIn, AreOnce, Follows}
 use Rattle.fsfs_turn.specs.Alone.{are_harmless}
 use Rattle.fsfs_turn.specs.Past.{IsPart}
+use Rattle.fsfs_turn.specs.Stands.{KeepsOwnFiles}
 use Rattle.fsfs_turn.specs.Views.{Begins}
 use Rattle.fsfs_turn.specs.Whole.{HasHistory, HasRevision, NamesFrom}
 use Rattle.fsfs_pass.specs.declared.seats.seat_view.SeatView.{SeatView}
@@ -24,8 +25,12 @@ pub record Leaves (v : SeatView) (t : Trace) : Type 0 where
   -- the last that it was told of is in it
   pub least : v.pass.least < length history
   pub doubt : Option Coming
-  pub moments : (m : Files) → ImageSince v.since t.first t.operations m → (g : List Recorded) × IsPart history doubt g × (v.opened ≤ length g) × HasHistory v.layout m g × StandsFor m (revisions g)
+  -- that follows the history by the landing of an entry
+  pub follows : IfSome doubt (Follows history)
+  pub moments : (m : Files) → ImageSince v.since.operations t.first t.operations m → (g : List Recorded) × IsPart history doubt g × (v.opened ≤ length g) × HasHistory v.layout m g × StandsFor m (revisions g)
   pub now : (m : Files) → IsImage t.first t.operations m → (g : List Recorded) × IsPart history doubt g × (length history ≤ length g) × HasHistory v.layout m g × StandsFor m (revisions g)
+  -- each of all these has the files that no turn changes, in their formats and with the bytes that they had at the opening
+  pub own : (m : Files) → ImageSince v.since.operations t.first t.operations m → KeepsOwnFiles v.layout v.since.files m
   -- so what the pass has seen is whole there
   pub whole : (m : Files) → IsImage t.first t.operations m → (r : ℕ) (x : Recorded) → slice_get v.seen r ≡ Some x → HasRevision v.layout m r x
   pub named : (m : Files) → IsImage t.first t.operations m → NamesFrom m (length v.seen)

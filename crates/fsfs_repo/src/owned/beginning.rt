@@ -1,11 +1,11 @@
 //! Transactions begin.
-ghost use Rattle.std.specs.Prelude.{◌≡◌, ◌⊎◌, ◌≤◌, true, None, OnErr, IfOk, IfErr, IfSome, option_map};
+ghost use Rattle.std.specs.Prelude.{◌≡◌, ◌⊎◌, ◌≤◌, true, None, OnOk, OnErr, IfOk, IfErr, IfSome, option_map};
 ghost use Rattle.fsfs_base.specs.Failures.{Rose};
 ghost use Rattle.fsfs_disk.specs.Labels.{has_label, with_label};
 ghost use Rattle.fsfs_disk.specs.Transactions.Txns.{pair_of, txn_label};
 ghost use Rattle.fsfs_turn.specs.Mountings.{RoseBy};
 ghost use Rattle.fsfs_turn.specs.Views.{View};
-ghost use Rattle.fsfs_begin.specs.Steps.{Moved};
+ghost use Rattle.fsfs_begin.specs.Steps.{HasLastName, Moved};
 ghost use Rattle.fsfs_begin.specs.Faults.{Cause, IfBench, IfDisk, IsAbove, LacksNumber, LeavesNone, bench_faults_in};
 ghost use Rattle.fsfs_begin.specs.Labels.{IsNew, ListsNoMore};
 ghost use Rattle.fsfs_repo.specs.Txns.Begun.{BeginsTxn};
@@ -40,11 +40,13 @@ impl<D: Disk> Repo<D> {
         // It stands for the tree of its base, and the pass knows its name to be given.
         ensures begun { (v : View) → ⟦<Owned<D> as Turns<R>>⟧.knows self.turns v → v.section ≡ None
             → IfOk result.1 (λ txn. (u : View) × ⟦<Owned<D> as Turns<R>>⟧.knows result.0.turns u × BeginsTxn (⟦<HeldNodes<D::Bench> as Own>⟧.txn txn.own) base (⟦<HeldNodes<D::Bench> as Own>⟧.settled txn.own) v u) }
-        // Or why none was begun. Where the last number stands in `db/txn-current` that is for want of a number, or since its read failed.
+        // Or why none was begun, by what the pass knows; or no name is left in the files, and it is told that names are full, or that a read failed.
         ensures refused { (v : View) → ⟦<Owned<D> as Turns<R>>⟧.knows self.turns v → v.section ≡ None
             → IfErr result.1 (λ why. ((u : View) × ⟦<Owned<D> as Turns<R>>⟧.knows result.0.turns u × Moved v u × Cause base why u
             × IfBench why (LeavesNone base (⟦<Owned<D> as Turns<R>>⟧.labels result.0.turns) (Rose (⟦<Owned<D> as Turns<R>>⟧.faults self.turns) (⟦<Owned<D> as Turns<R>>⟧.faults result.0.turns)) v u))
-            ⊎ (LacksNumber why × ((u : View) × ⟦<Owned<D> as Turns<R>>⟧.knows result.0.turns u × Moved v u))) }
+            ⊎ (HasLastName (⟦<Owned<D> as Turns<R>>⟧.store self.turns) × LacksNumber why × ((u : View) × ⟦<Owned<D> as Turns<R>>⟧.knows result.0.turns u × Moved v u))) }
+        // Where none is left, none is begun, and the repository stays as it was.
+        ensures full { HasLastName (⟦<Owned<D> as Turns<R>>⟧.store self.turns) → OnOk result.1 ⊥ × ((⟦<Owned<D> as Turns<R>>⟧.store result.0.turns).below ≡ (⟦<Owned<D> as Turns<R>>⟧.store self.turns).below) }
         // Its label came to those that were kept, and no other came or went. Where none was begun, none came, whatever is known.
         ensures listed { IfOk result.1 (λ txn. ⟦<Owned<D> as Turns<R>>⟧.labels result.0.turns ≡ option_map (with_label (txn_label (pair_of (⟦<HeldNodes<D::Bench> as Own>⟧.txn txn.own)))) (⟦<Owned<D> as Turns<R>>⟧.labels self.turns)) }
         ensures unlisted { OnErr result.1 (ListsNoMore (IsNew (⟦<Owned<D> as Turns<R>>⟧.knows self.turns)) base (Rose (⟦<Owned<D> as Turns<R>>⟧.faults self.turns) (⟦<Owned<D> as Turns<R>>⟧.faults result.0.turns)) (⟦<Owned<D> as Turns<R>>⟧.labels self.turns) (⟦<Owned<D> as Turns<R>>⟧.labels result.0.turns)) }

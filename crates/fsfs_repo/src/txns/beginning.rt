@@ -1,5 +1,5 @@
 //! Transactions begin.
-ghost use Rattle.std.specs.Prelude.{◌≡◌, ◌⊎◌, ◌≤◌, true, false, codes, None, OnErr, IfOk, IfErr, IfSome};
+ghost use Rattle.std.specs.Prelude.{◌≡◌, ◌⊎◌, ◌≤◌, true, false, codes, None, OnOk, OnErr, IfOk, IfErr, IfSome};
 ghost use Rattle.fsfs_base.specs.Failures.{Rose};
 ghost use Rattle.fsfs_disk.specs.Labels.{has_label, with_label};
 ghost use Rattle.fsfs_begin.specs.Benches.{TellsRoot};
@@ -9,7 +9,7 @@ ghost use Rattle.fsfs_disk.specs.Transactions.Txns.{pair_of, txn_label};
 ghost use Rattle.fsfs_turn.specs.Labels.{Relabels};
 ghost use Rattle.fsfs_turn.specs.Mountings.{RoseBy};
 ghost use Rattle.fsfs_turn.specs.Views.{View};
-ghost use Rattle.fsfs_begin.specs.Steps.{MeetsLastName, Moved};
+ghost use Rattle.fsfs_begin.specs.Steps.{FilesStay, HasLastName, MeetsLastName, Moved};
 ghost use Rattle.fsfs_begin.specs.Faults.{Cause, IfBench, IfDisk, IsAbove, LacksNumber, LeavesNone, bench_faults_in};
 ghost use Rattle.fsfs_begin.specs.Labels.{IsNew, IsUnlisted, ListsNoMore};
 ghost use Rattle.fsfs_repo.specs.Txns.Begun.{BeginsTxn, BeginsTxnAmong};
@@ -79,6 +79,8 @@ pub fn begin_txn<R, T: Turns<R>>(
         → IfErr result.1 (λ why. ((u : View) × T.knows result.0 u × Moved v u × Cause base why u
         × IfBench why (LeavesNone base (T.labels result.0) (Rose (T.faults turns) (T.faults result.0)) v u))
         ⊎ (MeetsLastName T.store turns × LacksNumber why × ((u : View) × T.knows result.0 u × Moved v u))) }
+    // Where no name is left and the files are of what no reading changes, none is begun, and all of that stays as it was.
+    ensures full { FilesStay T.store → HasLastName (T.store turns) → OnOk result.1 ⊥ × ((T.store result.0).below ≡ (T.store turns).below) }
     // Where what is known is of what no reading changes, as it is for a pass that is alone, reading tells it nothing.
     ensures alone { ((old new : T) (v : View) → (T.store new).below ≡ (T.store old).below → T.knows old v → T.knows new v)
         → (v : View) → T.knows turns v → v.section ≡ None

@@ -3,7 +3,7 @@ use Rattle.std.proofs.lemmas.Bool.Decides.{nat_tests}
 use Rattle.fsfs_base.specs.Failures.{Rose}
 use Rattle.fsfs_turn.specs.Views.{View}
 use Rattle.fsfs_begin.proofs.Among.{all_among, relabels_begun, unlisted_among}
-use Rattle.fsfs_begin.proofs.Reading.{met_before, either_way, ok_drawn, err_drawn}
+use Rattle.fsfs_begin.proofs.Reading.{last_still, met_before, either_way, ok_drawn, err_drawn}
 use Rattle.fsfs_begin.proofs.Moving.{by_look, moved_on}
 use Rattle.fsfs_machine.specs.Kept.{AllBelow}
 use Rattle.fsfs_begin.specs.Labels.{IsNew}
@@ -108,3 +108,17 @@ returns-in-Ok-clause-unlisted g c =
     ⊎_elim (λ d. subst (λ (k : ℕ). AllBelow k v.given) (sym same) (above_given c.look-youngest.result v a.0 d.0 c.in-Ok.name.number.number a.2 d.2)) (λ past. absurd past.1)
     (c.in-Ok.ensures.drew a.0 a.1 (ap {A = View} (λ z. z.section) a.2.is ∙ none) (least_at_look c.args.base c.look-youngest.result v a.0 a.2 le)))
     (λ rose. omega (arith, rose, c.draw.ensures.later, c.look-youngest.ensures.faults)) c.begin_named.ensures.unlisted
+
+-- ---- where no name is left
+
+pub returns-then-lt-clause-full : goal.returns-then-lt-clause-full
+returns-then-lt-clause-full g c = λ stay last. (tt, c.look-youngest.ensures.later.below)
+
+pub returns-in-Err-clause-full : goal.returns-in-Err-clause-full
+returns-in-Err-clause-full g c = λ stay last.
+    let full = c.in-Err.ensures.full stay (last_still g.T.Turns.store c.args.turns c.look-youngest.new.self stay c.look-youngest.ensures.later.below last) in
+    (tt, full.1 ∙ c.look-youngest.ensures.later.below)
+
+pub returns-in-Ok-clause-full : goal.returns-in-Ok-clause-full
+returns-in-Ok-clause-full g c = λ stay last.
+    let full = c.in-Ok.ensures.full stay (last_still g.T.Turns.store c.args.turns c.look-youngest.new.self stay c.look-youngest.ensures.later.below last) in absurd full.0

@@ -2,7 +2,7 @@ use Rattle.std.proofs.Common.{inl, ap, sym, subst, ◌∙◌}
 use Rattle.fsfs_turn.specs.Views.{View}
 use Rattle.fsfs_begin.specs.Faults.{Cause, LacksNumber}
 use Rattle.fsfs_begin.proofs.Among.{held_begun, give_due, lacks_named, undrawn_moved}
-use Rattle.fsfs_begin.proofs.Reading.{met_before, either_way}
+use Rattle.fsfs_begin.proofs.Reading.{last_still, met_before, either_way}
 use Rattle.fsfs_begin.proofs.Moving.{by_stuck, begun_at, least_at, given_over, may_give, has_name, undrawn}
 use Rattle.fsfs_begin.proofs.drawing.draw.Goals as goal
 
@@ -61,3 +61,17 @@ returns-in-Ok-drawn-clause-listed g c = λ free. c.give_lock.ensures.listed (c.n
 
 pub returns-in-Err-drawn-clause-listed : goal.returns-in-Err-drawn-clause-listed
 returns-in-Err-drawn-clause-listed g c = λ free. c.give_lock.ensures.listed (c.next_name-drawn.ensures.duty ∙ c.in-Ok.ensures.duty ∙ free) ∙ c.next_name-drawn.ensures.listed (c.in-Ok.ensures.duty ∙ free) ∙ c.in-Ok.ensures.listed free
+
+-- ---- where no name is left
+
+pub returns-in-Err-clause-full : goal.returns-in-Err-clause-full
+returns-in-Err-clause-full g c = λ stay last. (tt, c.take_lock.ensures.same)
+
+pub returns-in-Ok-drawn-clause-full : goal.returns-in-Ok-drawn-clause-full
+returns-in-Ok-drawn-clause-full g c = λ stay last.
+    let full = c.in-Ok-drawn.ensures.full stay (last_still g.T.Turns.store c.args.turns.now c.take_lock.new.self stay c.take_lock.ensures.same last) in absurd full.0
+
+pub returns-in-Err-drawn-clause-full : goal.returns-in-Err-drawn-clause-full
+returns-in-Err-drawn-clause-full g c = λ stay last.
+    let full = c.in-Err-drawn.ensures.full stay (last_still g.T.Turns.store c.args.turns.now c.take_lock.new.self stay c.take_lock.ensures.same last) in
+    (tt, c.give_lock.ensures.same ∙ full.1 ∙ c.take_lock.ensures.same)

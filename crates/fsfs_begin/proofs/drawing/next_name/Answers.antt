@@ -50,3 +50,20 @@ returns-in-Ok-raise-clause-listed g c = λ free. c.in-Ok-raise.ensures.listed (c
 
 pub returns-clause-listed : goal.returns-clause-listed
 returns-clause-listed g c = λ free. c.in-Err-raise.ensures.listed (c.in-Ok.ensures.duty ∙ free) ∙ c.in-Ok.ensures.listed free
+
+-- ---- where no name is left
+
+pub returns-in-Err-clause-full : goal.returns-in-Err-clause-full
+returns-in-Err-clause-full g c = λ stay last. (tt, c.in-Err.ensures.same)
+
+pub returns-in_default-clause-full : goal.returns-in_default-clause-full
+returns-in_default-clause-full g c = λ stay last. (tt, c.in-Ok.ensures.same)
+
+pub returns-in-Err-write_txn_current-clause-full : goal.returns-in-Err-write_txn_current-clause-full
+returns-in-Err-write_txn_current-clause-full g c = λ stay last. let most = c.in-Ok.ensures.full stay last in absurd (omega (arith, most, c.in-Some.ensures, c.in-Some.next.small))
+
+pub returns-in-Ok-raise-clause-full : goal.returns-in-Ok-raise-clause-full
+returns-in-Ok-raise-clause-full g c = λ stay last. let most = c.in-Ok.ensures.full stay last in absurd (omega (arith, most, c.in-Some.ensures, c.in-Some.next.small))
+
+pub returns-clause-full : goal.returns-clause-full
+returns-clause-full g c = λ stay last. let most = c.in-Ok.ensures.full stay last in absurd (omega (arith, most, c.in-Some.ensures, c.in-Some.next.small))

@@ -1,6 +1,6 @@
-use Rattle.std.proofs.Common.{◌≡◌, ⊎_elim, sym, ap, subst, ◌∙◌, arith}
+use Rattle.std.proofs.Common.{◌≡◌, true, ⊎_elim, sym, ap, subst, ◌∙◌, arith}
 use Rattle.fsfs_base.specs.Failures.{Rose}
-use Rattle.fsfs_base.proofs.ResultLemmas.{if_ok, if_err, on_err}
+use Rattle.fsfs_base.proofs.ResultLemmas.{if_ok, if_err, on_ok, on_err}
 use Rattle.fsfs_tree.specs.Revisions.{tree_of}
 use Rattle.fsfs_machine.specs.Machine.{revisions}
 use Rattle.fsfs_machine.proofs.Growing.{revisions_length}
@@ -12,10 +12,12 @@ use Rattle.fsfs_jobs.specs.declared.answer.JobAnswer.TheVariants.{Stopped}
 use Rattle.fsfs_job_run.specs.Running.{CommitsSo}
 use Rattle.fsfs_job_run.specs.TextReads.{IfAnswerFails}
 use Rattle.fsfs_job_run.proofs.Causes.{fails_on, begin_fails}
-use Rattle.fsfs_job_run.specs.Serial.Jobs.{bench_told}
+use Rattle.fsfs_job_run.specs.Faults.{fault_of_begin}
+use Rattle.fsfs_job_run.specs.Serial.Jobs.{bench_told, tells_full}
 use Rattle.fsfs_job_run.proofs.BenchCauses.{begin_told}
 use Rattle.fsfs_job_run.proofs.Begun.{lacking_so, unbegun_so}
 use Rattle.fsfs_job_run.proofs.Composed.{begun_so}
+use Rattle.fsfs_job_run.proofs.Full.{begun_unfull, cause_unfull}
 use Rattle.fsfs_job_run.proofs.Listing.{begun_lists, new_from, unbegun_lists}
 use Rattle.fsfs_job_run.proofs.Seen.{trees_seen}
 use Rattle.fsfs_job_run.proofs.Whole.{root_whole}
@@ -38,7 +40,7 @@ returns-in-Err-clause-does g c = λ v known none told on le.
     subst (λ f. CommitsSo (KnowsAlone after.layout after.young after.stuck (g.D.Disk.trace after.disk)) rose c.args.micros job (Stopped job.line f) v) (sym c.of_begin-fault.ensures)
     (⊎_elim (λ d. unbegun_so (KnowsAlone after.layout after.young after.stuck (g.D.Disk.trace after.disk)) rose c.args.micros c.args.base job c.in-Err.why v d.0 d.1 known.1.own d.1.1.own told le d.2
     (λ wrong less root. root_whole (bytes_of d.0.seen) c.args.base (tree_of (revisions d.0.seen) c.args.base) wrong ((trees_seen after.layout after.young after.stuck (g.D.Disk.trace after.disk) d.0 d.1).each c.args.base (omega (arith, less, revisions_length d.0.seen))) root) d.3 disk)
-    (λ m. lacking_so (KnowsAlone after.layout after.young after.stuck (g.D.Disk.trace after.disk)) rose c.args.micros job c.in-Err.why v m.1.0 m.1.1 known.1.own m.1.1.1.own m.1.2 m.0 disk)
+    (λ m. lacking_so (KnowsAlone after.layout after.young after.stuck (g.D.Disk.trace after.disk)) rose c.args.micros job c.in-Err.why v m.2.0 m.2.1 known.1.own m.2.1.1.own m.2.2 m.1 disk)
     (if_err c.begin-repo.result.1 c.in-Err.why _ c.in-Err.is (c.begin-repo.ensures.refused v known none)))
 
 pub returns-in-Ok-clause-cause : goal.returns-in-Ok-clause-cause
@@ -82,3 +84,21 @@ returns-in-Err-clause-benches g c =
     let begun = subst (λ r. RoseBy (bench_faults_in r) (count c.args.repo.turns.disk) (count c.begin-repo.result.0.turns.disk)) c.in-Err.is c.begin-repo.ensures.benches in
     let told = ap (λ f. bench_told (Stopped line f)) c.of_begin-fault.ensures ∙ begin_told line c.in-Err.why in
     omega (arith, begun, told)
+
+pub returns-in-Ok-clause-full : goal.returns-in-Ok-clause-full
+returns-in-Ok-clause-full g c = λ v known none told.
+    let same = if_ok c.begin-repo.result.1 c.in-Ok.txn (λ z. z.base ≡ c.args.base) c.in-Ok.is c.begin-repo.ensures.base in
+    let d = if_ok c.begin-repo.result.1 c.in-Ok.txn _ c.in-Ok.is (c.begin-repo.ensures.begun v known none) in
+    begun_unfull c.args.base c.in-Ok.txn.base _ _ c.edit_and_commit.result.1 v d.0 same d.2 (λ based stands. c.edit_and_commit.ensures.unfull d.0 d.1 based stands) told
+
+pub returns-in-Err-clause-full : goal.returns-in-Err-clause-full
+returns-in-Err-clause-full g c = λ v known none told.
+    let line = c.args.job.now.line in
+    let told_so : tells_full (Stopped line (fault_of_begin c.in-Err.why)) ≡ true = ap (λ f. tells_full (Stopped line f)) (sym c.of_begin-fault.ensures) ∙ told in
+    ⊎_elim (λ d. cause_unfull c.args.base line c.in-Err.why d.0 d.3 told_so) (λ m. m.0) (if_err c.begin-repo.result.1 c.in-Err.why _ c.in-Err.is (c.begin-repo.ensures.refused v known none))
+
+pub returns-in-Ok-clause-stays : goal.returns-in-Ok-clause-stays
+returns-in-Ok-clause-stays g c = λ last. absurd (on_ok c.begin-repo.result.1 c.in-Ok.txn ⊥ c.in-Ok.is (c.begin-repo.ensures.full last).0)
+
+pub returns-in-Err-clause-stays : goal.returns-in-Err-clause-stays
+returns-in-Err-clause-stays g c = λ last. (c.begin-repo.ensures.full last).1

@@ -13,6 +13,7 @@ use Rattle.fsfs_job_run.proofs.Based.{no_base, no_base_outside, no_base_counted}
 use Rattle.fsfs_job_run.proofs.Causes.{fails_on, request_fails}
 use Rattle.fsfs_job_run.proofs.BenchCauses.{request_told}
 use Rattle.fsfs_job_run.proofs.Composed.{commits_behind}
+use Rattle.fsfs_job_run.proofs.Full.{full_as, request_unfull}
 use Rattle.fsfs_machine.specs.Kept.{IsIn}
 use Rattle.fsfs_job_run.proofs.Listing.{given_on, lists_behind}
 use Rattle.fsfs_job_run.proofs.SerialJobLemmas.{among}
@@ -66,3 +67,17 @@ returns-in-Err-clause-benches g c =
     let same = ap (λ (s : OwnedState). s.bench_faults) c.in-Err.ensures.same in
     let told = request_told c.args.job.now.line c.in-Err.fault c.in-Err.ensures.asked in
     omega (arith, same, told)
+
+pub returns-in-Ok-clause-full : goal.returns-in-Ok-clause-full
+returns-in-Ok-clause-full g c = λ v known none told.
+    let l = c.in-Ok.ensures.looked v known none in
+    full_as _ _ (sym c.in-Ok.ensures.same) (c.begin_and_commit.ensures.full l.0 l.1 l.2.stays.outside told)
+
+pub returns-in-Err-clause-full : goal.returns-in-Err-clause-full
+returns-in-Err-clause-full g c = λ v known none told. let h = request_unfull c.args.job.now.line c.in-Err.fault c.in-Err.ensures.asked in absurd cc
+
+pub returns-in-Ok-clause-stays : goal.returns-in-Ok-clause-stays
+returns-in-Ok-clause-stays g c = λ last. c.begin_and_commit.ensures.stays (full_as _ _ c.in-Ok.ensures.same last) ∙ c.in-Ok.ensures.same
+
+pub returns-in-Err-clause-stays : goal.returns-in-Err-clause-stays
+returns-in-Err-clause-stays g c = λ last. c.in-Err.ensures.same

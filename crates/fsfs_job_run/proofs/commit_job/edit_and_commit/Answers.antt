@@ -1,4 +1,4 @@
-use Rattle.std.proofs.Common.{◌<◌, ℕ, refl, sym, subst, arith}
+use Rattle.std.proofs.Common.{◌<◌, ℕ, [], refl, sym, subst, arith}
 use Rattle.fsfs_base.specs.Failures.{Rose}
 use Rattle.fsfs_tree.specs.Dated.{last_of}
 use Rattle.fsfs_tree.specs.Revisions.{tree_of}
@@ -10,6 +10,7 @@ use Rattle.fsfs_turn.specs.Bytes.{bytes_of}
 use Rattle.fsfs_job_run.proofs.Causes.{fails_on, edit_fails}
 use Rattle.fsfs_job_run.proofs.BenchCauses.{edit_told, edits_blamed}
 use Rattle.fsfs_job_run.proofs.Composed.{stands_for, edited_so, stopped_so, edits_done, edits_stopped, edits_failed, txn_as, given_as}
+use Rattle.fsfs_job_run.proofs.Full.{edits_unfull}
 use Rattle.fsfs_job_run.proofs.Listing.{unlisted_behind}
 use Rattle.fsfs_job_run.proofs.commit_job.edit_and_commit.Goals as goal
 
@@ -76,3 +77,14 @@ returns-in-Err-clause-benches g c =
     let failed = edits_blamed c.edit-repo.result.1 stopped stopped.fault (0 < g.D.Bench.Bench.faults c.edit-repo.new.txn.own.bench) c.in-Err.is refl c.edit-repo.ensures.failed in
     let few = edit_told stopped.line stopped.fault (g.D.Bench.Bench.faults c.edit-repo.new.txn.own.bench) failed in
     omega (arith, few, c.edit-repo.ensures.benches, c.purged.ensures.benches)
+
+pub returns-in-Ok-clause-unfull : goal.returns-in-Ok-clause-unfull
+returns-in-Ok-clause-unfull g c = λ v known based stands. c.commit_edited.ensures.unfull
+
+pub returns-in-Err-clause-unfull : goal.returns-in-Err-clause-unfull
+returns-in-Err-clause-unfull g c = λ v known based stands.
+    let steps = c.args.job.now.steps in
+    let base = c.args.txn.base in
+    let stopped = c.in-Err.field-0 in
+    edits_unfull stopped.line (tree_of (revisions v.seen)) (last_of (revisions v.seen)) (bytes_of v.seen) base _ stopped.line (tree_of (revisions v.seen) base) [] steps stopped.fault
+    (edits_stopped steps _ base _ c.edit-repo.result.1 stopped stopped.line stopped.fault (bytes_of v.seen) (tree_of (revisions v.seen)) (last_of (revisions v.seen)) (tree_of (revisions v.seen) base) c.in-Err.is refl refl (c.edit-repo.ensures.edits v known based stands))

@@ -6,12 +6,13 @@ use Rattle.fsfs_repo.specs.Txns.Commits.{IfFailed, bench_faults_told}
 use Rattle.fsfs_jobs.specs.declared.answer.JobAnswer.{JobAnswer}
 use Rattle.fsfs_job_run.specs.TextReads.{IfAnswerFails}
 use Rattle.fsfs_job_run.specs.Running.{IsNoRequest}
-use Rattle.fsfs_job_run.specs.Serial.Jobs.{bench_told}
+use Rattle.fsfs_job_run.specs.Serial.Jobs.{bench_told, tells_full}
 use Rattle.fsfs_job_run.proofs.BenchCauses.{bar_told}
 use Rattle.fsfs_job_run.proofs.Causes.{bar_fails}
 use Rattle.fsfs_job_run.proofs.Alone.{is_lone}
 use Rattle.fsfs_job_run.proofs.Answered.{committed_by, barred_by, disk_by, bench_by}
 use Rattle.fsfs_job_run.proofs.Bars.{bar_none}
+use Rattle.fsfs_job_run.proofs.Full.{bar_unfull}
 use Rattle.fsfs_job_run.proofs.Listing.{unlisted_behind, committed_unlists, disk_unlists, bench_unlists, back_keeps, back_is}
 use Rattle.fsfs_job_run.proofs.Seen.{some_seen, history_seen, over_seen}
 use Rattle.fsfs_job_run.proofs.ending.commit_with.Goals as goal
@@ -110,3 +111,12 @@ returns-in-BenchFault-clause-benches g c =
     let count = g.D.Disk.bench_faults in
     let rose = subst (λ a. RoseBy (bench_faults_told a) (count c.args.repo.turns.disk) (count c.commit-repo.result.0.turns.disk)) c.in-BenchFault.is c.commit-repo.ensures.benches in
     subst (λ (a : JobAnswer). RoseBy (bench_told a) (count c.args.repo.turns.disk) (count c.commit-repo.result.0.turns.disk)) (sym c.stopped-in-BenchFault.ensures) rose
+
+pub returns-in-Barred-clause-unfull : goal.returns-in-Barred-clause-unfull
+returns-in-Barred-clause-unfull g c = ap tells_full c.barred.ensures ∙ bar_unfull c.args.job.now.line c.in-Barred.bar
+
+pub returns-in-DiskFault-clause-unfull : goal.returns-in-DiskFault-clause-unfull
+returns-in-DiskFault-clause-unfull g c = ap tells_full c.stopped.ensures
+
+pub returns-in-BenchFault-clause-unfull : goal.returns-in-BenchFault-clause-unfull
+returns-in-BenchFault-clause-unfull g c = ap tells_full c.stopped-in-BenchFault.ensures

@@ -36,3 +36,15 @@ returns-in-Commit-clause-listed g c = c.commit_job.ensures.listed
 
 pub returns-in-Read-clause-listed : goal.returns-in-Read-clause-listed
 returns-in-Read-clause-listed g c = λ least has. inl (none_begun least 1 _ _ c.read_text.ensures.listed)
+
+pub returns-in-Commit-clause-full : goal.returns-in-Commit-clause-full
+returns-in-Commit-clause-full g c = c.commit_job.ensures.full
+
+pub returns-in-Read-clause-full : goal.returns-in-Read-clause-full
+returns-in-Read-clause-full g c = λ v known none told. let h = c.read_text.ensures.unfull in absurd cc
+
+pub returns-in-Commit-clause-stays : goal.returns-in-Commit-clause-stays
+returns-in-Commit-clause-stays g c = c.commit_job.ensures.stays
+
+pub returns-in-Read-clause-stays : goal.returns-in-Read-clause-stays
+returns-in-Read-clause-stays g c = λ last. c.read_text.ensures.stays

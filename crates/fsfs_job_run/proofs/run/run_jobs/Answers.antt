@@ -3,6 +3,7 @@ use Rattle.fsfs_turn.specs.Alone.{KnowsAlone}
 use Rattle.fsfs_base.specs.Failures.{Rose}
 use Rattle.fsfs_job_run.proofs.Listing.{given_on, lists_within}
 use Rattle.fsfs_job_run.proofs.SerialJobLemmas.{grow}
+use Rattle.fsfs_job_run.proofs.Full.{full_as, full_more, none_full}
 use Rattle.fsfs_job_run.proofs.Going.{done_none, runs_more, runs_all}
 use Rattle.fsfs_job_run.specs.Serial.Jobs.{bench_faults_in}
 use Rattle.fsfs_job_run.specs.Workers.Lines.{disk_faults_in}
@@ -17,6 +18,7 @@ loop-job-init g c =
     let turns = c.args.repo.turns in
     record {
       does = λ v known none. done_none (KnowsAlone turns.layout turns.young turns.stuck (g.D.Disk.trace turns.disk)) c.args.micros c.in-Ok.answers.items v c.in-Ok.ensures.items known none;
+      full = λ v known none told. none_full c.in-Ok.answers.items c.in-Ok.ensures.items told;
       numbered = refl;
       room = c.in-Ok.ensures.exact;
       count = c.in-Ok.ensures.len;
@@ -37,6 +39,10 @@ loop-job-preserved g c =
       does = λ v known none.
           runs_more (KnowsAlone before.layout before.young before.stuck (g.D.Disk.trace before.disk)) (KnowsAlone after.layout after.young after.stuck (g.D.Disk.trace after.disk)) _ c.args.micros c.args.jobs.now c.loop-job.job-index c.job-item.result (omega arith) c.job-item.is
           c.loop-job.answers.items c.do_job-after.result.1 c.push_reserved.new.self.items c.push_reserved.ensures.items v (λ u k. k.1.found) (inv.does v known none) (λ m k s. c.do_job-after.ensures.does m k s) (λ m k s. c.do_job-after.ensures.counted m k s);
+      full = λ v known none told.
+          let d = inv.does v known none in
+          let last = full_more c.loop-job.answers.items c.do_job-after.result.1 c.push_reserved.new.self.items c.push_reserved.ensures.items (inv.full v known none) (c.do_job-after.ensures.full d.0 d.1 d.2) told in
+          full_as _ _ (c.do_job-after.ensures.stays last) last;
       numbered = ap (λ (n : ℕ). n + 1) inv.numbered;
       room = c.push_reserved.ensures.capacity ∙ inv.room;
       count = c.push_reserved.ensures.len ∙ ap (λ (n : ℕ). n + 1) inv.count;
@@ -60,6 +66,9 @@ pub returns-clause-does : goal.returns-clause-does
 returns-clause-does g c = λ v known none.
     let turns = c.loop-job.repo.turns in
     runs_all (KnowsAlone turns.layout turns.young turns.stuck (g.D.Disk.trace turns.disk)) c.args.micros c.args.jobs.now c.loop-job.job-index c.loop-job.answers.items v (omega arith) (c.loop-job.invariant.does v known none)
+
+pub returns-clause-full : goal.returns-clause-full
+returns-clause-full g c = λ v known none told. c.loop-job.invariant.full v known none told
 
 pub returns-clause-crashes : goal.returns-clause-crashes
 returns-clause-crashes g c = λ u known. let turns = c.loop-job.repo.turns in survives turns.layout turns.young turns.stuck (g.D.Disk.trace turns.disk) u known

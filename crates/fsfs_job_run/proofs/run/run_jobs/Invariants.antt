@@ -1,8 +1,10 @@
-use Rattle.std.proofs.Common.{◌≡◌, ◌⊎◌, ◌≤◌, ℕ, take, length}
+use Rattle.std.proofs.Common.{◌≡◌, ◌⊎◌, ◌≤◌, ℕ, true, take, length}
 use Rattle.std.specs.Prelude.{None, vec_len, option_map}
 use Rattle.fsfs_disk.specs.Trace.{labels_now}
 use Rattle.fsfs_turn.specs.Mountings.{RoseBy}
-use Rattle.fsfs_job_run.specs.Serial.Jobs.{bench_faults_in}
+use Rattle.fsfs_repo.specs.BeginSteps.{HasLastName}
+use Rattle.fsfs_turn.specs.Telling.{owned_view, state_of}
+use Rattle.fsfs_job_run.specs.Serial.Jobs.{bench_faults_in, tell_full}
 use Rattle.fsfs_job_run.specs.Serial.Listed.{LeavesListed}
 use Rattle.std.specs.Vec.{vec_capacity}
 use Rattle.fsfs_turn.specs.Alone.{KnowsAlone}
@@ -17,6 +19,8 @@ abbrev pub invariant-loop-job : goal.invariant-loop-job
 invariant-loop-job g l = record {
   does : (v : View) → KnowsAlone l.fn.repo.turns.layout l.fn.repo.turns.young l.fn.repo.turns.stuck (g.D.Disk.trace l.fn.repo.turns.disk) v → v.section ≡ None
       → DoAll (KnowsAlone l.repo.turns.layout l.repo.turns.young l.repo.turns.stuck (g.D.Disk.trace l.repo.turns.disk)) l.micros (take l.job-index l.jobs) l.answers.items v;
+  full : (v : View) → KnowsAlone l.fn.repo.turns.layout l.fn.repo.turns.young l.fn.repo.turns.stuck (g.D.Disk.trace l.fn.repo.turns.disk) v → v.section ≡ None → tell_full l.answers.items ≡ true
+      → HasLastName (owned_view (state_of l.repo.turns.layout l.repo.turns.young l.repo.turns.stuck (g.D.Disk.trace l.repo.turns.disk) (g.D.Disk.mount_path l.repo.turns.disk) (g.D.Disk.bench_faults l.repo.turns.disk)));
   numbered : l.number ≡ l.job-index;
   room : vec_capacity l.answers ≡ length l.jobs;
   count : vec_len l.answers ≡ l.job-index;

@@ -12,6 +12,7 @@ use Rattle.fsfs_repo.specs.Owned.Alone.{KnowsIn}
 use Rattle.fsfs_job_run.proofs.Based.{no_base_read, no_base_outside}
 use Rattle.fsfs_job_run.proofs.BenchCauses.{request_told, read_told}
 use Rattle.fsfs_job_run.proofs.Causes.{request_fails}
+use Rattle.fsfs_job_run.proofs.Full.{request_unfull}
 use Rattle.fsfs_job_run.proofs.Reading.{read_so, fails_as}
 use Rattle.fsfs_job_run.proofs.reads.base_text.read_text.Goals as goal
 
@@ -57,3 +58,12 @@ returns-clause-benches g c =
     let same = ap (λ (s : OwnedState). s.bench_faults) (c.of_reader.ensures.below ∙ c.read_job-answer.ensures.kept.below ∙ c.reader-reader.ensures.below ∙ c.in-Ok.ensures.same) in
     let told = read_told c.read_job-answer.result c.read_job-answer.ensures.no_bench in
     omega (arith, same, told)
+
+pub returns-in-Err-clause-unfull : goal.returns-in-Err-clause-unfull
+returns-in-Err-clause-unfull g c = request_unfull c.args.job.now.line c.in-Err.fault c.in-Err.ensures.asked
+
+pub returns-in-Err-clause-stays : goal.returns-in-Err-clause-stays
+returns-in-Err-clause-stays g c = c.in-Err.ensures.same
+
+pub returns-clause-stays : goal.returns-clause-stays
+returns-clause-stays g c = c.of_reader.ensures.below ∙ c.read_job-answer.ensures.kept.below ∙ c.reader-reader.ensures.below ∙ c.in-Ok.ensures.same

@@ -24,3 +24,6 @@ pub invariant_of-self-clause-sitting : goal.invariant_of-self-clause-sitting
 invariant_of-self-clause-sitting g c =
     let kin : c.give_lock.new.seat.me.0.kin ≡ c.args.self.now.seat.me.0.kin = ap {A = SeatView} (λ z. z.kin) (ap (λ m. m.0) c.give_lock.ensures.same.2) in
     stays c.args.self.now.seat.me.0 c.give_lock.new.seat.me.0 kin c.args.self.now.sitting
+
+pub returns-clause-same : goal.returns-clause-same
+returns-clause-same g c = ap {A = SeatView} (λ z. z.layout) (ap (λ m. m.0) c.give_lock.ensures.same.2)

@@ -2,7 +2,7 @@ use Rattle.std.proofs.Common.{◌≡◌, codes, inl, sym, subst, ◌∙◌, arit
 use Rattle.fsfs_base.specs.Failures.{Rose}
 use Rattle.fsfs_disk.specs.Labels.{with_label}
 use Rattle.fsfs_base.specs.declared.fields.txn_name.TxnName.{TxnName}
-use Rattle.fsfs_base.proofs.ResultLemmas.{if_ok, if_err, on_err}
+use Rattle.fsfs_base.proofs.ResultLemmas.{if_ok, if_err, on_ok, on_err}
 use Rattle.fsfs_disk.specs.Transactions.Txns.{pair_of, txn_label}
 use Rattle.fsfs_begin.specs.Benches.{TellsRoot}
 use Rattle.fsfs_begin.specs.Labels.{IsNew}
@@ -107,3 +107,14 @@ pub returns-in-Err-hold-clause-benches : goal.returns-in-Err-hold-clause-benches
 returns-in-Err-hold-clause-benches g c =
     let begun = subst (λ r. RoseBy (bench_faults_in r) (g.T.Turns.mounting c.args.turns).bench_faults (g.T.Turns.mounting c.begin-back.result.0).bench_faults) c.in-Ok.is c.begin-back.ensures.benches in
     omega (arith, begun, c.forget.ensures.benches)
+
+-- ---- where no name is left
+
+pub returns-in-Err-clause-full : goal.returns-in-Err-clause-full
+returns-in-Err-clause-full g c = λ stay last. (tt, (c.begin-back.ensures.full stay last).1)
+
+pub returns-in-Ok-hold-clause-full : goal.returns-in-Ok-hold-clause-full
+returns-in-Ok-hold-clause-full g c = λ stay last. absurd (on_ok c.begin-back.result.1 c.in-Ok.begun ⊥ c.in-Ok.is (c.begin-back.ensures.full stay last).0)
+
+pub returns-in-Err-hold-clause-full : goal.returns-in-Err-hold-clause-full
+returns-in-Err-hold-clause-full g c = λ stay last. absurd (on_ok c.begin-back.result.1 c.in-Ok.begun ⊥ c.in-Ok.is (c.begin-back.ensures.full stay last).0)

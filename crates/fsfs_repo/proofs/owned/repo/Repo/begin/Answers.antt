@@ -5,9 +5,9 @@ use Rattle.std.specs.Prelude.{option_map}
 use Rattle.fsfs_disk.specs.Labels.{with_label}
 use Rattle.fsfs_disk.specs.Trace.{labels_now}
 use Rattle.fsfs_disk.specs.Transactions.Txns.{pair_of, txn_label}
-use Rattle.fsfs_turn.specs.OwnedLemmas.{known_still}
+use Rattle.fsfs_turn.specs.OwnedLemmas.{known_still, files_same}
 use Rattle.fsfs_turn.specs.Telling.{state_of}
-use Rattle.fsfs_begin.proofs.Reading.{either_way}
+use Rattle.fsfs_begin.proofs.Reading.{either_way, last_before}
 use Rattle.fsfs_repo.proofs.Unlisted.{relabelled}
 use Rattle.fsfs_repo.proofs.Crashes.{survives}
 use Rattle.fsfs_repo.proofs.OwnedRepoUnlisted.{if_free}
@@ -23,7 +23,15 @@ returns-clause-begun g c = λ v known none.
 
 pub returns-clause-refused : goal.returns-clause-refused
 returns-clause-refused g c = λ v known none.
-    IfErr-weaker c.begin_txn-back.result.1 _ _ (λ why w. either_way (λ a. a) (λ past. (past.1, past.2)) w) (c.begin_txn-back.ensures.refused v known none)
+    IfErr-weaker c.begin_txn-back.result.1 _ _ (λ why w. either_way (λ a. a) (λ past. (
+      last_before _ c.args.self.turns past.0 (record { files = λ a b same. files_same (state_of a.layout a.young a.stuck (g.D.Disk.trace a.disk) (g.D.Disk.mount_path a.disk) (g.D.Disk.bench_faults a.disk)) (state_of b.layout b.young b.stuck (g.D.Disk.trace b.disk) (g.D.Disk.mount_path b.disk) (g.D.Disk.bench_faults b.disk)) same }),
+      past.1,
+      past.2,
+    )) w) (c.begin_txn-back.ensures.refused v known none)
+
+pub returns-clause-full : goal.returns-clause-full
+returns-clause-full g c = λ last.
+    c.begin_txn-back.ensures.full (record { files = λ a b same. files_same (state_of a.layout a.young a.stuck (g.D.Disk.trace a.disk) (g.D.Disk.mount_path a.disk) (g.D.Disk.bench_faults a.disk)) (state_of b.layout b.young b.stuck (g.D.Disk.trace b.disk) (g.D.Disk.mount_path b.disk) (g.D.Disk.bench_faults b.disk)) same }) last
 
 pub returns-clause-listed : goal.returns-clause-listed
 returns-clause-listed g c =
