@@ -7,6 +7,7 @@ that was loaded.
 They are to be the same, but for what Subversion's own does otherwise:
   - the order of the paths of a revision;
   - digests of the source of a copied file, which it writes and ours doesn't;
+  - an empty block of properties and an empty text of what is added without a source, which it writes and ours doesn't;
   - a replace without a source, which it writes as one record and ours as a delete and an add;
   - a property block that it leaves out where a copy or a change sets properties to what they were, and a record that changed nothing.
 It ends with status 1 where they are not, and says where.
@@ -14,8 +15,8 @@ It ends with status 1 where they are not, and says where.
 import subprocess
 import sys
 
-SOURCE_DIGESTS = {"Text-copy-source-md5", "Text-copy-source-sha1"}
-LENGTHS = {"Prop-content-length", "Text-content-length", "Content-length"}
+# What the contents say too, and digests of the source of a copy. (Its load verifies the digests of texts.)
+OF_CONTENTS = {"Prop-content-length", "Text-content-length", "Content-length", "Text-content-md5", "Text-content-sha1", "Text-copy-source-md5", "Text-copy-source-sha1"}
 
 
 class Record:
@@ -23,9 +24,13 @@ class Record:
         self.headers, self.props, self.text = headers, props, text
 
     def key(self):
-        """All of it but the lengths, which the contents have."""
-        headers = sorted((name, value) for name, value in self.headers.items() if name not in SOURCE_DIGESTS | LENGTHS)
-        return headers, sorted(self.props.items()) if self.props is not None else None, self.text
+        """All of it that counts."""
+        headers = sorted((name, value) for name, value in self.headers.items() if name not in OF_CONTENTS)
+        props, text = self.props, self.text
+        if self.headers.get("Node-action") == "add" and "Node-copyfrom-path" not in self.headers:
+            props = props or {}
+            text = text or (b"" if self.headers["Node-kind"] == "file" else None)
+        return headers, sorted(props.items()) if props is not None else None, text
 
     def name(self):
         return f"{self.headers.get('Node-action')} {self.headers.get('Node-path')}"

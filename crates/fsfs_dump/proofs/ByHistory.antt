@@ -120,7 +120,7 @@ module _ (look : RevisionBytes) (rev : ℕ) (tree : ℕ → TreeFunction) (shows
   node_read v stands same false e = (Stands v, stands, refl)
 
   module _ (action : Action) (same : change.action ≡ action) (v : NodeRev) (stands : StandsAt look rev path v) (id : is_revision_id item.id ≡ true → item.id ≡ v.id) where
-    cut : Node → Bool → Bool → Option (ℕ × Path) → Action → CutText
+    abbrev cut : Node → Bool → Bool → Option (ℕ × Path) → Action → CutText
     cut n text props source act = with_content (change_records path act change.kind source (if_set props n.properties)) text n.text
 
     by_node : (o : Option Node) → IsSomeAnd o (IsShown look rev path v) → ReadsCut (ThereRecords look rev item action) (node_records path change o)
@@ -240,7 +240,7 @@ module _ (files : Files) (h : List Revision) (s : StandsFor files h) where
   pub dump_gives : (uuid : List ℕ) → Gives (DumpText revs (only props) uuid s.opened.youngest) (history_dump uuid h)
   dump_gives uuid =
       let head_is : Gives (IsWholeText (dump_head uuid)) (uncut (dump_head uuid)) = (refl, refl) in
-      let all : Gives (RevisionsText revs (only props) 0 (length h)) (revisions_dump 0 h) = revisions_give 0 h (λ k x e r is. revision_gives r x (subst (λ (n : ℕ). slice_get h n ≡ Some x) (sym is) e)) in
+      let all : Gives (RevisionsText revs (only props) 0 (length h)) (revisions_dump 0 h) = revisions_give 0 h (λ k x e r is. revision_gives r x (let same : k ≡ r = omega (arith, is) in subst (λ (n : ℕ). slice_get h n ≡ Some x) same e)) in
       then_gives (IsWholeText (dump_head uuid)) (RevisionsText revs (only props) 0 (suc s.opened.youngest)) (uncut (dump_head uuid)) (revisions_dump 0 h) head_is
       (subst (λ (n : ℕ). Gives (RevisionsText revs (only props) 0 n) (revisions_dump 0 h)) s.count all)
 

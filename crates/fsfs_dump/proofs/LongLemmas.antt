@@ -1,5 +1,5 @@
 -- A long text, which is read twice.
-use Rattle.std.proofs.Common.{◌≡◌, ℕ, Bool, List, [], ◌++◌, Option, Some, Ok, Err, refl, sym, ap, subst, ◌∙◌}
+use Rattle.std.proofs.Common.{◌≡◌, ℕ, Bool, List, [], ◌++◌, Option, Some, Ok, Err, refl, sym, ap, subst, ◌∙◌, append_assoc}
 use Rattle.std.specs.Prelude.{Result, option_map}
 use Rattle.fsfs_base.specs.declared.kind.Kind.{Kind}
 use Rattle.fsfs_base.specs.declared.action.Action.{Action}
@@ -60,7 +60,9 @@ module _ (look : RevisionBytes) (set : Bool) (node : PlacedNode) (rep : Rep) (lo
         let text = text_of rep bytes in
         let Head : TextFacts → List ℕ = λ f. records_head item.path action kind (source_of item) (option_map props_block pairs) (Some f) in
         let read = subst (λ (b : Bool). IfSet b (ContentOf look node.node) (Ok (Some text))) (sym same) (long_read bytes e w.0) in
-        walks_as (IsWholeText (Head (facts_of text) ++ (text ++ record_end))) (ReadText Q) before now old new r (whole_read Q (Head (facts_of text) ++ (text ++ record_end)) (Some text, read, refl))
+        let same_records : Head (facts_of text) ++ (text ++ record_end) ≡ Head (facts_of text) ++ text ++ record_end = sym (append_assoc (Head (facts_of text)) text record_end) in
+        walks_as (IsWholeText (Head (facts_of text) ++ (text ++ record_end))) (ReadText Q) before now old new r
+        (whole_read Q (Head (facts_of text) ++ (text ++ record_end)) (Some text, read, ap (λ (t : List ℕ). let s : Result (List ℕ) Wrong = Ok t in s) same_records))
         (walks_head (Head (facts_of text)) (text ++ record_end) before mid now old new r (put ∙ ap (λ (f : TextFacts). before ++ Head f) w.1) (written bytes t w.0))
 
     pub long_walks : Walks (ReadText Q) before now old new r

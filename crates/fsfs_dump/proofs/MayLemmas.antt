@@ -21,23 +21,23 @@ then_as R S T U f g text end (inr (first, rest, r, s, is)) = inr (first, rest, f
 
 module _ (may other : MayRead) where
   props_as : (rev : ℕ) → As may other rev → (answer : Result Pairs Wrong) → RevPropsOf may rev answer → RevPropsOf other rev answer
-  props_as rev as (Ok pairs) (bytes, m, is) = (bytes, as (Ok bytes) m, is)
-  props_as rev as (Err w) (inl (why, m, e)) = inl (why, as (Err why) m, e)
-  props_as rev as (Err w) (inr (bytes, m, is)) = inr (bytes, as (Ok bytes) m, is)
+  props_as rev every (Ok pairs) (bytes, m, is) = (bytes, every (Ok bytes) m, is)
+  props_as rev every (Err w) (inl (why, m, e)) = inl (why, every (Err why) m, e)
+  props_as rev every (Err w) (inr (bytes, m, is)) = inr (bytes, every (Ok bytes) m, is)
 
   pub revision_as : (look : RevisionBytes) (rev : ℕ) → As may other rev → (text : List ℕ) (end : End) → RevisionText look may rev text end → RevisionText look other rev text end
-  revision_as look rev as text end (inl none) = inl none
-  revision_as look rev as text end (inr (inl (w, r, none))) = inr (inl (w, props_as rev as (Err w) r, none))
-  revision_as look rev as text end (inr (inr (pairs, r, t))) = inr (inr (pairs, props_as rev as (Ok pairs) r, t))
+  revision_as look rev every text end (inl none) = inl none
+  revision_as look rev every text end (inr (inl (w, r, none))) = inr (inl (w, props_as rev every (Err w) r, none))
+  revision_as look rev every text end (inr (inr (pairs, r, t))) = inr (inr (pairs, props_as rev every (Ok pairs) r, t))
 
   pub revisions_as : (look : RevisionBytes) (first count : ℕ) → ((r : ℕ) → first ≤ r → r < first + count → As may other r) → (text : List ℕ) (end : End) → RevisionsText look may first count text end → RevisionsText look other first count text end
-  revisions_as look first zero as text end h = h
-  revisions_as look first (suc count) as text end h =
+  revisions_as look first zero every text end h = h
+  revisions_as look first (suc count) every text end h =
       then_as (RevisionText look may first) (RevisionsText look may (suc first) count) (RevisionText look other first) (RevisionsText look other (suc first) count)
-      (revision_as look first (as first (omega arith) (omega arith)))
-      (revisions_as look (suc first) count (λ r low high. as r (omega (arith, low)) (omega (arith, high)))) text end h
+      (revision_as look first (every first (omega arith) (omega arith)))
+      (revisions_as look (suc first) count (λ r low high. every r (omega (arith, low)) (omega (arith, high)))) text end h
 
   pub dump_as : (look : RevisionBytes) (uuid : List ℕ) (youngest : ℕ) → ((r : ℕ) → r ≤ youngest → As may other r) → (text : List ℕ) (end : End) → DumpText look may uuid youngest text end → DumpText look other uuid youngest text end
-  dump_as look uuid youngest as text end h =
+  dump_as look uuid youngest every text end h =
       then_as (IsWholeText (dump_head uuid)) (RevisionsText look may 0 (suc youngest)) (IsWholeText (dump_head uuid)) (RevisionsText look other 0 (suc youngest)) (λ t e k. k)
-      (revisions_as look 0 (suc youngest) (λ r low high. as r (omega (arith, high)))) text end h
+      (revisions_as look 0 (suc youngest) (λ r low high. every r (omega (arith, high)))) text end h

@@ -69,7 +69,7 @@ node_met_one rev (Lacking names) a b g h = g ∙ sym h
 node_met_one rev (Blocked names) a b g h = g ∙ sym h
 
 if_set_one : {X : Type 0} (set : Bool) (R : Result X Wrong → Type 0) → HasOneAnswer R → HasOneAnswer (IfSet set R)
-if_set_one false R one a b g h = g ∙ sym h
+if_set_one false R one = λ a b g h. g ∙ sym h
 if_set_one true R one = and_then_one R (λ x s. s ≡ Ok (Some x)) one (λ x a b g h. g ∙ sym h)
 
 module _ (look : RevisionBytes) (rev : ℕ) (item : ChangeItem) where

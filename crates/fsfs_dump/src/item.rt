@@ -1,5 +1,5 @@
 //! The records of an item.
-ghost use Rattle.std.specs.Prelude.{◌≡◌, ◌++◌, ℕ, List, [], Option, OnOk, option_map, unwrap_or};
+ghost use Rattle.std.specs.Prelude.{◌≡◌, ◌++◌, ℕ, List, [], Option, None, Some, OnOk, option_map, unwrap_or};
 ghost use Rattle.fsfs_revision.specs.Told.{RevisionBytes, Knows, Keeps};
 ghost use Rattle.fsfs_dag.specs.Views.{home_of};
 ghost use Rattle.fsfs_look.specs.Revprops.Texts.{ReadText};
@@ -26,6 +26,38 @@ use std::alloc::{AllocError, Global};
 // How many bytes of a long text are read and written at a time.
 const PIECE: usize = 65536;
 
+// Puts the records of a path without a text.
+fn put_bare(
+    alloc: Global,
+    lines: &mut Vec<u8>,
+    item: &ChangeItem,
+    kind: Kind,
+    block: &Option<Vec<u8>>,
+) -> Result<(), AllocError>
+    ensures { OnOk result (lines.new.items ≡ lines.old.items ++ (records_head item.now.path item.now.action kind (source_of item.now) (block_value block.now) None ++ [] ++ record_end)) }
+{
+    put_head(alloc, lines, item, kind, block, &None)?;
+    lines.extend_from_slice(b"\n\n")?;
+    Ok(())
+}
+
+// Puts the records of a path with this text.
+fn put_text(
+    alloc: Global,
+    lines: &mut Vec<u8>,
+    item: &ChangeItem,
+    kind: Kind,
+    block: &Option<Vec<u8>>,
+    text: &[u8],
+) -> Result<(), AllocError>
+    ensures { OnOk result (lines.new.items ≡ lines.old.items ++ (records_head item.now.path item.now.action kind (source_of item.now) (block_value block.now) (Some (facts_value_of text.now)) ++ text.now ++ record_end)) }
+{
+    put_head(alloc, lines, item, kind, block, &Some(facts_of(text)))?;
+    lines.extend_from_slice(text)?;
+    lines.extend_from_slice(b"\n\n")?;
+    Ok(())
+}
+
 // Puts the records of a path with a text in memory, where it has one.
 fn put_with(
     alloc: Global,
@@ -36,17 +68,12 @@ fn put_with(
     text: &Option<Vec<u8>>,
 ) -> Result<(), AllocError>
     ensures { OnOk result (lines.new.items ≡ lines.old.items
-        ++ records_head item.now.path item.now.action kind (source_of item.now) (block_value block.now) (option_map facts_value_of (text_value text.now)) ++ unwrap_or (text_value text.now) [] ++ record_end) }
+        ++ (records_head item.now.path item.now.action kind (source_of item.now) (block_value block.now) (option_map facts_value_of (text_value text.now)) ++ unwrap_or (text_value text.now) [] ++ record_end)) }
 {
     match text {
-        None => put_head(alloc, lines, item, kind, block, &None)?,
-        Some(text) => {
-            put_head(alloc, lines, item, kind, block, &Some(facts_of(text)))?;
-            lines.extend_from_slice(text)?;
-        }
+        None => put_bare(alloc, lines, item, kind, block),
+        Some(text) => put_text(alloc, lines, item, kind, block, text),
     }
-    lines.extend_from_slice(b"\n\n")?;
-    Ok(())
 }
 
 // Puts the records of a path whose text is in memory as a whole, where it has one.

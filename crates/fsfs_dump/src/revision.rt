@@ -67,7 +67,8 @@ fn put_props(
     ensures { OnOk result (lines.new.items ≡ lines.old.items ++ revision_record rev pairs.now) }
 {
     let block = block_of(alloc, pairs)?;
-    put_revision(lines, rev, &block)
+    put_revision(lines, rev, &block)?;
+    Ok(())
 }
 
 /// Writes a revision, but for what is kept: its properties, and its changed paths in the order of the bytes of their texts. Its

@@ -41,5 +41,5 @@ returns-clause-told g c = λ look knows pairs is told.
     let now = c.put_with.new.lines.items in
     let rec = change_records item.path item.action kind (source_of item) pairs text in
     let put : now ≡ lines ++ rec =
-    c.in_ok-put_with.ensures ∙ ap (λ (b : Option (List ℕ)). lines ++ records_head item.path item.action kind (source_of item) b (option_map facts_of text) ++ unwrap_or text [] ++ record_end) is in
+    c.in_ok-put_with.ensures ∙ ap (λ (b : Option (List ℕ)). lines ++ (records_head item.path item.action kind (source_of item) b (option_map facts_of text) ++ unwrap_or text [] ++ record_end)) is in
     walks_as (IsWholeText rec) (ReadText Q) lines now told told (Ok tt) (whole_read Q rec (text, c.in_ok-text.ensures.told look knows, refl)) (walks_put rec lines now told tt put)

@@ -51,8 +51,8 @@ returns-in-None-clause-kept g c = keeps_trans _ _ _ c.in_ok-pairs.ensures.kept c
 pub returns-in-None-clause-sink : goal.returns-in-None-clause-sink
 returns-in-None-clause-sink g c = c.put_short.ensures.quiet (g.S.Sink.faults c.args.sink.now)
 
-pub returns-in-Some-clause-told : goal.returns-in-Some-clause-told
-returns-in-Some-clause-told g c = λ look knows.
+pub returns-clause-told : goal.returns-clause-told
+returns-clause-told g c = λ look knows.
     let item = c.args.item.now in
     let v = c.args.node.now.node in
     let pairs = c.in_ok-pairs.pairs in
@@ -61,5 +61,5 @@ returns-in-Some-clause-told g c = λ look knows.
     walks_as (ReadText (S pairs)) (ReadText (NodeRecords look item item.action c.args.kind v)) c.args.lines.now.items c.write_with.new.lines.items (g.S.Sink.written c.args.sink.now) (g.S.Sink.written c.write_with.new.sink) c.write_with.result
     (behind_read R S pairs (c.in_ok-pairs.ensures.told look knows)) (c.write_with.ensures.told look (knows_later _ _ look (home_of v).rev c.in_ok-pairs.ensures.kept knows) pairs c.in_ok-block.ensures)
 
-pub returns-in-Some-clause-kept : goal.returns-in-Some-clause-kept
-returns-in-Some-clause-kept g c = keeps_trans _ _ _ c.in_ok-pairs.ensures.kept c.write_with.ensures.kept
+pub returns-clause-kept : goal.returns-clause-kept
+returns-clause-kept g c = keeps_trans _ _ _ c.in_ok-pairs.ensures.kept c.write_with.ensures.kept

@@ -14,13 +14,12 @@ use Rattle.fsfs_dump.proofs.whole.write_revisions.Goals as goal
 
 pub revisions-init : goal.revisions-init
 revisions-init g c = record {
-  count_is = omega (arith, c.get.ensures.same);
   within = omega arith;
   kept = keeps_refl _;
   later = omega arith;
   sink = omega arith;
   goes = λ look knows r now new w.
-      let all : suc c.get.result - 0 ≡ suc c.args.youngest = omega (arith, c.get.ensures.same) in
+      let all : suc c.args.youngest - 0 ≡ suc c.args.youngest = omega arith in
       subst (λ (n : ℕ). Walks (RevisionsText look (g.B.RevProps.may_read c.args.book.now) 0 n) c.args.lines.now.items now (g.S.Sink.written c.args.sink.now) new r) all w;
 }
 
@@ -28,7 +27,7 @@ pub returns-in_err-write_full-clause-told : goal.returns-in_err-write_full-claus
 returns-in_err-write_full-clause-told g c = λ look knows.
     let may = g.B.RevProps.may_read c.args.book.now in
     let next = c.revisions.next in
-    let left = c.revisions.count - next in
+    let left = suc c.args.youngest - next in
     let lines = c.revisions.lines.items in
     let now = c.write_full.new.lines.items in
     let mid = g.S.Sink.written c.revisions.sink in
@@ -43,8 +42,8 @@ returns-in_err-write_revision-clause-told g c = λ look knows.
     let inv = c.revisions.invariant in
     let may = g.B.RevProps.may_read c.args.book.now in
     let next = c.revisions.next in
-    let rest = c.revisions.count - suc next in
-    let left : c.revisions.count - next ≡ suc rest = omega (arith, c.revisions-test.true) in
+    let rest = suc c.args.youngest - suc next in
+    let left : suc c.args.youngest - next ≡ suc rest = omega (arith, c.revisions-test.true, c.get.ensures.same) in
     let lines = c.revisions.lines.items in
     let after = c.write_full.new.lines.items in
     let now = c.write_revision.new.lines.items in
@@ -55,7 +54,7 @@ returns-in_err-write_revision-clause-told g c = λ look knows.
     let e = err_from_is_err_and c.from_residual-in_err-write_revision.result c.from_residual-in_err-write_revision.ensures.1 in
     let error = c.in_err-write_revision.field-0.0 in
     let here = c.in_Some-rev.ensures in
-    let w = c.in_err-write_revision.ensures.told look (knows_upto _ _ look c.args.youngest _ inv.kept (omega (arith, c.revisions-test.true, inv.count_is, here)) knows) in
+    let w = c.in_err-write_revision.ensures.told look (knows_upto _ _ look c.args.youngest _ inv.kept (omega (arith, c.revisions-test.true, c.get.ensures.same, here)) knows) in
     let then_ = walks_as (RevisionText look (g.B.RevProps.may_read c.revisions.book) c.in_Some-rev.rev) (RevisionText look may next) after now mid new (Err error)
     (λ text end h. subst (λ (n : ℕ). RevisionText look may n text end) here (revision_as (g.B.RevProps.may_read c.revisions.book) may look c.in_Some-rev.rev (λ read m. g.met.B.StillProps.still c.args.book.now c.revisions.book c.in_Some-rev.rev read inv.kept m) text end h)) w in
     let ended = walks_ended (RevisionText look may next) (RevisionsText look may (suc next) rest) (revisions_stop look may (suc next) rest) after now mid new error then_ in
@@ -68,8 +67,7 @@ returns-in_err-write_revision-clause-kept g c = keeps_trans _ _ _ c.revisions.in
 
 pub revisions-preserved : goal.revisions-preserved
 revisions-preserved g c = record {
-  count_is = c.revisions.invariant.count_is;
-  within = omega (arith, c.revisions-test.true);
+  within = omega (arith, c.revisions-test.true, c.get.ensures.same);
   kept = keeps_trans _ _ _ c.revisions.invariant.kept c.in_ok-write_revision.ensures.kept;
   later = omega (arith, c.revisions.invariant.later, c.in_ok-write_revision.ensures.cause.later);
   sink = omega (arith, c.revisions.invariant.sink, c.in_ok-write_full.ensures.sink.later, c.in_ok-write_revision.ensures.sink.later);
@@ -77,8 +75,8 @@ revisions-preserved g c = record {
       let inv = c.revisions.invariant in
       let may = g.B.RevProps.may_read c.args.book.now in
       let next = c.revisions.next in
-      let rest = c.revisions.count - suc next in
-      let left : c.revisions.count - next ≡ suc rest = omega (arith, c.revisions-test.true) in
+      let rest = suc c.args.youngest - suc next in
+      let left : suc c.args.youngest - next ≡ suc rest = omega (arith, c.revisions-test.true, c.get.ensures.same) in
       let lines = c.revisions.lines.items in
       let after = c.write_full.new.lines.items in
       let middle = c.write_revision.new.lines.items in
@@ -87,7 +85,7 @@ revisions-preserved g c = record {
       let more = g.S.Sink.written c.write_revision.new.sink in
       let f = c.in_ok-write_full.ensures.added in
       let here = c.in_Some-rev.ensures in
-      let first = c.in_ok-write_revision.ensures.told look (knows_upto _ _ look c.args.youngest _ inv.kept (omega (arith, c.revisions-test.true, inv.count_is, here)) knows) in
+      let first = c.in_ok-write_revision.ensures.told look (knows_upto _ _ look c.args.youngest _ inv.kept (omega (arith, c.revisions-test.true, c.get.ensures.same, here)) knows) in
       let then_ = walks_as (RevisionText look (g.B.RevProps.may_read c.revisions.book) c.in_Some-rev.rev) (RevisionText look may next) after middle mid more (Ok tt)
       (λ text end h. subst (λ (n : ℕ). RevisionText look may n text end) here (revision_as (g.B.RevProps.may_read c.revisions.book) may look c.in_Some-rev.rev (λ read m. g.met.B.StillProps.still c.args.book.now c.revisions.book c.in_Some-rev.rev read inv.kept m) text end h)) first in
       let both = walks_then (RevisionText look may next) (RevisionsText look may (suc next) rest) after middle now mid more new tt r then_ w in
@@ -101,6 +99,6 @@ returns-clause-told g c = λ look knows.
     let may = g.B.RevProps.may_read c.args.book.now in
     let lines = c.revisions.lines.items in
     let told = g.S.Sink.written c.revisions.sink in
-    let none : c.revisions.count - c.revisions.next ≡ 0 = omega (arith, c.revisions-test.false) in
+    let none : suc c.args.youngest - c.revisions.next ≡ 0 = omega (arith, c.revisions-test.false, c.get.ensures.same, inv.within) in
     inv.goes look knows (Ok tt) lines told
     (subst (λ (n : ℕ). Walks (RevisionsText look may c.revisions.next n) lines lines told told (Ok tt)) (sym none) (walks_end (RevisionsText look may c.revisions.next 0) lines told tt (inr (refl, refl))))
