@@ -8,7 +8,7 @@ use Rattle.fsfs_dump.proofs.headers.put_facts.Goals as goal
 pub returns-in_ok-put_digest-in-Some-2 : goal.returns-in_ok-put_digest-in-Some-2
 returns-in_ok-put_digest-in-Some-2 c =
     let old = c.args.lines.now.items in
-    let facts = c.in-Some.facts.now in
+    let facts = c.in-Some.facts in
     let a = c.put_number-in-Some.new.lines.items in
     let b = c.put_digest-in-Some.new.lines.items in
     let d = c.put_digest-in-Some-2.new.lines.items in

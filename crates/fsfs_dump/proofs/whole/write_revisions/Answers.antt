@@ -53,10 +53,10 @@ returns-in_err-write_revision-clause-told g c = λ look knows.
     let f = c.in_ok-write_full.ensures.added in
     let e = err_from_is_err_and c.from_residual-in_err-write_revision.result c.from_residual-in_err-write_revision.ensures.1 in
     let error = c.in_err-write_revision.field-0.0 in
-    let here = c.in_Some-rev.ensures in
+    let here = c.in-Some.ensures in
     let w = c.in_err-write_revision.ensures.told look (knows_upto _ _ look c.args.youngest _ inv.kept (omega (arith, c.revisions-test.true, c.get.ensures.same, here)) knows) in
-    let then_ = walks_as (RevisionText look (g.B.RevProps.may_read c.revisions.book) c.in_Some-rev.rev) (RevisionText look may next) after now mid new (Err error)
-    (λ text end h. subst (λ (n : ℕ). RevisionText look may n text end) here (revision_as (g.B.RevProps.may_read c.revisions.book) may look c.in_Some-rev.rev (λ read m. g.met.B.StillProps.still c.args.book.now c.revisions.book c.in_Some-rev.rev read inv.kept m) text end h)) w in
+    let then_ = walks_as (RevisionText look (g.B.RevProps.may_read c.revisions.book) c.in-Some.rev) (RevisionText look may next) after now mid new (Err error)
+    (λ text end h. subst (λ (n : ℕ). RevisionText look may n text end) here (revision_as (g.B.RevProps.may_read c.revisions.book) may look c.in-Some.rev (λ read m. g.met.B.StillProps.still c.args.book.now c.revisions.book c.in-Some.rev read inv.kept m) text end h)) w in
     let ended = walks_ended (RevisionText look may next) (RevisionsText look may (suc next) rest) (revisions_stop look may (suc next) rest) after now mid new error then_ in
     let flushed = walks_flushed (RevisionsText look may next (suc rest)) lines after now f.0 old mid new (Err error) f.1 f.2 ended in
     rw (e.1, e.2)
@@ -84,10 +84,10 @@ revisions-preserved g c = record {
       let mid = g.S.Sink.written c.write_full.new.sink in
       let more = g.S.Sink.written c.write_revision.new.sink in
       let f = c.in_ok-write_full.ensures.added in
-      let here = c.in_Some-rev.ensures in
+      let here = c.in-Some.ensures in
       let first = c.in_ok-write_revision.ensures.told look (knows_upto _ _ look c.args.youngest _ inv.kept (omega (arith, c.revisions-test.true, c.get.ensures.same, here)) knows) in
-      let then_ = walks_as (RevisionText look (g.B.RevProps.may_read c.revisions.book) c.in_Some-rev.rev) (RevisionText look may next) after middle mid more (Ok tt)
-      (λ text end h. subst (λ (n : ℕ). RevisionText look may n text end) here (revision_as (g.B.RevProps.may_read c.revisions.book) may look c.in_Some-rev.rev (λ read m. g.met.B.StillProps.still c.args.book.now c.revisions.book c.in_Some-rev.rev read inv.kept m) text end h)) first in
+      let then_ = walks_as (RevisionText look (g.B.RevProps.may_read c.revisions.book) c.in-Some.rev) (RevisionText look may next) after middle mid more (Ok tt)
+      (λ text end h. subst (λ (n : ℕ). RevisionText look may n text end) here (revision_as (g.B.RevProps.may_read c.revisions.book) may look c.in-Some.rev (λ read m. g.met.B.StillProps.still c.args.book.now c.revisions.book c.in-Some.rev read inv.kept m) text end h)) first in
       let both = walks_then (RevisionText look may next) (RevisionsText look may (suc next) rest) after middle now mid more new tt r then_ w in
       let flushed = walks_flushed (RevisionsText look may next (suc rest)) lines after now f.0 old mid new r f.1 f.2 both in
       inv.goes look knows r now new (subst (λ (n : ℕ). Walks (RevisionsText look may next n) lines now old new r) (sym left) flushed);
