@@ -25,6 +25,6 @@ bytes_stay layout before m was h g d says had begins part long has r less =
     let x = there_below was r less in
     let in_h : slice_get h r ≡ Some x.0 = got_same was h r begins less ∙ x.1 in
     let in_g : slice_get g r ≡ Some x.0 = ⊎_elim
-        (λ (b : Begins h g). sym (got_same g h r b (omega (arith, less, long))) ∙ in_h)
-        (λ (y : (z : Coming) × (d ≡ Some z) × (g ≡ with_next h z)). ap (λ l. slice_get l r) y.2 ∙ got_before h (recorded y.0) r (slice_get_within h r x.0 in_h) ∙ in_h) part in
+    (λ (b : Begins h g). sym (got_same g h r b (omega (arith, less, long))) ∙ in_h)
+    (λ (y : (z : Coming) × (d ≡ Some z) × (g ≡ with_next h z)). ap (λ l. slice_get l r) y.2 ∙ got_before h (recorded y.0) r (slice_get_within h r x.0 in_h) ∙ in_h) part in
     (has.each r x.0 in_g).bytes ∙ sym (had layout says r x.0 x.1)
