@@ -9,9 +9,9 @@ pub returns-in_ok-put_digest-in-Some-2 : goal.returns-in_ok-put_digest-in-Some-2
 returns-in_ok-put_digest-in-Some-2 c =
     let old = c.args.lines.now.items in
     let facts = c.in-Some.facts in
-    let a = c.put_number-in-Some.new.lines.items in
-    let b = c.put_digest-in-Some.new.lines.items in
-    let d = c.put_digest-in-Some-2.new.lines.items in
+    let a = c.put_number.new.lines.items in
+    let b = c.put_digest.new.lines.items in
+    let d = c.put_digest-in-Some.new.lines.items in
     let size = number_header (codes "Text-content-length") facts.size in
     let md5 = header (codes "Text-content-md5") (encode_lower facts.md5.bytes) in
     let sha1 = header (codes "Text-content-sha1") (encode_lower facts.sha1.bytes) in

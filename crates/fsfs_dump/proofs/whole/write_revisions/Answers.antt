@@ -1,4 +1,4 @@
-use Rattle.std.proofs.Common.{◌≡◌, ◌≤◌, ◌-◌, ℕ, zero, suc, List, [], Ok, Err, refl, sym, subst, arith, inr}
+use Rattle.std.proofs.Common.{◌≡◌, ◌≤◌, ◌+◌, ◌-◌, ℕ, zero, suc, List, [], Ok, Err, refl, sym, subst, arith, inr}
 use Rattle.std.specs.Prelude.{Result}
 use Rattle.std.proofs.lemmas.Result.{err_from_is_err_and}
 use Rattle.fsfs_revision.proofs.Keeping.{keeps_refl, keeps_trans}
@@ -88,7 +88,9 @@ revisions-preserved g c = record {
       let first = c.in_ok-write_revision.ensures.told look (knows_upto _ _ look c.args.youngest _ inv.kept (omega (arith, c.revisions-test.true, c.get.ensures.same, here)) knows) in
       let then_ = walks_as (RevisionText look (g.B.RevProps.may_read c.revisions.book) c.in-Some.rev) (RevisionText look may next) after middle mid more (Ok tt)
       (λ text end h. subst (λ (n : ℕ). RevisionText look may n text end) here (revision_as (g.B.RevProps.may_read c.revisions.book) may look c.in-Some.rev (λ read m. g.met.B.StillProps.still c.args.book.now c.revisions.book c.in-Some.rev read inv.kept m) text end h)) first in
-      let both = walks_then (RevisionText look may next) (RevisionsText look may (suc next) rest) after middle now mid more new tt r then_ w in
+      let one : next + 1 ≡ suc next = omega arith in
+      let behind = subst (λ (n : ℕ). Walks (RevisionsText look may n (suc c.args.youngest - n)) middle now more new r) one w in
+      let both = walks_then (RevisionText look may next) (RevisionsText look may (suc next) rest) after middle now mid more new tt r then_ behind in
       let flushed = walks_flushed (RevisionsText look may next (suc rest)) lines after now f.0 old mid new r f.1 f.2 both in
       inv.goes look knows r now new (subst (λ (n : ℕ). Walks (RevisionsText look may next n) lines now old new r) (sym left) flushed);
 }
