@@ -6,7 +6,7 @@ ghost use Rattle.fsfs_dump.specs.Readings.{source_of};
 ghost use Rattle.fsfs_dump.specs.Views.{block_value, facts_value};
 
 use crate::facts::Facts;
-use fsfs_base::{Action, FsPath, Kind};
+use fsfs_base::{Action, FsPath, HexDigest, Kind};
 use fsfs_noderev::{ChangeItem, CopySource};
 use hex::encode;
 use itoa::Buffer;
@@ -104,6 +104,18 @@ fn put_digest(
     put_header(lines, name, digits.as_bytes())
 }
 
+fn put_md5(alloc: Global, lines: &mut Vec<u8>, md5: &HexDigest<16>) -> Result<(), AllocError>
+    ensures { OnOk result (lines.new.items ≡ lines.old.items ++ header (codes "Text-content-md5") (encode_lower md5.now.bytes)) }
+{
+    put_digest(alloc, lines, b"Text-content-md5", md5.bytes.as_slice())
+}
+
+fn put_sha1(alloc: Global, lines: &mut Vec<u8>, sha1: &HexDigest<20>) -> Result<(), AllocError>
+    ensures { OnOk result (lines.new.items ≡ lines.old.items ++ header (codes "Text-content-sha1") (encode_lower sha1.now.bytes)) }
+{
+    put_digest(alloc, lines, b"Text-content-sha1", sha1.bytes.as_slice())
+}
+
 // Puts how long a text is, and its digests, where one stands.
 fn put_facts(alloc: Global, lines: &mut Vec<u8>, facts: &Option<Facts>) -> Result<(), AllocError>
     ensures { OnOk result (lines.new.items ≡ lines.old.items ++ text_headers (option_map facts_value facts.now)) }
@@ -112,18 +124,8 @@ fn put_facts(alloc: Global, lines: &mut Vec<u8>, facts: &Option<Facts>) -> Resul
         None => Ok(()),
         Some(facts) => {
             put_number(lines, b"Text-content-length", facts.size)?;
-            put_digest(
-                alloc,
-                lines,
-                b"Text-content-md5",
-                facts.md5.bytes.as_slice(),
-            )?;
-            put_digest(
-                alloc,
-                lines,
-                b"Text-content-sha1",
-                facts.sha1.bytes.as_slice(),
-            )?;
+            put_md5(alloc, lines, &facts.md5)?;
+            put_sha1(alloc, lines, &facts.sha1)?;
             Ok(())
         }
     }
