@@ -1,4 +1,5 @@
-//! Administers repositories: `svnadmin create REPOS [--shard N]`, `lstxns REPOS` and `rmtxns REPOS TXN...`.
+//! Administers repositories: `svnadmin create REPOS [--shard N]`, `lstxns REPOS`, `rmtxns REPOS TXN...`
+//! and `dump REPOS`.
 #![tactic(auto)]
 
 use fsfs_run::{Tool, run};
