@@ -1,11 +1,11 @@
 -- Answers that tell that no name is left, and why.
 use Rattle.std.proofs.Common.{◌≡◌, ◌⊎◌, ◌<◌, ◌||◌, ◌++◌, ◌∷◌, ℕ, List, [], length, Bool, true, false, if◌then◌else◌, inl, inr, ⊎_elim, refl, sym, ap, subst, ◌∙◌}
-use Rattle.std.specs.Prelude.{Option, Some, None, IfSome, option_map}
+use Rattle.std.specs.Prelude.{Option, Some, None, IfSome, option_map, nat_le, codes}
 use Rattle.fsfs_base.specs.Files.{Files}
-use Rattle.fsfs_base.specs.Paths.{Path}
+use Rattle.fsfs_base.specs.Paths.{Path, is_root, same_name}
 use Rattle.fsfs_base.specs.declared.fields.txn_name.TxnName.{TxnName}
 use Rattle.fsfs_disk.specs.Trace.{Trace, files_now}
-use Rattle.fsfs_tree.specs.Answers.{Found, Stands, Lacking, Blocked}
+use Rattle.fsfs_tree.specs.Answers.{Found, Stands, Lacking, Blocked, found_at}
 use Rattle.fsfs_tree.specs.Dated.{last_of}
 use Rattle.fsfs_tree.specs.Nodes.{Node, TreeFunction}
 use Rattle.fsfs_tree.specs.Revisions.{tree_of}
@@ -156,10 +156,13 @@ module _ (line : ℕ) where
     trees_unfull : (t : TreeFunction) (edit : Edit) → full_in (fault_of edit trees last t) ≡ false
     trees_unfull t (MakeDir path) = make_unfull t path
     trees_unfull t (MakeFile path) = make_unfull t path
-    trees_unfull t (Delete path) = first_unfull _ _ (found_unfull _) (root_test _)
-    trees_unfull t (Copy copy) = first_unfull _ _ (make_unfull t copy.to) (first_unfull _ _ (rev_test copy.rev last _) (found_unfull _))
+    trees_unfull t (Delete path) = first_unfull (unfound (found_at t path)) (root_fixed path) (found_unfull (found_at t path)) (root_test (is_root path))
+    trees_unfull t (Copy copy) =
+        let from = found_at (trees copy.rev) copy.from in
+        first_unfull (make_fault t copy.to) (or_else (no_rev copy.rev last) (unfound from)) (make_unfull t copy.to) (first_unfull (no_rev copy.rev last) (unfound from) (rev_test copy.rev last (nat_le copy.rev last)) (found_unfull from))
     trees_unfull t (Put put) = put_unfull t put.path (t put.path)
-    trees_unfull t (Prop set) = first_unfull _ _ (found_unfull _) (name_test set.path _)
+    trees_unfull t (Prop set) =
+        first_unfull (unfound (found_at t set.path)) (no_mergeinfo set.name set.path) (found_unfull (found_at t set.path)) (name_test set.path (same_name set.name (codes "svn:mergeinfo")))
 
     long_unfull : (edit : Edit) → full_in (too_long edit) ≡ false
     long_unfull (MakeDir path) = refl
