@@ -1,16 +1,17 @@
 -- Answers that tell that no name is left, and why.
 use Rattle.std.proofs.Common.{◌≡◌, ◌⊎◌, ◌<◌, ◌||◌, ◌++◌, ◌∷◌, ℕ, List, [], length, Bool, true, false, if◌then◌else◌, inl, inr, ⊎_elim, refl, sym, ap, subst, ◌∙◌}
-use Rattle.std.specs.Prelude.{Option, Some, None, IfSome, option_map}
+use Rattle.std.specs.Prelude.{Option, Some, None, IfSome, option_map, nat_le, codes}
 use Rattle.fsfs_base.specs.Files.{Files}
-use Rattle.fsfs_base.specs.Paths.{Path}
+use Rattle.fsfs_base.specs.Paths.{Path, is_root, same_name}
 use Rattle.fsfs_base.specs.declared.fields.txn_name.TxnName.{TxnName}
 use Rattle.fsfs_disk.specs.Trace.{Trace, files_now}
-use Rattle.fsfs_tree.specs.Answers.{Found, Stands, Lacking, Blocked}
+use Rattle.fsfs_tree.specs.Answers.{Found, Stands, Lacking, Blocked, found_at}
 use Rattle.fsfs_tree.specs.Dated.{last_of}
 use Rattle.fsfs_tree.specs.Nodes.{Node, TreeFunction}
 use Rattle.fsfs_tree.specs.Revisions.{tree_of}
 use Rattle.fsfs_draft.specs.Drafts.{Folder}
 use Rattle.fsfs_machine.specs.Machine.{revisions}
+use Rattle.fsfs_model.specs.Flat.Edits.{parent, is_dir, fits_value}
 use Rattle.fsfs_model.specs.declared.flat.mark.Mark.{Mark}
 use Rattle.fsfs_revision.specs.Told.{RevisionBytes}
 use Rattle.fsfs_revision.specs.declared.wrong.Wrong.{Wrong}
@@ -113,7 +114,7 @@ module _ (line : ℕ) where
   dir_test path false = refl
 
   dir_unfull : (path : Path) (found : Found) → full_in (no_dir path found) ≡ false
-  dir_unfull path (Stands node) = dir_test path _
+  dir_unfull path (Stands node) = dir_test path (is_dir node.kind)
   dir_unfull path (Lacking at) = refl
   dir_unfull path (Blocked at) = refl
 
@@ -146,28 +147,32 @@ module _ (line : ℕ) where
   value_test false = refl
 
   make_unfull : (t : TreeFunction) (path : Path) → full_in (make_fault t path) ≡ false
-  make_unfull t path = first_unfull _ _ (dir_unfull _ _) (taken_unfull path (t path))
+  make_unfull t path = first_unfull (no_dir (parent path) (found_at t (parent path))) (taken path (t path)) (dir_unfull (parent path) (found_at t (parent path))) (taken_unfull path (t path))
 
   put_unfull : (t : TreeFunction) (path : Path) (node : Option Node) → full_in (put_fault t path node) ≡ false
   put_unfull t path None = make_unfull t path
-  put_unfull t path (Some node) = file_test path _
+  put_unfull t path (Some node) = file_test path (is_dir node.kind)
 
   module _ (trees : ℕ → TreeFunction) (last : ℕ) where
     trees_unfull : (t : TreeFunction) (edit : Edit) → full_in (fault_of edit trees last t) ≡ false
     trees_unfull t (MakeDir path) = make_unfull t path
     trees_unfull t (MakeFile path) = make_unfull t path
-    trees_unfull t (Delete path) = first_unfull _ _ (found_unfull _) (root_test _)
-    trees_unfull t (Copy copy) = first_unfull _ _ (make_unfull t copy.to) (first_unfull _ _ (rev_test copy.rev last _) (found_unfull _))
+    trees_unfull t (Delete path) = first_unfull (unfound (found_at t path)) (root_fixed path) (found_unfull (found_at t path)) (root_test (is_root path))
+    trees_unfull t (Copy copy) =
+        let found = found_at (trees copy.rev) copy.from in
+        first_unfull (make_fault t copy.to) (or_else (no_rev copy.rev last) (unfound found)) (make_unfull t copy.to) (first_unfull (no_rev copy.rev last) (unfound found) (rev_test copy.rev last (nat_le copy.rev last)) (found_unfull found))
     trees_unfull t (Put put) = put_unfull t put.path (t put.path)
-    trees_unfull t (Prop set) = first_unfull _ _ (found_unfull _) (name_test set.path _)
+    trees_unfull t (Prop set) =
+        let found = found_at t set.path in
+        first_unfull (unfound found) (no_mergeinfo set.name set.path) (found_unfull found) (name_test set.path (same_name set.name (codes "svn:mergeinfo")))
 
     long_unfull : (edit : Edit) → full_in (too_long edit) ≡ false
     long_unfull (MakeDir path) = refl
     long_unfull (MakeFile path) = refl
     long_unfull (Delete path) = refl
     long_unfull (Copy copy) = refl
-    long_unfull (Put put) = text_test _
-    long_unfull (Prop set) = value_test _
+    long_unfull (Put put) = text_test (nat_le (length put.text) 1_073_741_824)
+    long_unfull (Prop set) = value_test (fits_value set.value)
 
     refused_unfull : (t : TreeFunction) (edit : Edit) (fault : Fault) → Refuses trees last t edit fault → tells_full (Stopped line fault) ≡ false
     refused_unfull t edit _ (ByTrees fault is) = sym (ap full_in is) ∙ trees_unfull t edit
