@@ -98,8 +98,9 @@ def apart(records):
 
 
 def props_at(repos, rev, path):
-    listed = subprocess.run(["/usr/bin/svnlook", "proplist", "-v", "--xml", "-r", str(rev), repos, path], capture_output=True)
-    return sorted(listed.stdout.split(b"\n")[2:]) if listed.returncode == 0 else None
+    """The lines of its properties, without those that name the path."""
+    listed = subprocess.run(["/usr/bin/svnlook", "proplist", "-v", "--xml", "-r", str(rev), repos, path or "/"], capture_output=True)
+    return sorted(listed.stdout.split(b"\n")[4:]) if listed.returncode == 0 else None
 
 
 def was_idle(repos, rev, record):

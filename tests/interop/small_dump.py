@@ -40,7 +40,7 @@ wanted = b"".join(
         b"Node-path: a/f\nNode-kind: file\nNode-action: add\n" + text_lines(hello) + b"Content-length: 6\n\n" + hello + b"\n\n",
         revision(2),
         b"Node-path: a\nNode-kind: dir\nNode-action: change\nProp-content-length: 10\nContent-length: 10\n\nPROPS-END\n\n\n",
-        b"Node-path: a/f\nNode-action: delete\n\n\n",
+        b"Node-path: a/f\nNode-action: delete\n\n\n\n",
         b"Node-path: b\nNode-kind: dir\nNode-action: add\nNode-copyfrom-rev: 1\nNode-copyfrom-path: a\n\n\n\n",
     ]
 )
