@@ -1,5 +1,6 @@
 #!/usr/bin/env python3
 """Writes the dump of the small repository of `dumps` by the words of Subversion's dumpfile format, and compares it with the one that was written.
+Each record ends its headers with an empty line, also where nothing comes behind them, and itself with two newlines.
 
     small_dump.py REPOS DUMP
 """
@@ -40,7 +41,7 @@ wanted = b"".join(
         b"Node-path: a/f\nNode-kind: file\nNode-action: add\n" + text_lines(hello) + b"Content-length: 6\n\n" + hello + b"\n\n",
         revision(2),
         b"Node-path: a\nNode-kind: dir\nNode-action: change\nProp-content-length: 10\nContent-length: 10\n\nPROPS-END\n\n\n",
-        b"Node-path: a/f\nNode-action: delete\n\n\n",
+        b"Node-path: a/f\nNode-action: delete\n\n\n\n",
         b"Node-path: b\nNode-kind: dir\nNode-action: add\nNode-copyfrom-rev: 1\nNode-copyfrom-path: a\n\n\n\n",
     ]
 )
