@@ -99,7 +99,7 @@ def apart(records):
 
 
 def props_at(repos, rev, path):
-    listed = subprocess.run(["/usr/bin/svnlook", "proplist", "-v", "--xml", "-r", str(rev), repos, path], capture_output=True)
+    listed = subprocess.run(["/usr/bin/svnlook", "proplist", "-v", "--xml", "-r", str(rev), repos, path or "/"], capture_output=True)
     return sorted(listed.stdout.split(b"\n")[2:]) if listed.returncode == 0 else None
 
 
