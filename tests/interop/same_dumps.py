@@ -6,6 +6,7 @@ that was loaded.
 
 They are to be the same, but for what Subversion's own does otherwise:
   - the order of the paths of a revision;
+  - the empty line that ends the headers of what is deleted, which it leaves out;
   - digests of the source of a copied file, which it writes and ours doesn't;
   - an empty block of properties and an empty text of what is added without a source, which it writes and ours doesn't;
   - a replace without a source, which it writes as one record and ours as a delete and an add;

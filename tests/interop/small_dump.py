@@ -1,5 +1,6 @@
 #!/usr/bin/env python3
 """Writes the dump of the small repository of `dumps` by the words of Subversion's dumpfile format, and compares it with the one that was written.
+Each record ends its headers with an empty line, also where nothing comes behind them, and itself with two newlines.
 
     small_dump.py REPOS DUMP
 """
