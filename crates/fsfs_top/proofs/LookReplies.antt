@@ -316,7 +316,7 @@ module _ (status : ℕ) (tool : Tool) (a b : Scene) (err_old err_new : SinkScene
         let dumped = subst (λ (x : Option Trace). LooksInto (Rose a.host.disk_faults b.host.disk_faults) Dump o (option_map files_now x) a.out b.out fault) here into in
         ended_look (DumpIn o (files_now t)) [] (dump_reply cut) dumped.result
         (λ text end x. subst (λ (k : Tool). EndsFit k [] (dump_reply cut) text end) (sym admin)
-          (dump_fits cut text end (dumps_by (files_now t) h s s.opened.uuid text end (same_dump s.opened o (files_now t) text end s.small there x))))
+        (dump_fits cut text end (dumps_by (files_now t) h s s.opened.uuid text end (same_dump s.opened o (files_now t) text end s.small there x))))
         dumped.writes dumped.fault_is
 
     -- of a history, whose reply is by the revision

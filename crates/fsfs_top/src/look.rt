@@ -137,7 +137,13 @@ fn dump_into<D: Disk, O: Sink>(
         opened.layout,
         opened.min_unpacked_rev,
     );
-    let dumped = dump(alloc, &mut book, opened.uuid.as_bytes(), opened.youngest, out);
+    let dumped = dump(
+        alloc,
+        &mut book,
+        opened.uuid.as_bytes(),
+        opened.youngest,
+        out,
+    );
     let disk = disk_of(book);
     match dumped {
         Ok(()) => (disk, Ok(())),
