@@ -101,7 +101,6 @@ def apart(records):
 def props_at(repos, rev, path):
     """The lines of its properties, without those that name the path."""
     listed = subprocess.run(["/usr/bin/svnlook", "proplist", "-v", "--xml", "-r", str(rev), repos, path or "/"], capture_output=True)
-    # (behind the line that has the path)
     return sorted(listed.stdout.partition(b'">\n')[2].split(b"\n")) if listed.returncode == 0 else None
 
 
