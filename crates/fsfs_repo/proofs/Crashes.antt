@@ -9,12 +9,12 @@ use Rattle.fsfs_turn.proofs.LoneImages.{moment_stands, image_stands, nothing_in_
 use Rattle.fsfs_turn.proofs.Wholeness.{seen_is_whole}
 use Rattle.fsfs_repo.specs.Owned.Crashes.{CrashesLeave}
 
-pub survives : (layout : Layout) (young : ℕ) (stuck : Option DiskPlace) (told : Option Trace) (v : View) → KnowsAlone layout young stuck told v → CrashesLeave layout told v
-survives layout young stuck None v known = tt
-survives layout young stuck (Some t) v known = record {
-  moments = λ m image. moment_stands layout young stuck t v known m image;
-  whole = λ m image r x at. (seen_is_whole layout young stuck t v known.0 m image).0 r x at;
-  named = λ m image. (seen_is_whole layout young stuck t v known.0 m image).1;
-  stands = λ m image. let s = image_stands layout young stuck t v known m image in (s.0, s.1, s.2, s.3, s.5);
-  doubtless = λ outside harmless m image. ((nothing_in_doubt layout young stuck t v known outside harmless).1 m image).1;
+pub survives : (layout : Layout) (low young : ℕ) (stuck : Option DiskPlace) (told : Option Trace) (v : View) → KnowsAlone layout low young stuck told v → CrashesLeave layout told v
+survives layout low young stuck None v known = tt
+survives layout low young stuck (Some t) v known = record {
+  moments = λ m image. moment_stands layout low young stuck t v known m image;
+  whole = λ m image r x at. (seen_is_whole layout low young stuck t v known.0 m image).0 r x at;
+  named = λ m image. (seen_is_whole layout low young stuck t v known.0 m image).1;
+  stands = λ m image. let s = image_stands layout low young stuck t v known m image in (s.0, s.1, s.2, s.3, s.5);
+  doubtless = λ outside harmless m image. ((nothing_in_doubt layout low young stuck t v known outside harmless).1 m image).1;
 }

@@ -53,8 +53,8 @@ pub record IsAlone (young : ℕ) (stuck : Option DiskPlace) (v : View) : Type 0 
   pub found : are_harmless v.pass.faults ≡ true → v.pass.stuck ≡ None
 
 -- what the one pass of a store knows; and the files that no turn touches are in their formats, in each image of each moment since the opening
-abbrev pub KnowsAlone : Layout → ℕ → Option DiskPlace → Option Trace → View → Type 0
-KnowsAlone layout young stuck told v = Knows layout young stuck told v × IsAlone young stuck v × OwnFilesLast layout v.since told
+abbrev pub KnowsAlone : Layout → ℕ → ℕ → Option DiskPlace → Option Trace → View → Type 0
+KnowsAlone layout low young stuck told v = Knows layout low young stuck told v × IsAlone young stuck v × OwnFilesLast layout v.since told
 
 -- Behind calls by which a pass that is alone added nothing it has seen what it had seen, and the youngest revision is the one that it was.
 abbrev pub AloneStays : Type 0
@@ -68,16 +68,16 @@ AloneAdds = (young now rev : ℕ) (stuck left : Option DiskPlace) (v u : View) (
 -- Each image of each moment since the opening, in the middle of a call too, stands for a first part of what the pass has seen, or for all
 -- that with the revision in doubt; and has all that there was at the opening.
 abbrev pub LoneMomentsStand : Type 0
-LoneMomentsStand = (layout : Layout) (young : ℕ) (stuck : Option DiskPlace) (t : Trace) (v : View) → KnowsAlone layout young stuck (Some t) v → (m : Files) → ImageSince v.since t.first t.operations m
+LoneMomentsStand = (layout : Layout) (low young : ℕ) (stuck : Option DiskPlace) (t : Trace) (v : View) → KnowsAlone layout low young stuck (Some t) v → (m : Files) → ImageSince v.since t.first t.operations m
     → (d : Option Coming) × (g : List Recorded) × IsPart v.seen d g × (v.opened ≤ length g) × HasHistory layout m g × StandsFor m (revisions g)
 
 -- Each image now stands for what the pass has seen, or for that with the revision in doubt; where the lock isn't stuck and the pass is in
 -- no section, for what it has seen.
 abbrev pub LoneImagesStand : Type 0
-LoneImagesStand = (layout : Layout) (young : ℕ) (stuck : Option DiskPlace) (t : Trace) (v : View) → KnowsAlone layout young stuck (Some t) v → (m : Files) → IsImage t.first t.operations m
+LoneImagesStand = (layout : Layout) (low young : ℕ) (stuck : Option DiskPlace) (t : Trace) (v : View) → KnowsAlone layout low young stuck (Some t) v → (m : Files) → IsImage t.first t.operations m
     → (d : Option Coming) × (g : List Recorded) × IsPart v.seen d g × (length v.seen ≤ length g) × HasHistory layout m g × StandsFor m (revisions g) × (v.section ≡ None → stuck ≡ None → g ≡ v.seen)
 
 -- So it is where none of the pass's faults left a revision in doubt: then the lock isn't stuck.
 abbrev pub NothingInDoubt : Type 0
-NothingInDoubt = (layout : Layout) (young : ℕ) (stuck : Option DiskPlace) (t : Trace) (v : View) → KnowsAlone layout young stuck (Some t) v → v.section ≡ None → are_harmless v.pass.faults ≡ true
+NothingInDoubt = (layout : Layout) (low young : ℕ) (stuck : Option DiskPlace) (t : Trace) (v : View) → KnowsAlone layout low young stuck (Some t) v → v.section ≡ None → are_harmless v.pass.faults ≡ true
     → (stuck ≡ None) × ((m : Files) → IsImage t.first t.operations m → HasHistory layout m v.seen × StandsFor m (revisions v.seen))
