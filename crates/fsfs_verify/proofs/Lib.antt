@@ -1,0 +1,11 @@
+pub mod SameLaw
+pub mod NodeLemmas
+pub mod AllLemmas
+pub mod PartLemmas
+pub mod EdgeLemmas
+pub mod PropLemmas
+pub mod Findings
+pub mod ChainLemmas
+pub mod Decisions
+pub mod Damages
+pub mod Names
