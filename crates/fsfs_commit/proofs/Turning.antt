@@ -46,7 +46,7 @@ pub none_more : (h g : List Recorded) → h ≡ g → Begins h g
 none_more h g same = ([], same ∙ sym (append-nil g))
 
 pub drifted_on : (v m u : View) → Drifted v m → Drifted m u → Drifted v u
-drifted_on v m u a b = record { number = b.number ∙ a.number; layout = b.layout ∙ a.layout; since = b.since ∙ a.since; opened = b.opened ∙ a.opened; mine = b.mine ∙ a.mine; least = omega (arith, a.least, b.least); given = b.given ∙ a.given; still = λ stuck. b.still (a.still stuck); grows = begins_on v.seen m.seen u.seen a.grows b.grows; course = course_on v m u a.course b.course }
+drifted_on v m u a b = record { number = b.number ∙ a.number; layout = b.layout ∙ a.layout; since = b.since ∙ a.since; opened = b.opened ∙ a.opened; mine = b.mine ∙ a.mine; least = omega (arith, a.least, b.least); given = b.given ∙ a.given; still = λ stuck. b.still (a.still stuck); full = λ full. b.full (a.full full); grows = begins_on v.seen m.seen u.seen a.grows b.grows; course = course_on v m u a.course b.course }
 
 pub by_look : (young : ℕ) (v u : View) → Looked young v u → Drifted v u
 by_look young v u l = record {
@@ -57,6 +57,7 @@ by_look young v u l = record {
   mine = ap {A = View} (λ z. z.pass.mine) l.is;
   given = ap {A = View} (λ z. z.given) l.is;
   still = λ stuck. ap {A = View} (λ z. is_some z.pass.stuck) l.is ∙ stuck;
+  full = λ full. ap {A = View} (λ z. z.full) l.is ∙ full;
   least = let e : u.pass.least ≡ young = ap {A = View} (λ z. z.pass.least) l.is in omega (arith, e, l.least);
   grows = none_more u.seen v.seen (ap {A = View} (λ z. z.seen) l.is);
   course = one_step [] (step.Look v.number) (outcome.Youngest young) v u l.turned;
@@ -71,6 +72,7 @@ by_reads v u r = record {
   mine = ap {A = View} (λ z. z.pass.mine) r.is;
   given = ap {A = View} (λ z. z.given) r.is;
   still = λ stuck. ap {A = View} (λ z. is_some z.pass.stuck) r.is ∙ stuck;
+  full = λ full. ap {A = View} (λ z. z.full) r.is ∙ full;
   least = let e : u.pass.least ≡ v.pass.least = ap {A = View} (λ z. z.pass.least) r.is in omega (arith, e);
   grows = r.grows;
   course = r.course;
@@ -85,6 +87,7 @@ by_taking v u l = record {
   mine = ap {A = View} (λ z. z.pass.mine) l.is;
   given = ap {A = View} (λ z. z.given) l.is;
   still = λ stuck. ap {A = View} (λ z. is_some z.pass.stuck) l.is ∙ stuck;
+  full = λ full. ap {A = View} (λ z. z.full) l.is ∙ full;
   least = let e : u.pass.least ≡ v.pass.least = ap {A = View} (λ z. z.pass.least) l.is in omega (arith, e);
   grows = none_more u.seen v.seen (ap {A = View} (λ z. z.seen) l.is);
   course = one_step [] (step.TakeLock v.number) outcome.Done v u l.turned;
@@ -99,6 +102,7 @@ by_finding place v u l = record {
   mine = ap {A = View} (λ z. z.pass.mine) l.is;
   given = ap {A = View} (λ z. z.given) l.is;
   still = λ stuck. ap {A = View} (λ z. is_some z.pass.stuck) l.is;
+  full = λ full. ap {A = View} (λ z. z.full) l.is ∙ full;
   least = let e : u.pass.least ≡ v.pass.least = ap {A = View} (λ z. z.pass.least) l.is in omega (arith, e);
   grows = none_more u.seen v.seen (ap {A = View} (λ z. z.seen) l.is);
   course = one_step [] (step.TakeLock v.number) (outcome.Stuck place) v u l.turned;
@@ -113,6 +117,7 @@ by_giving s v u l = record {
   mine = ap {A = View} (λ z. z.pass.mine) l.is;
   given = ap {A = View} (λ z. z.given) l.is;
   still = λ stuck. ap {A = View} (λ z. is_some z.pass.stuck) l.is ∙ stuck;
+  full = λ full. ap {A = View} (λ z. z.full) l.is ∙ full;
   least = let e : u.pass.least ≡ v.pass.least = ap {A = View} (λ z. z.pass.least) l.is in omega (arith, e);
   grows = none_more u.seen v.seen (ap {A = View} (λ z. z.seen) l.is);
   course = one_step [] s outcome.Done v u l.turned;
@@ -127,6 +132,7 @@ by_stopping place v u l = record {
   mine = ap {A = View} (λ z. z.pass.mine) l.is;
   given = ap {A = View} (λ z. z.given) l.is;
   still = λ stuck. ap {A = View} (λ z. is_some z.pass.stuck) l.is ∙ stuck;
+  full = λ full. ap {A = View} (λ z. z.full) l.is ∙ full;
   least = let e : u.pass.least ≡ v.pass.least = ap {A = View} (λ z. z.pass.least) l.is in omega (arith, e);
   grows = none_more u.seen v.seen (ap {A = View} (λ z. z.seen) l.is);
   course = course_on v l.before u l.course (one_step [] (ends_at place v.number) outcome.Done l.before u l.last.turned);
@@ -342,6 +348,7 @@ module _ (holds : Txn → Revision → List ℕ → Type 0) (ready : Ready) (pro
     shows = shows;
     given = ap {A = View} (λ z. z.given) p.is ∙ drifted.given;
     still = λ stuck. ap {A = View} (λ z. is_some z.pass.stuck) p.is ∙ drifted.still stuck;
+    full = λ full. ap {A = View} (λ z. z.full) p.is ∙ drifted.full full;
     since = ap {A = View} (λ z. z.since) p.is ∙ drifted.since;
     opened = ap {A = View} (λ z. z.opened) p.is ∙ drifted.opened;
     mine = ap {A = View} (λ z. z.pass.mine) p.is ∙ ap (λ k. n.pass.mine ++ k ∷ []) (sym is_made.number) ∙ ap (λ l. l ++ ready.made.rev ∷ []) drifted.mine;
@@ -440,6 +447,7 @@ committed_on rev p v m o x y z d brings can landings c = record {
   mine = c.mine ∙ ap (λ l. l ++ rev ∷ []) d.mine;
   given = c.given ∙ d.given;
   still = λ stuck. c.still (d.still stuck);
+  full = λ full. c.full (d.full full);
   since = c.since ∙ d.since;
   opened = c.opened ∙ d.opened;
   outside = c.outside;

@@ -30,6 +30,8 @@ pub record Drifted (v u : View) : Type 0 where
   pub given : u.given ≡ v.given
   -- a pass that found the lock stuck knows so still
   pub still : is_some v.pass.stuck ≡ true → is_some u.pass.stuck ≡ true
+  -- and one that met the last number of a name knows still that no name is left
+  pub full : v.full ≡ true → u.full ≡ true
   pub grows : Begins u.seen v.seen
   pub course : Course v u
 
@@ -81,6 +83,8 @@ pub record Committed (rev : ℕ) (properties : List (List ℕ × List ℕ)) (v u
   pub opened : u.opened ≡ v.opened
   pub given : u.given ≡ v.given
   pub still : is_some v.pass.stuck ≡ true → is_some u.pass.stuck ≡ true
+  -- and one that met the last number of a name knows still that no name is left
+  pub full : v.full ≡ true → u.full ≡ true
   pub outside : u.section ≡ None
   pub doubtless : BringsNoDoubt v u
   pub course : Course v u

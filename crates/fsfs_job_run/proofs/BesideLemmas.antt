@@ -1,5 +1,5 @@
 -- The lines of jobs that are done beside each other hold of the history, however it goes on.
-use Rattle.std.proofs.Common.{◌≡◌, ◌≤◌, ◌<◌, ◌+◌, ℕ, max, take, length, subst, length-append, List, [], ◌∷◌, ◌++◌, suc, Bool, true, false, refl, sym, ap, ◌∙◌, append_assoc, append-nil, inl, inr, arith}
+use Rattle.std.proofs.Common.{◌≡◌, ◌≤◌, ◌<◌, ◌+◌, ℕ, max, take, length, subst, length-append, List, [], ◌∷◌, ◌++◌, suc, Bool, true, false, refl, sym, ap, ◌∙◌, append_assoc, append-nil, inl, inr, ⊎_elim, arith}
 use Rattle.std.proofs.lemmas.List.{map-append, take-append-le}
 use Rattle.std.specs.Prelude.{is_some}
 use Rattle.fsfs_tree.specs.Revisions.{Revision}
@@ -14,7 +14,8 @@ use Rattle.fsfs_script.specs.declared.job_lines.job.Job.{Job}
 use Rattle.fsfs_cli.specs.declared.faults.fault.Fault.{Fault}
 use Rattle.fsfs_jobs.specs.Serial.{base_of, ReadsText as AloneReads, LacksRead as AloneLacksRead, LacksBase as AloneLacksBase, LacksName, Begins as AloneBegins}
 use Rattle.fsfs_jobs.specs.declared.answer.JobAnswer.{JobAnswer}
-use Rattle.fsfs_job_run.specs.Serial.Jobs.{own_of, own_of_all, tells_stuck}
+use Rattle.fsfs_job_run.proofs.Full.{one_true}
+use Rattle.fsfs_job_run.specs.Serial.Jobs.{own_of, own_of_all, tell_full, tells_full, tells_stuck}
 use Rattle.fsfs_job_run.specs.Serial.Counts.{StopsOver}
 use Rattle.fsfs_job_run.specs.Workers.Beside.{CountsIn, IsBase, RunsBeside, ReadsText, LacksRead, LacksBase, DoesEdits, GoesOnFrom, shown_in}
 use Rattle.fsfs_job_run.proofs.Counted.{counted_on}
@@ -107,7 +108,9 @@ worked moment _ _ _ _ (End v) = record {
   later = omega arith;
   own = sym (append-nil v.pass.mine);
   stuck = λ free. tt;
+  names = λ told. absurd cc;
   still = λ found. found;
+  full = λ full. full;
 }
 worked moment _ _ _ _ (More job answer js answers v m u first rest) =
     let w = worked moment js answers m u rest in
@@ -121,5 +124,7 @@ worked moment _ _ _ _ (More job answer js answers v m u first rest) =
       later = omega (arith, first.later, w.later);
       own = w.own ∙ ap (λ (l : List ℕ). l ++ own_of_all answers) first.own ∙ append_assoc v.pass.mine (own_of answer) (own_of_all answers);
       stuck = λ free. (not_so (tells_stuck answer) (is_some u.pass.stuck) (λ told. w.still (first.stuck told)) free, w.stuck free);
+      names = λ told. ⊎_elim (λ one. w.full (first.names one)) (λ more. w.names more) (one_true (tells_full answer) (tell_full answers) told);
       still = λ found. w.still (first.still found);
+      full = λ full. w.full (first.full full);
     }

@@ -47,6 +47,7 @@ use Rattle.fsfs_job_run.specs.Ending.{EndsSo, IsEdited}
 use Rattle.fsfs_job_run.proofs.Staying.{IsCounted, bare_leaves}
 use Rattle.fsfs_job_run.proofs.Begun.{begun_stays, begun_told}
 use Rattle.fsfs_job_run.proofs.Counted.{does_on, none_counted, refused_counted, edits_outside}
+use Rattle.fsfs_job_run.proofs.Full.{edits_unfull}
 use Rattle.fsfs_job_run.proofs.Refused.{stopped_does, edited_txn, ends_job, runs_behind}
 use Rattle.fsfs_job_run.proofs.Ends.{IsLone, StaysKnown, purges_stay}
 
@@ -161,7 +162,7 @@ pub stopped_so : (knows : View → Type 0) (P Q : Type 0) (moment base : ℕ) (n
     → IfRefused fault (StopsAt (Bars (bytes_of v.seen) (tree_of (revisions v.seen)) (last_of (revisions v.seen)) base name) (tree_of (revisions v.seen)) (last_of (revisions v.seen)) (tree_of (revisions v.seen) base) [] job.steps line fault)
     → IfDisk fault P → StaysKnown knows v → CommitsSo knows Q moment job (Stopped line fault) v
 stopped_so knows P Q moment base name job line fault v f on within refused failed left = (
-  refused_job knows Q moment job line fault v (refused_so P moment base name job line fault v.seen on within refused failed) (λ u same. edits_outside P Q line u fault f failed) left,
+  refused_job knows Q moment job line fault v (refused_so P moment base name job line fault v.seen on within refused failed) (λ u same. edits_outside P Q line u fault f failed (edits_unfull line (tree_of (revisions v.seen)) (last_of (revisions v.seen)) (bytes_of v.seen) base name line (tree_of (revisions v.seen) base) [] job.steps fault refused)) left,
   refused_counted base name job line fault v.seen on refused,
 )
 

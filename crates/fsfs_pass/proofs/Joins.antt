@@ -1,5 +1,5 @@
 -- A join is the machine's: the first pass takes over what the second knows.
-use Rattle.std.proofs.Common.{◌≡◌, ◌≢◌, ◌⊎◌, inl, inr, ◌<◌, ◌≤◌, ◌+◌, ◌==◌, ℕ, suc, zero, List, [], ◌∷◌, ◌++◌, length, true, false, cond, ⊎_elim, refl, sym, ap, subst, ◌∙◌, arith, take, length-take}
+use Rattle.std.proofs.Common.{◌≡◌, ◌≢◌, ◌⊎◌, inl, inr, ◌<◌, ◌≤◌, ◌+◌, ◌==◌, ℕ, suc, zero, List, [], ◌∷◌, ◌++◌, ◌||◌, length, Bool, true, false, cond, ⊎_elim, refl, sym, ap, subst, ◌∙◌, arith, take, length-take}
 use Rattle.std.specs.Prelude.{◌-◌, Option, Some, None, is_some, slice_get, slice_index, slice_set, nat_le, max, min, not, ◌&&◌, if◌then◌else◌}
 use Rattle.std.proofs.lemmas.List.{map-append, map-set}
 use Rattle.std.proofs.lemmas.Bool.Decides.{nat_tests}
@@ -88,6 +88,10 @@ by_seen P v z less more = elim (nat_le z.pass.seen v.pass.seen) as (λ b. nat_le
   | false ↦ λ e. more (grind (arith, e))
 ] refl
 
+either_true : (a b : Bool) → (a || b) ≡ true → (a ≡ true) ⊎ (b ≡ true)
+either_true true b e = inl refl
+either_true false b e = inr e
+
 -- where the longer line begins with the shorter, it begins with both
 pub both_begin : (v z : SeatView) → Begins (longer v z) (shorter v z) → Begins (longer v z) v.seen × Begins (longer v z) z.seen
 both_begin v z = elim (nat_le z.pass.seen v.pass.seen) as (λ b. Begins (cond b v.seen z.seen) (cond b z.seen v.seen) → Begins (cond b v.seen z.seen) v.seen × Begins (cond b v.seen z.seen) z.seen) [
@@ -165,6 +169,7 @@ module _ (first : SeatView) (views : List SeatView) (lock young : ℕ) (t : Trac
     given = λ k i. ⊎_elim (λ a. sees.given k a) (λ b. knows.given k b) (in_either k me.given it.given i);
     opened = sees.opened;
     shown = by_seen (λ more less. AllShow more) me it (λ le. sees.shown) (λ lt. knows.shown);
+    names = record { full = λ e. ⊎_elim (λ a. sees.names.full a) (λ b. knows.names.full b) (either_true me.full it.full e); drawing = sees.names.drawing };
   }
 
   lines : Begins u.seen (shorter me it)
@@ -173,7 +178,7 @@ module _ (first : SeatView) (views : List SeatView) (lock young : ℕ) (t : Trac
       (λ lt. subst (λ (l : List Recorded). Begins it.seen l) (sym sees.seen) (subst (λ (l : List Recorded). Begins l (take me.pass.seen w.history)) (sym knows.seen) (part_begins w.history me.pass.seen it.pass.seen (omega (arith, lt)))))
 
   join_leaves : Spares me.number w join_on
-  join_leaves = record { passes = λ q far. at_other w.passes me.number q (joined it.pass) far; count = length_at w.passes me.number (joined it.pass); grows = begins_itself w.history; locks = λ q far. refl; still = λ q z far held. (refl, refl); floor = refl; given = λ k i. i }
+  join_leaves = record { passes = λ q far. at_other w.passes me.number q (joined it.pass) far; count = length_at w.passes me.number (joined it.pass); grows = begins_itself w.history; locks = λ q far. refl; still = λ q z far held. (refl, refl); floor = refl; given = λ k i. i; full = λ last. last; disk = λ q z far held. refl }
 
   -- ---- what it has met
 

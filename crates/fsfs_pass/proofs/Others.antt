@@ -16,7 +16,10 @@ use Rattle.fsfs_machine.specs.declared.machine.Lock.{Lock}
 use Rattle.fsfs_machine.specs.Machine.{World, is_up, stuck_place}
 use Rattle.fsfs_machine.specs.Kept.{Kept}
 use Rattle.fsfs_machine.proofs.Answering.{seen_of}
-use Rattle.fsfs_turn.specs.Views.{View, Sees, is_held, coming_at, with_txns}
+use Rattle.fsfs_machine.specs.declared.contents.FileName.TheVariants.{Counter}
+use Rattle.fsfs_machine.specs.declared.machine.Drawn.{Drawn}
+use Rattle.fsfs_machine.specs.Disk.{found}
+use Rattle.fsfs_turn.specs.Views.{View, Sees, is_held, coming_at, drawing_at, with_txns}
 use Rattle.fsfs_turn.specs.Past.{doubt, Safe}
 use Rattle.fsfs_turn.specs.Found.{seen_within}
 use Rattle.fsfs_turn.specs.Standing.{IsStore}
@@ -46,6 +49,10 @@ held_coming : (o : Option Section) (x : Coming) → coming_at o ≡ Some x → i
 held_coming None x e = absurd cc
 held_coming (Some s) x e = refl
 
+held_drawing : (o : Option Section) (x : Drawn) → drawing_at o ≡ Some x → is_held o ≡ true
+held_drawing None x e = absurd cc
+held_drawing (Some s) x e = refl
+
 sees_other : (p : ℕ) (w after : World) (z : View) → Spares p w after → Kept (with_txns [] w) → is_up after.lock ≡ true → (z.number ≡ p → ⊥) → (z.sure ≡ true → is_held z.section ≡ true) → Sees w z → Sees after z
 sees_other p w after z l kept up apart sure sees = record {
   pass = l.passes z.number apart ∙ sees.pass;
@@ -57,8 +64,12 @@ sees_other p w after z l kept up apart sure sees = record {
   given = λ k i. l.given k (sees.given k i);
   opened = let long : length after.history ≡ length w.history + length l.grows.0 = ap length l.grows.1 ∙ length-append w.history l.grows.0 in omega (arith, long, sees.opened);
   shown = sees.shown;
+  names = record { full = λ e. l.full (sees.names.full e); drawing = λ x e. let d = sees.names.drawing x e in (ap (λ k. found k Counter) (held_disk (held_drawing z.section x e)) ∙ d.0, d.1) };
 }
   where
+    held_disk : is_held z.section ≡ true → after.disk ≡ w.disk
+    held_disk held = let s = held_some z.section held in l.disk z.number s.0 apart (sees.section ∙ s.1)
+
     unmoved : is_held z.section ≡ true → (after.young ≡ w.young) × (after.history ≡ w.history)
     unmoved held = let s = held_some z.section held in l.still z.number s.0 apart (sees.section ∙ s.1)
 

@@ -17,6 +17,7 @@ use Rattle.fsfs_machine.specs.Machine.{World, did, split_off, held_by, stuck_pla
 use Rattle.fsfs_machine.specs.Kept.{Kept, IsHolder}
 use Rattle.fsfs_machine.proofs.Steps.{step_keeps}
 use Rattle.fsfs_turn.specs.Views.{Sees, with_txns}
+use Rattle.fsfs_turn.proofs.Names.{names_stay}
 use Rattle.fsfs_turn.proofs.Stepping.{kept_bare}
 use Rattle.fsfs_turn.proofs.Moves.{held_other}
 use Rattle.fsfs_turn.specs.Found.{seen_within}
@@ -126,7 +127,7 @@ module _ (first : SeatView) (views : List SeatView) (lock young : ℕ) (t : Trac
   seat_on : (j : ℕ) (z : SeatView) → Seated first w t j z → Seated first split_on t j z
   seat_on j z k = record {
     number = k.number;
-    sees = (let e = k.sees in record { pass = get_longer w.passes child z.pass z.number e.pass; seen = e.seen; section = e.section; up = e.up; sure = e.sure; whole = e.whole; given = e.given; opened = e.opened; shown = e.shown });
+    sees = (let e = k.sees in record { pass = get_longer w.passes child z.pass z.number e.pass; seen = e.seen; section = e.section; up = e.up; sure = e.sure; whole = e.whole; given = e.given; opened = e.opened; shown = e.shown; names = e.names });
     sure = k.sure;
     layout = k.layout;
     since = k.since;
@@ -157,6 +158,7 @@ module _ (first : SeatView) (views : List SeatView) (lock young : ℕ) (t : Trac
     given = sees.given;
     opened = sees.opened;
     shown = sees.shown;
+    names = names_stay me.full me.section None w.disk w.disk refl refl sees.names;
   }
 
   new_met : HasMet first.layout split_on t next

@@ -1,5 +1,5 @@
 -- What a pass at the table knows, and what it tells one who reads.
-use Rattle.std.specs.Prelude.{◌≡◌, ◌++◌, ℕ, List, [], Bool, true, false, Option, None, is_some, if◌then◌else◌}
+use Rattle.std.specs.Prelude.{◌≡◌, ◌++◌, ◌||◌, ℕ, List, [], Bool, true, false, Option, None, is_some, if◌then◌else◌}
 use Rattle.atomic_table.specs.Seated.{TableId}
 use Rattle.fsfs_layout.specs.declared.layout.Layout.{Layout}
 use Rattle.fsfs_fetch.specs.Views.{View as StoreView, Reach, Grows}
@@ -54,8 +54,8 @@ abbrev pub split_off : ℕ → View → View
 split_off n v = record v { number = n; pass = record v.pass { mine = []; faults = [] }; section = None; sure = false }
 
 -- Of two passes the first knows what both knew: the longer of the two lines that they saw, the later number that either was told, the
--- greater floor, and the faults and the names given of both.
+-- greater floor, and the faults and the names given of both; and that no name is left where one did.
 pub record Joins (v u z : View) : Type 0 where
-  pub is : z ≡ record v { pass = joined u.pass v.pass; seen = z.seen; given = v.given ++ u.given }
+  pub is : z ≡ record v { pass = joined u.pass v.pass; seen = z.seen; given = v.given ++ u.given; full = v.full || u.full }
   pub one : Begins z.seen v.seen
   pub other : Begins z.seen u.seen

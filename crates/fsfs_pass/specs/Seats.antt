@@ -1,5 +1,5 @@
 -- What a seat at the table knows, as what a pass knows.
-use Rattle.std.specs.Prelude.{◌≡◌, ◌+◌, ◌-◌, ◌/◌, ◌^◌, ◌++◌, ℕ, List, [], ◌∷◌, length, nat_le, Bool, true, false, Option, Some, None, if◌then◌else◌}
+use Rattle.std.specs.Prelude.{◌≡◌, ◌+◌, ◌-◌, ◌/◌, ◌^◌, ◌++◌, ◌||◌, ℕ, List, [], ◌∷◌, length, nat_le, Bool, true, false, Option, Some, None, if◌then◌else◌}
 use mathlib.Core.Option.{some}
 use lib.ListN.{get_elem?}
 use Rattle.std.specs.FinMap.{empty}
@@ -21,7 +21,7 @@ use Rattle.fsfs_pass.specs.declared.seats.seat_view.Stage.TheVariants.{New, Sitt
 use Rattle.fsfs_pass.specs.declared.seats.seat_view.SeatView.{SeatView}
 
 abbrev pub view_of : SeatView → View
-view_of v = record { layout = v.layout; since = v.since; opened = v.opened; number = v.number; pass = v.pass; seen = v.seen; section = v.section; sure = v.sure; given = v.given }
+view_of v = record { layout = v.layout; since = v.since; opened = v.opened; number = v.number; pass = v.pass; seen = v.seen; section = v.section; sure = v.sure; given = v.given; full = v.full }
 
 -- it was told the youngest number, and has met this trace
 abbrev pub look_view : ℕ → Option Trace → SeatView → SeatView
@@ -105,6 +105,7 @@ joined_view met v z = record v {
   pass = joined z.pass v.pass;
   seen = longer v z;
   given = v.given ++ z.given;
+  full = v.full || z.full;
   met = met;
   failures = v.failures + z.failures;
   bench_failures = v.bench_failures + z.bench_failures;
@@ -137,6 +138,7 @@ left_view = record {
   section = None;
   sure = false;
   given = [];
+  full = false;
   told = false;
   hand = Empty;
   met = None;

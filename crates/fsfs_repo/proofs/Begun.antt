@@ -127,6 +127,7 @@ module _ (name : TxnName) (root : NodeRev) (held : Option Files) (v u : View) (h
     more = name.number.number ∷ [];
     given = ap {A = View} (λ z. z.given) h.is;
     still = λ stuck. ap {A = View} (λ z. is_some z.pass.stuck) h.is ∙ stuck;
+    full = λ full. ap {A = View} (λ z. z.full) h.is ∙ full;
     outside = ap {A = View} (λ z. z.section) h.is;
     doubtless = h.doubtless;
     steps = h.steps;

@@ -67,7 +67,7 @@ can_commit v name base settled x p is given dated = record {
 
 pub unmoved : (v : View) → Moved v v
 unmoved v = record {
-  drifted = record { number = refl; layout = refl; since = refl; opened = refl; mine = refl; least = omega arith; given = refl; still = λ stuck. stuck; grows = none_more v.seen v.seen refl; course = End v };
+  drifted = record { number = refl; layout = refl; since = refl; opened = refl; mine = refl; least = omega arith; given = refl; still = λ stuck. stuck; full = λ full. full; grows = none_more v.seen v.seen refl; course = End v };
   section = refl;
 }
 

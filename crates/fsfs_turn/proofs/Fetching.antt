@@ -73,6 +73,7 @@ module _ (layout : Layout) (young : ℕ) (stuck : Option DiskPlace) (t : Trace) 
     given = sees.given;
     opened = sees.opened;
     shown = store.shown;
+    names = sees.names;
   }
 
   now : (went : Went) → IsStore layout young stuck t (world went)
@@ -104,7 +105,7 @@ module _ (layout : Layout) (young : ℕ) (stuck : Option DiskPlace) (t : Trace) 
     turned = read_turn went;
     all = refl;
     safe = safe;
-    leaves = pass_leaves w (world went) v.number (learns (length w.history) Read went) refl refl refl refl refl refl;
+    leaves = pass_leaves w (world went) v.number (learns (length w.history) Read went) refl refl refl refl refl refl refl;
     layout_is = refl;
     since_is = refl;
     opened_is = refl;

@@ -34,7 +34,7 @@ use Rattle.fsfs_turn.proofs.Locking.{looks, takes, finds_stuck, gives_lock, stic
 use Rattle.fsfs_turn.proofs.Adopting.{adopt_comes, adopt_file_comes, adopt_fails}
 use Rattle.fsfs_turn.proofs.Fetching.{read_comes, read_bytes, size_bytes}
 use Rattle.fsfs_turn.proofs.SmallFiles.{floor_comes, floor_line, props_comes, props_text}
-use Rattle.fsfs_turn.proofs.Counting.{counter, counter_comes, counter_reads}
+use Rattle.fsfs_turn.proofs.Counting.{counter, counter_comes, counter_reads, full_sees}
 use Rattle.fsfs_turn.proofs.Labelling.{list_turns, make_comes, purge_comes, spent_comes}
 
 -- what was put is in use
@@ -208,7 +208,8 @@ module _ (layout : Layout) (young : ℕ) (stuck : Option DiskPlace) where
   counter_known (Some t) new same name buffer filled result read named v base known begun at_most =
       counter_reads layout young stuck t known.0 v known.1 known.2 known.5 base begun at_most (Knows layout young stuck new) new same name buffer filled named result read
       (λ few. known_comes layout young stuck new known.0 v result (λ went u. CounterRead base (counter layout young stuck t known.0 v known.1 known.2 known.5 base begun at_most).0 went v u) known.3 known.4 known.6 (counter_comes layout young stuck t known.0 v known.1 known.2 known.5 base begun at_most new same few result))
-      (subst (λ o. Knows layout young stuck o v) (sym same) known)
+      (λ many. subst (λ o. Knows layout young stuck o (record v { full = true })) (sym same)
+      (known.0, known.1, full_sees layout young stuck t known.0 v known.1 known.2 known.5 base begun at_most many, known.3, known.4, known.5, known.6))
 
   pub size_known : {E : Type 0} (old new : Option Trace) → new ≡ old → (name : List ℕ) (result : Result (Option ℕ) E) → IfSome old (λ t. IfOk result (IsSize (file_at t name)))
       → (v : View) (r : ℕ) (x : Recorded) → Knows layout young stuck old v → slice_get v.seen r ≡ Some x → r < 2 ^ 32 → v.pass.floor ≤ r → name ≡ rev_name v r

@@ -27,6 +27,7 @@ use Rattle.fsfs_turn.specs.Past.{doubt, Safe}
 pub use Rattle.fsfs_turn.specs.Found.{seen_within}
 use Rattle.fsfs_turn.specs.Standing.{IsStore, Knows}
 use Rattle.fsfs_turn.proofs.Moments.{begins_itself, quiet_doubt, safe_more, part_revealed}
+use Rattle.fsfs_turn.proofs.Names.{names_stay}
 use Rattle.fsfs_turn.proofs.Moves.{Spares, Moved, held_other, known_moved}
 use Rattle.fsfs_turn.proofs.TurnEnds.{at_other}
 use Rattle.fsfs_turn.proofs.Stepping.{kept_bare, at_itself, held_here, lock_is}
@@ -99,11 +100,11 @@ module _ (layout : Layout) (young : ℕ) (stuck : Option DiskPlace) (t : Trace) 
 
   -- it changes what its pass knows
   pass_spares : (f : Pass → Pass) → Spares v.number w (now (at_place w.passes v.number f) w.lock)
-  pass_spares f = record { passes = λ q apart. at_other w.passes v.number q f apart; count = length_at w.passes v.number f; grows = begins_itself w.history; locks = λ q apart. refl; still = λ q s apart held. (refl, refl); floor = refl; given = λ k i. i }
+  pass_spares f = record { passes = λ q apart. at_other w.passes v.number q f apart; count = length_at w.passes v.number f; grows = begins_itself w.history; locks = λ q apart. refl; still = λ q s apart held. (refl, refl); floor = refl; given = λ k i. i; full = λ last. last; disk = λ q s apart held. refl }
 
   -- it moves the lock
   lock_spares : (lock : Lock) → ((q : ℕ) → (q ≡ v.number → ⊥) → held_by q lock ≡ held_by q w.lock) → Spares v.number w (now w.passes lock)
-  lock_spares lock locks = record { passes = λ q apart. refl; count = refl; grows = begins_itself w.history; locks = locks; still = λ q s apart held. (refl, refl); floor = refl; given = λ k i. i }
+  lock_spares lock locks = record { passes = λ q apart. refl; count = refl; grows = begins_itself w.history; locks = locks; still = λ q s apart held. (refl, refl); floor = refl; given = λ k i. i; full = λ last. last; disk = λ q s apart held. refl }
 
   -- ---- a look
 
@@ -124,6 +125,7 @@ module _ (layout : Layout) (young : ℕ) (stuck : Option DiskPlace) (t : Trace) 
     given = sees.given;
     opened = sees.opened;
     shown = sees.shown;
+    names = sees.names;
   }
 
   pub look_comes : Looked young v (looked_view young v) × Moved layout young t w v (looked_view young v) w.lock
@@ -143,7 +145,7 @@ module _ (layout : Layout) (young : ℕ) (stuck : Option DiskPlace) (t : Trace) 
   taken_at lock is = sym (ap (λ b. cond b (taken (with_txns [] w) v.number w.lock) (barred (with_txns [] w))) there ∙ ap (λ l. taken (with_txns [] w) v.number l) is)
 
   take_sees : Sees (now w.passes (Held v.number Begun)) (locked_view v)
-  take_sees = record { pass = sees.pass; seen = sees.seen; section = held_here v.number Begun; up = refl; sure = λ e. absurd cc; whole = λ x e. absurd cc; given = sees.given; opened = sees.opened; shown = sees.shown }
+  take_sees = record { pass = sees.pass; seen = sees.seen; section = held_here v.number Begun; up = refl; sure = λ e. absurd cc; whole = λ x e. absurd cc; given = sees.given; opened = sees.opened; shown = sees.shown; names = names_stay v.full v.section (Some Begun) w.disk w.disk refl refl sees.names }
 
   pub take_comes : w.lock ≡ Free → LockTaken v (locked_view v) × Moved layout young t w v (locked_view v) (Held v.number Begun)
   take_comes free = (
@@ -156,7 +158,7 @@ module _ (layout : Layout) (young : ℕ) (stuck : Option DiskPlace) (t : Trace) 
   learns_of place x = record x { stuck = Some place }
 
   find_sees : (place : DiskPlace) → Sees (now (at_place w.passes v.number (learns_of place)) w.lock) (stuck_view place v)
-  find_sees place = record { pass = at_itself w.passes v.number (learns_of place) v.pass sees.pass; seen = sees.seen; section = sees.section; up = sees.up; sure = sees.sure; whole = sees.whole; given = sees.given; opened = sees.opened; shown = sees.shown }
+  find_sees place = record { pass = at_itself w.passes v.number (learns_of place) v.pass sees.pass; seen = sees.seen; section = sees.section; up = sees.up; sure = sees.sure; whole = sees.whole; given = sees.given; opened = sees.opened; shown = sees.shown; names = sees.names }
 
   pub find_comes : (place : DiskPlace) (x : Coming) → w.lock ≡ Stuck place x → FoundStuck place v (stuck_view place v) × Moved layout young t w v (stuck_view place v) w.lock
   find_comes place x is = (
@@ -174,7 +176,7 @@ module _ (layout : Layout) (young : ℕ) (stuck : Option DiskPlace) (t : Trace) 
   others_none s is q apart = ap (λ l. held_by q l) (held_in s is) ∙ held_other v.number q s apart
 
   outside_sees : (lock : Lock) → held_by v.number lock ≡ None → is_up lock ≡ true → Sees (now w.passes lock) (outside v)
-  outside_sees lock none up = record { pass = sees.pass; seen = sees.seen; section = none; up = up; sure = λ e. absurd cc; whole = λ x e. absurd cc; given = sees.given; opened = sees.opened; shown = sees.shown }
+  outside_sees lock none up = record { pass = sees.pass; seen = sees.seen; section = none; up = up; sure = λ e. absurd cc; whole = λ x e. absurd cc; given = sees.given; opened = sees.opened; shown = sees.shown; names = names_stay v.full v.section None w.disk w.disk refl refl sees.names }
 
   give_happens : (s : Section) → v.section ≡ Some s → is_quiet s ≡ true → did (now w.passes Free) outcome.Done ≡ inside (with_txns [] w) (let_go (with_txns [] w)) (held_by v.number w.lock)
   give_happens s is quiet = sym (ap (λ o. inside (with_txns [] w) (let_go (with_txns [] w)) o) (sees.section ∙ is) ∙ ap (λ b. cond b (did (now w.passes Free) outcome.Done) (barred (with_txns [] w))) quiet)
@@ -231,6 +233,7 @@ module _ (layout : Layout) (young : ℕ) (stuck : Option DiskPlace) (t : Trace) 
       given = sees.given;
       opened = let e : length (with_next w.history x) ≡ length w.history + 1 = grind (arith, length-append) in omega (arith, e, sees.opened);
       shown = subst (λ h. AllShow (with_next h x)) (sym all) all_show;
+      names = names_stay v.full v.section (Some Over) w.disk w.disk refl refl sees.names;
     }
 
     reveal_spares : Spares v.number w shown_on
@@ -242,6 +245,8 @@ module _ (layout : Layout) (young : ℕ) (stuck : Option DiskPlace) (t : Trace) 
       still = λ q s apart held. let none : held_by q w.lock ≡ None = others_none (CurrentFirm x) is q apart in absurd cc;
       floor = refl;
       given = λ k i. i;
+      full = λ last. last;
+      disk = λ q s apart held. refl;
     }
 
     pub reveal_comes : (rev : ℕ) → rev ≡ length v.seen → Revealed x v (revealed_view x v) × Moved layout rev t w v (revealed_view x v) (Held v.number Over)

@@ -331,7 +331,7 @@ module _ (first : Files) (labels : List Label) (before : List Operation) (h : Li
   }
 
   abbrev view : View
-  view = record { layout = layout; since = opened_at first before; opened = length g; number = 0; pass = first_pass (length g) f; seen = g; section = None; sure = false; given = given_before s.opened.next_txn.number }
+  view = record { layout = layout; since = opened_at first before; opened = length g; number = 0; pass = first_pass (length g) f; seen = g; section = None; sure = false; given = given_before s.opened.next_txn.number; full = false }
 
   abbrev trace : Trace
   trace = record { first = first; labels = labels; operations = Done real.FirmNames ∷ before }
@@ -340,7 +340,7 @@ module _ (first : Files) (labels : List Label) (before : List Operation) (h : Li
   store = record { trace = Opening before disk read; whole = whole; kept = kept_bare world kept; shown = all_show; coming = tt; young_is = refl; stuck_is = refl }
 
   sees : Sees world view
-  sees = record { pass = refl; seen = sym (take_all (length g) g (omega arith)); section = refl; up = refl; sure = λ e. absurd cc; whole = λ z e. absurd cc; given = λ q i. i; opened = omega arith; shown = all_show }
+  sees = record { pass = refl; seen = sym (take_all (length g) g (omega arith)); section = refl; up = refl; sure = λ e. absurd cc; whole = λ z e. absurd cc; given = λ q i. i; opened = omega arith; shown = all_show; names = record { full = λ e. absurd cc; drawing = λ z e. absurd cc } }
 
   safe : Safe layout (opened_at first before) trace (length g) f g None
   safe z i =

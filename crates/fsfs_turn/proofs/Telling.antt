@@ -50,7 +50,7 @@ module _ (layout : Layout) (young : ℕ) (stuck : Option DiskPlace) (old : Trace
     };
     all = refl;
     safe = safe;
-    leaves = pass_leaves w world v.number (tell (length w.history)) refl refl refl refl refl refl;
+    leaves = pass_leaves w world v.number (tell (length w.history)) refl refl refl refl refl refl refl;
     layout_is = refl;
     since_is = refl;
     opened_is = refl;
@@ -74,4 +74,5 @@ module _ (layout : Layout) (young : ℕ) (stuck : Option DiskPlace) (old : Trace
         given = sees.given;
         opened = sees.opened;
         shown = store.shown;
+        names = sees.names;
       }

@@ -14,7 +14,7 @@ use Rattle.fsfs_machine.specs.declared.machine.Went.TheVariants.{Fine, Before, A
 use Rattle.fsfs_machine.specs.Machine.{World, at_place}
 use Rattle.fsfs_machine.specs.Kept.{IsIn}
 use Rattle.fsfs_machine.proofs.Whose.{length_at}
-use Rattle.fsfs_turn.specs.Views.{View, Sees, given_by, Answers}
+use Rattle.fsfs_turn.specs.Views.{IsFull, View, Sees, given_by, Answers}
 use Rattle.fsfs_turn.specs.Past.{doubt, Safe}
 use Rattle.fsfs_turn.specs.Standing.{IsStore, Knows}
 
@@ -40,6 +40,9 @@ pub record Leaves (p : ℕ) (w after : World) : Type 0 where
   pub floor : after.floor ≡ w.floor
   pub lock : StaysWith p w.lock after.lock
   pub given : (k : ℕ) → IsIn k w.given → IsIn k after.given
+  -- where no name was left none is, and the number in `txn-current` is as it was, or the pass holds the lock
+  pub full : IsFull w.disk → IsFull after.disk
+  pub disk : (after.disk ≡ w.disk) ⊎ ((s : Section) × (w.lock ≡ Held p s))
 
 -- The state after a turn of the pass that knew v: the store with this trace is in it, and of what the pass knows then P holds.
 pub record IsAfter (layout : Layout) (young : ℕ) (stuck : Option DiskPlace) (t : Trace) (w : World) (v : View) (P : View → Type 0) : Type 0 where
@@ -73,8 +76,8 @@ given_more s went k given i = i
 
 -- after a call of its section
 pub section_leaves : (w after : World) (p : ℕ) (f : Pass → Pass) (s t : Section) (went : Went) → after.passes ≡ at_place w.passes p f → after.history ≡ w.history → after.young ≡ w.young → after.floor ≡ w.floor
-    → w.lock ≡ Held p s → after.lock ≡ Held p t → after.given ≡ given_by s went w.given → Leaves p w after
-section_leaves w after p f s t went passes history young floor held holds given = record {
+    → w.lock ≡ Held p s → after.lock ≡ Held p t → after.given ≡ given_by s went w.given → (IsFull w.disk → IsFull after.disk) → Leaves p w after
+section_leaves w after p f s t went passes history young floor held holds given full = record {
   passes = λ q apart. ap (λ xs. slice_get xs q) passes ∙ at_other w.passes p q f apart;
   count = ap length passes ∙ length_at w.passes p f;
   history = history;
@@ -82,11 +85,13 @@ section_leaves w after p f s t went passes history young floor held holds given 
   floor = floor;
   lock = inr (s, t, held, holds);
   given = λ k i. subst (λ ks. IsIn k ks) (sym given) (given_more s went k w.given i);
+  full = full;
+  disk = inr (s, held);
 }
 
 -- after a call that no section is about
-pub pass_leaves : (w after : World) (p : ℕ) (f : Pass → Pass) → after.passes ≡ at_place w.passes p f → after.history ≡ w.history → after.young ≡ w.young → after.floor ≡ w.floor → after.lock ≡ w.lock → after.given ≡ w.given → Leaves p w after
-pass_leaves w after p f passes history young floor lock given = record {
+pub pass_leaves : (w after : World) (p : ℕ) (f : Pass → Pass) → after.passes ≡ at_place w.passes p f → after.history ≡ w.history → after.young ≡ w.young → after.floor ≡ w.floor → after.lock ≡ w.lock → after.given ≡ w.given → after.disk ≡ w.disk → Leaves p w after
+pass_leaves w after p f passes history young floor lock given disk = record {
   passes = λ q apart. ap (λ xs. slice_get xs q) passes ∙ at_other w.passes p q f apart;
   count = ap length passes ∙ length_at w.passes p f;
   history = history;
@@ -94,6 +99,8 @@ pass_leaves w after p f passes history young floor lock given = record {
   floor = floor;
   lock = inl lock;
   given = λ k i. subst (λ ks. IsIn k ks) (sym given) i;
+  full = λ last. subst IsFull (sym disk) last;
+  disk = inl disk;
 }
 
 -- ---- one pass

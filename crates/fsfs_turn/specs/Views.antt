@@ -11,6 +11,9 @@ use Rattle.fsfs_layout.specs.declared.repository_file.RepositoryFile.TheVariants
 use Rattle.fsfs_layout.specs.Small.{IsRevLine, IsBase36Line}
 use Rattle.fsfs_layout.specs.Hash.Dump.{IsDump}
 use Rattle.fsfs_disk.specs.Trace as real
+use Rattle.fsfs_machine.specs.declared.contents.Contents.TheVariants.{Number}
+use Rattle.fsfs_machine.specs.declared.contents.FileName.TheVariants.{Counter}
+use Rattle.fsfs_machine.specs.Disk.{Disk, found}
 use Rattle.fsfs_machine.specs.declared.machine.Recorded.{Recorded}
 use Rattle.fsfs_machine.specs.declared.machine.Coming.{Coming}
 use Rattle.fsfs_machine.specs.declared.machine.Drawn.{Drawn}
@@ -28,7 +31,7 @@ use Rattle.fsfs_machine.specs.declared.machine.Outcome.{Outcome}
 use Rattle.fsfs_machine.specs.declared.machine.Outcome.TheVariants as outcome
 use Rattle.fsfs_machine.specs.declared.machine.Step.{Step}
 use Rattle.fsfs_machine.specs.declared.machine.Step.TheVariants as step
-use Rattle.fsfs_machine.specs.Machine.{World, Did, Happens, held_by, is_up, is_fine_in, is_quiet, either, answer, learns, reveals, after, spoiled, entry_of, revisions, with_next}
+use Rattle.fsfs_machine.specs.Machine.{World, Did, Happens, held_by, is_up, is_fine_in, is_quiet, either, answer, learns, reveals, after, spoiled, entry_of, revisions, with_next, last_name}
 use Rattle.fsfs_machine.specs.Kept.{Kept, IsIn, coming_in}
 use Rattle.fsfs_turn.specs.Bytes.{BytesShow, AllShow}
 use Rattle.fsfs_turn.specs.declared.since.Since.{Since}
@@ -53,6 +56,8 @@ pub record View : Type 0 where
   pub sure : Bool
   -- transaction names that it knows to be given
   pub given : List ℕ
+  -- it has met the last number that a name has digits for in `txn-current`
+  pub full : Bool
 
 abbrev pub coming_at : Option Section → Option Coming
 coming_at None = None
@@ -61,6 +66,27 @@ coming_at (Some s) = coming_in s
 abbrev pub is_held : Option Section → Bool
 is_held None = false
 is_held (Some s) = true
+
+-- ---- what it knows of `txn-current`
+
+-- the last number that a name has digits for stands there: no name is left
+abbrev pub IsFull : Disk → Type 0
+IsFull d = (n : ℕ) × (found d Counter ≡ Some (Number n)) × (last_name ≤ n)
+
+-- the name for which a section has read the number there, while the next one hasn't taken its place
+abbrev pub drawing_in : Section → Option Drawn
+drawing_in (CountRead x) = Some x
+drawing_in (CountPut x) = Some x
+drawing_in s = None
+
+abbrev pub drawing_at : Option Section → Option Drawn
+drawing_at None = None
+drawing_at (Some s) = drawing_in s
+
+-- Where no name was left none is, since no step makes the number less. The number that its section has read stands there still.
+pub record KnowsNames (met : Bool) (section : Option Section) (d : Disk) : Type 0 where
+  pub full : met ≡ true → IsFull d
+  pub drawing : (x : Drawn) → drawing_at section ≡ Some x → (found d Counter ≡ Some (Number x.name)) × (x.name < last_name)
 
 -- this is what the pass knows of the store
 pub record Sees (w : World) (v : View) : Type 0 where
@@ -75,6 +101,7 @@ pub record Sees (w : World) (v : View) : Type 0 where
   pub opened : v.opened ≤ length w.history
   -- the bytes beside what it has seen show it, and each first part of it
   pub shown : AllShow v.seen
+  pub names : KnowsNames v.full v.section w.disk
 
 abbrev pub txn_names : List Txn → List ℕ
 txn_names xs = map (λ x. x.name) xs

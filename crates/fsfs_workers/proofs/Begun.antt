@@ -54,6 +54,7 @@ beside moment since later js answers youngest h t same r = record {
   lines = r.lines;
   last = r.last;
   held = subst (λ n. (all : HoldsAll n t h (revisions r.now)) × (all.seen ≡ r.now)) same r.held;
+  full = r.full;
   stuck = r.stuck;
   certain = r.certain;
 }

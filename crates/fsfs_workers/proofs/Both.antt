@@ -1,5 +1,5 @@
 -- What two workers did, over the seat into which the second one's was joined.
-use Rattle.std.proofs.Common.{◌≡◌, ◌<◌, ◌≤◌, ◌+◌, ◌-◌, ◌/◌, ℕ, zero, suc, List, [], ◌∷◌, ◌++◌, length, Bool, true, false, cond, ap, sym, subst, refl, ◌∙◌, arith}
+use Rattle.std.proofs.Common.{◌≡◌, ◌<◌, ◌≤◌, ◌+◌, ◌-◌, ◌/◌, ℕ, zero, suc, List, [], ◌∷◌, ◌++◌, ◌||◌, length, Bool, true, false, cond, ⊎_elim, ap, sym, subst, refl, ◌∙◌, arith}
 use Rattle.std.specs.Prelude.{Option, Some, None, is_some}
 use Rattle.fsfs_disk.specs.Trace.{Trace}
 use Rattle.fsfs_base.specs.declared.places.place.DiskPlace.{DiskPlace}
@@ -23,7 +23,8 @@ use Rattle.fsfs_workers.specs.Two.{BothWorked}
 use Rattle.fsfs_workers.specs.OneWorker.{HasWorked}
 use Rattle.fsfs_workers.proofs.Counting.{faults_in_turn, benches_in_turn}
 use Rattle.fsfs_workers.proofs.InTurnLemmas.{first_share, second_share, shares_are_dealt, shares_are_all, length_in_turn}
-use Rattle.fsfs_workers.proofs.Shares.{share_is_calm, none_stuck}
+use Rattle.fsfs_job_run.proofs.Full.{then_true}
+use Rattle.fsfs_workers.proofs.Shares.{either_full, share_is_calm, none_stuck}
 
 -- ---- what its jobs leave
 
@@ -79,6 +80,7 @@ both_worked moment js answers v one two n met last each a b first_kin second_kin
       doubtless = λ calm few. both_harmless one.pass.faults two.pass.faults
           (without_doubt moment (dealt 2 0 js) (dealt 2 0 answers) (view_of (halved_view v)) (view_of one) a (share_is_calm 2 0 answers calm) few)
           (without_doubt moment (dealt 2 1 js) (dealt 2 1 answers) (view_of (numbered_view n met (split_pass v))) (view_of two) b (share_is_calm 2 1 answers calm) refl);
+      full = λ told. ⊎_elim (λ one_told. ap (λ (b : Bool). b || two.full) (first.names one_told)) (λ two_told. then_true one.full two.full (second.names two_told)) (either_full answers told);
       found = λ none. let free = neither_stuck one.pass.stuck two.pass.stuck none in none_stuck answers (first.stuck free.0) (second.stuck free.1);
     }
   where

@@ -74,6 +74,7 @@ module _ (knows : View → Type 0) (rose : Type 0) (moment k last : ℕ) (job : 
       outside = left.2.outside;
       doubtless = λ calm harmless. left.2.doubtless (c.doubtless harmless);
       still = λ found. left.2.still (c.still found);
+      full = λ full. left.2.full (c.full full);
     },
     tt,
   )

@@ -33,7 +33,9 @@ use Rattle.fsfs_jobs.specs.declared.answer.JobAnswer.TheVariants as answers
 use Rattle.fsfs_cli.specs.declared.faults.fault.Fault.{Fault}
 use Rattle.fsfs_cli.specs.declared.faults.fault.Fault.TheVariants.{Words, Request, Repository, Outside, Memory, Limit}
 use Rattle.fsfs_cli.specs.declared.faults.outside_fault.OutsideFault.TheVariants as outside
-use Rattle.fsfs_job_run.specs.Serial.Jobs.{own_of, tells_doubt, tells_stuck, Fails}
+use Rattle.fsfs_cli.specs.declared.faults.limit_fault.LimitFault.{LimitFault}
+use Rattle.fsfs_cli.specs.declared.faults.limit_fault.LimitFault.TheVariants as limits
+use Rattle.fsfs_job_run.specs.Serial.Jobs.{own_of, tells_doubt, tells_full, tells_stuck, Fails}
 use Rattle.fsfs_job_run.specs.Serial.Counts.{IfCounted}
 use Rattle.fsfs_job_run.specs.Running.{HasOutsideCause}
 use Rattle.fsfs_job_run.specs.Workers.Beside.{CountsIn, LineHolds, shown_in}
@@ -54,6 +56,7 @@ goes_on v m u a b = record {
   outside = b.outside;
   doubtless = λ few. b.doubtless (a.doubtless few);
   still = λ found. b.still (a.still found);
+  full = λ full. b.full (a.full full);
 }
 
 -- the last revision that it knows is as young as before or younger
@@ -80,6 +83,7 @@ by_look young v u none l = record {
   outside = ap {A = View} (λ z. z.section) l.is ∙ none;
   doubtless = same_faults v u (ap {A = View} (λ z. z.pass.faults) l.is);
   still = still_found v u (ap {A = View} (λ z. z.pass.stuck) l.is);
+  full = λ full. ap {A = View} (λ z. z.full) l.is ∙ full;
 }
 
 pub by_reading : (v u : View) → v.section ≡ None → ReadOnly v u → GoesOn v u
@@ -94,6 +98,7 @@ by_reading v u none r = record {
   outside = ap {A = View} (λ z. z.section) r.is ∙ none;
   doubtless = r.doubtless;
   still = still_found v u (ap {A = View} (λ z. z.pass.stuck) r.is);
+  full = λ full. ap {A = View} (λ z. z.full) r.is ∙ full;
 }
 
 -- the floor was read: the pass has seen what it was told of
@@ -116,6 +121,7 @@ by_floor floor went v u none f = (
     outside = ap {A = View} (λ z. z.section) f.is ∙ none;
     doubtless = λ few. ap {A = View} (λ z. are_harmless z.pass.faults) f.is ∙ floor_harmless went v.pass.faults few;
     still = still_found v u (ap {A = View} (λ z. z.pass.stuck) f.is);
+    full = λ full. ap {A = View} (λ z. z.full) f.is ∙ full;
   },
   ap {A = View} (λ z. z.pass.stuck) f.is,
   least,
@@ -142,6 +148,7 @@ by_moving v u m = record {
   outside = m.outside;
   doubtless = m.doubtless;
   still = m.still;
+  full = m.full;
 }
 
 -- one that was done
@@ -157,6 +164,7 @@ by_beginning name base settled v u b = record {
   outside = ap {A = View} (λ z. z.section) b.is;
   doubtless = b.doubtless;
   still = still_found v u (ap {A = View} (λ z. z.pass.stuck) b.is);
+  full = λ full. ap {A = View} (λ z. z.full) b.is ∙ full;
 }
 
 -- a commit that added nothing
@@ -172,6 +180,7 @@ by_falling v u none m brings = record {
   outside = m.section ∙ none;
   doubtless = brings;
   still = m.drifted.still;
+  full = m.drifted.full;
 }
 
 -- a purge
@@ -187,6 +196,7 @@ by_purge lay step v u none p = record {
   outside = ap {A = View} (λ z. z.section) p.is ∙ none;
   doubtless = same_faults v u (ap {A = View} (λ z. z.pass.faults) p.is);
   still = still_found v u (ap {A = View} (λ z. z.pass.stuck) p.is);
+  full = λ full. ap {A = View} (λ z. z.full) p.is ∙ full;
 }
 
 by_no_purge : (place : DiskPlace) (lay : World → World) (step : Step) (v u : View) → brings_doubt place ≡ false → v.section ≡ None → HasNotPurged place lay step v u → GoesOn v u
@@ -201,6 +211,7 @@ by_no_purge place lay step v u harmless none p = record {
   outside = ap {A = View} (λ z. z.section) p.is ∙ none;
   doubtless = fault_more place v u (ap {A = View} (λ z. z.pass.faults) p.is) harmless;
   still = still_found v u (ap {A = View} (λ z. z.pass.stuck) p.is);
+  full = λ full. ap {A = View} (λ z. z.full) p.is ∙ full;
 }
 
 pub by_purging : (knows : View → Type 0) (lay : World → World) (step : Went → Step) (result : Result (Unit {0}) PurgeFault) (v : View) → v.section ≡ None → Purges knows lay step result v → GoesOnKnown knows v
@@ -228,6 +239,7 @@ ends_so moment k job answer v u g none shown line = record {
   outside = g.outside;
   doubtless = λ calm. g.doubtless;
   still = g.still;
+  full = g.full;
 }
 
 -- or it failed, so that a revision may be in doubt
@@ -244,6 +256,7 @@ fails_so moment k job answer v m u moved none g brings bare shows fails counts =
   outside = g.outside;
   doubtless = λ calm few. g.doubtless (brings calm few);
   still = λ found. g.still (moved.drifted.still found);
+  full = λ full. g.full (moved.drifted.full full);
 }
 
 -- the same, of a job that added nothing
@@ -263,6 +276,7 @@ ends_behind moment k job answer v m u g w = record {
   outside = w.outside;
   doubtless = λ calm few. w.doubtless calm (g.doubtless few);
   still = λ found. w.still (g.still found);
+  full = λ full. w.full (g.full full);
 }
 
 -- it tells that the lock is stuck only where it was found so
@@ -282,6 +296,26 @@ told_stuck rose u (answers.Stopped line (Outside (outside.Stuck at))) cause told
 told_stuck rose u (answers.Stopped line Memory) cause told = absurd cc
 told_stuck rose u (answers.Stopped line (Limit why)) cause told = absurd cc
 
+-- nor that no name is left, but where it has met the last number of a name
+limit_full : (rose : Type 0) (u : View) (line : ℕ) (why : LimitFault) → HasOutsideCause rose u (answers.Stopped line (Limit why)) → tells_full (answers.Stopped line (Limit why)) ≡ true → u.full ≡ true
+limit_full rose u line limits.TextTooLong cause told = absurd cc
+limit_full rose u line limits.PropTooLong cause told = absurd cc
+limit_full rose u line limits.TooManyEntries cause told = absurd cc
+limit_full rose u line limits.TooManyJobs cause told = absurd cc
+limit_full rose u line limits.NamesFull cause told = cause
+limit_full rose u line limits.RevsFull cause told = absurd cc
+
+told_full : (rose : Type 0) (u : View) (answer : JobAnswer) → HasOutsideCause rose u answer → tells_full answer ≡ true → u.full ≡ true
+told_full rose u (answers.Committed rev) cause told = absurd cc
+told_full rose u (answers.Read text) cause told = absurd cc
+told_full rose u (answers.Conflict head path) cause told = absurd cc
+told_full rose u (answers.Stopped line (Words why)) cause told = absurd cc
+told_full rose u (answers.Stopped line (Request why)) cause told = absurd cc
+told_full rose u (answers.Stopped line (Repository why)) cause told = absurd cc
+told_full rose u (answers.Stopped line (Outside why)) cause told = absurd cc
+told_full rose u (answers.Stopped line Memory) cause told = absurd cc
+told_full rose u (answers.Stopped line (Limit why)) cause told = limit_full rose u line why cause told
+
 -- the whole, of a worker that knew what the pass knew
 pub works_all : (rose : Type 0) (moment : ℕ) (job : Job) (answer : JobAnswer) (v u : View) → HasOutsideCause rose u answer → WorksFrom moment (last_known v) job answer v u → WorksJob moment job answer v u
 works_all rose moment job answer v u cause w = record {
@@ -295,5 +329,7 @@ works_all rose moment job answer v u cause w = record {
   outside = w.outside;
   doubtless = w.doubtless;
   stuck = told_stuck rose u answer cause;
+  names = told_full rose u answer cause;
   still = w.still;
+  full = w.full;
 }

@@ -153,6 +153,7 @@ module _ (moment young : ℕ) (js : List Job) (answers : List JobAnswer) (v u : 
         lines = lines;
         last = last;
         held = held;
+        full = λ told. leaves.full (both.full told);
         stuck = λ quiet. both.found (calm (both.doubtless quiet few)).1;
         certain = λ quiet. stands_all (calm (both.doubtless quiet few)).0;
       }

@@ -34,6 +34,8 @@ pub record GoesOn (v u : View) : Type 0 where
   pub outside : u.section ≡ None
   pub doubtless : BringsNoDoubt v u
   pub still : is_some v.pass.stuck ≡ true → is_some u.pass.stuck ≡ true
+  -- and one that met the last number of a name knows still that no name is left
+  pub full : v.full ≡ true → u.full ≡ true
 
 -- the pass knows this behind such calls, and the lock was found stuck no more than it was
 abbrev pub GoesOnKnown : (View → Type 0) → View → Type 0
@@ -52,6 +54,8 @@ pub record WorksFrom (moment k : ℕ) (job : Job) (answer : JobAnswer) (v u : Vi
   pub outside : u.section ≡ None
   pub doubtless : tells_doubt answer ≡ false → BringsNoDoubt v u
   pub still : is_some v.pass.stuck ≡ true → is_some u.pass.stuck ≡ true
+  -- and one that met the last number of a name knows still that no name is left
+  pub full : v.full ≡ true → u.full ≡ true
 
 -- so it ended, and why it tells that the outside failed
 abbrev pub EndsFrom : (View → Type 0) → Type 0 → ℕ → ℕ → Job → JobAnswer → View → Type 0

@@ -7,7 +7,7 @@ use Rattle.fsfs_turn.specs.Views.{View, Begins}
 use Rattle.fsfs_script.specs.declared.job_lines.job.Job.{Job}
 use Rattle.fsfs_jobs.specs.Serial.{Runs, last_name}
 use Rattle.fsfs_jobs.specs.declared.answer.JobAnswer.{JobAnswer}
-use Rattle.fsfs_job_run.specs.Serial.Jobs.{own_of_all}
+use Rattle.fsfs_job_run.specs.Serial.Jobs.{own_of_all, tell_full}
 use Rattle.fsfs_job_run.specs.Workers.Beside.{RunsBeside, LineHolds}
 use Rattle.fsfs_job_run.specs.Workers.Lines.{TellNoneStuck, WorkerLines}
 use Rattle.fsfs_job_run.specs.Workers.Passes.{last_known, IsOnward, WorksJob, WorkJobs}
@@ -40,7 +40,11 @@ pub record Worked (moment : ℕ) (js : List Job) (answers : List JobAnswer) (v u
   pub own : u.pass.mine ≡ v.pass.mine ++ own_of_all answers
   -- none of them tells that the lock is stuck, where the pass has not found it so
   pub stuck : is_some u.pass.stuck ≡ false → TellNoneStuck answers
+  -- nor that no name is left, where it has not met the last number of a name
+  pub names : tell_full answers ≡ true → u.full ≡ true
   pub still : is_some v.pass.stuck ≡ true → is_some u.pass.stuck ≡ true
+  -- and one that met the last number of a name knows still that no name is left
+  pub full : v.full ≡ true → u.full ≡ true
 
 abbrev pub WorkersWorked : Type 0
 WorkersWorked = (moment : ℕ) (js : List Job) (answers : List JobAnswer) (v u : View) → WorkJobs moment js answers v u → Worked moment js answers v u

@@ -82,6 +82,8 @@ pub struct SeatView {
     pub section: Option<Section>,
     pub sure: bool,
     pub given: Names,
+    // it has met the last number that a name has digits for in `txn-current`
+    pub full: bool,
     pub told: bool,
     pub hand: Hand,
     // the trace of the disk as the pass met it last, at a look, at a reveal, or by a call of the disk
