@@ -62,8 +62,9 @@ pub enum DamageKind {
     /// The file isn't there; the offset is 0.
     Missing,
     /// An item of changed-path data says what the trees don't: what it adds, replaces or modifies isn't in the revision's
-    /// tree, what it deletes is, or another node-revision than its id's stands at its path; the offset is the item's. No
-    /// reading answers it: it will be told by the check of a whole repository, which is to come.
+    /// tree, what it deletes is, or another node-revision than its id's stands at its path; the offset is the item's, or 0
+    /// in a dump, which alone answers it today, of a path at which nothing stands. The rest will be told by the check of a
+    /// whole repository, which is to come.
     ChangePath,
     /// The predecessor of the node-revision there has another node part or another type, or not one predecessor less. No
     /// reading answers it: it will be told by the check of a whole repository, which is to come.
