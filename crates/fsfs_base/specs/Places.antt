@@ -8,6 +8,8 @@ use Rattle.fsfs_base.specs.declared.places.place.BeginPlace.{BeginPlace}
 use Rattle.fsfs_base.specs.declared.places.place.BeginPlace.TheVariants as begin
 use Rattle.fsfs_base.specs.declared.places.place.CommitPlace.{CommitPlace}
 use Rattle.fsfs_base.specs.declared.places.place.CommitPlace.TheVariants.{PutRev, PutProps, FirmRev, PutCurrent, RenameCurrent, FirmCurrent}
+use Rattle.fsfs_base.specs.declared.places.place.PackPlace.{PackPlace}
+use Rattle.fsfs_base.specs.declared.places.place.PackPlace.TheVariants as pack
 use Rattle.fsfs_base.specs.declared.places.place.DiskPlace.{DiskPlace}
 use Rattle.fsfs_base.specs.declared.places.place.DiskPlace.TheVariants as place
 
@@ -35,6 +37,14 @@ commit_place_word PutCurrent = codes "PutCurrent"
 commit_place_word RenameCurrent = codes "RenameCurrent"
 commit_place_word FirmCurrent = codes "FirmCurrent"
 
+abbrev pub pack_place_word : PackPlace → List ℕ
+pack_place_word pack.AdoptPack = codes "AdoptPack"
+pack_place_word pack.AdoptManifest = codes "AdoptManifest"
+pack_place_word pack.FirmPack = codes "FirmPack"
+pack_place_word pack.PutFloor = codes "PutFloor"
+pack_place_word pack.RenameFloor = codes "RenameFloor"
+pack_place_word pack.FirmFloor = codes "FirmFloor"
+
 abbrev pub place_word : DiskPlace → List ℕ
 place_word place.Read = codes "Read"
 place_word place.List = codes "List"
@@ -44,3 +54,4 @@ place_word (place.Open call) = open_place_word call
 place_word (place.Create call) = create_place_word call
 place_word (place.Begin call) = begin_place_word call
 place_word (place.Commit call) = commit_place_word call
+place_word (place.Pack call) = pack_place_word call

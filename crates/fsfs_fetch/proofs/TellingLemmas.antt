@@ -237,6 +237,7 @@ below_same v floor kept = refl
 pub tells_own : {B : Type 0} (v : View B) (floor : ℕ) (m : Files) → v.files ≡ Some m → HasShortFiles m → TellsOwn v floor m (telling v floor None)
 tells_own v floor m told short = record {
   revs = λ rev known le own. tells_found v floor None m rev (record { told = told; known = known; right = make_right v.layout m floor None rev (λ lt. absurd (omega (arith, lt, le))) (λ _. own) }) (short_bytes v.layout m rev short);
+  packed = λ rev known less packed. tells_found v floor None m rev (record { told = told; known = known; right = make_right v.layout m floor None rev (λ _. (packed, refl)) (λ le. absurd (omega (arith, less, le))) }) (short_bytes v.layout m rev short);
 }
 
 pub tells_files : {B : Type 0} (v : View B) (floor : ℕ) (m : Files) → v.files ≡ Some m → floor_in v.layout m ≡ Ok floor → HasShortFiles m → TellsFiles v m (telling v floor None)

@@ -1,5 +1,5 @@
 -- What a reader tells that keeps a floor and a manifest.
-use Rattle.std.specs.Prelude.{◌≡◌, ◌≤◌, ℕ, Bool, true, false, nat_lt, nat_eq, ◌==◌, ◌&&◌, if◌then◌else◌, List, [], length, Option, Some, None, Result, Ok, Err}
+use Rattle.std.specs.Prelude.{◌≡◌, ◌<◌, ◌≤◌, ℕ, Bool, true, false, nat_lt, nat_eq, ◌==◌, ◌&&◌, if◌then◌else◌, List, [], length, Option, Some, None, Result, Ok, Err}
 use Rattle.std.specs.Cmp.Lexicographic.{pointwise}
 use Rattle.fsfs_base.specs.Files.{Files}
 use Rattle.fsfs_base.specs.declared.small_fault.SmallFault.{SmallFault}
@@ -68,9 +68,11 @@ pub record TellsFiles {B : Type 0} (view : View B) (files : Files) {Below : Type
   pub revs : (rev : ℕ) → IsKnown view.reach rev → told.revs rev ≡ Some (rev_bytes view.layout files rev)
   pub youngest : told.youngest ≡ last_of view.reach
 
--- Of these revisions all is told that these files say: of one at or above this floor whose own file has its bytes, where there is one.
+-- Of these revisions all is told that these files say: of one at or above this floor whose own file has its bytes, where there is one, and
+-- of one below it that is packed.
 pub record TellsOwn {B : Type 0} (view : View B) (floor : ℕ) (files : Files) {Below : Type 0} (told : Telling Below) : Type 0 where
   pub revs : (rev : ℕ) → IsKnown view.reach rev → floor ≤ rev → agrees (rev_file view.layout files rev) (rev_bytes view.layout files rev) ≡ true → told.revs rev ≡ Some (rev_bytes view.layout files rev)
+  pub packed : (rev : ℕ) → IsKnown view.reach rev → rev < floor → is_packed view.layout files rev ≡ true → told.revs rev ≡ Some (rev_bytes view.layout files rev)
 
 abbrev pub keeps_shard : Option KeptManifest → ℕ → Bool
 keeps_shard None shard = false

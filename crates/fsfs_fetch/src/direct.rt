@@ -45,7 +45,8 @@ impl<R: Reads> Direct<R> {
         ensures kept { result.kept ≡ None }
         ensures told { (m : Files) → (R.view reads).files ≡ Some m → floor_in (R.view reads).layout m ≡ Ok floor
             → TellsFiles (R.view reads) m (⟦<Direct<R> as Book>⟧.told result) }
-        // With any floor, of each revision from it on whose own file isn't left over from before it was packed.
+        // With any floor, of each revision from it on whose own file isn't left over from before it was packed, and of each below it that is
+        // packed.
         ensures own { (m : Files) → (R.view reads).files ≡ Some m → TellsOwn (R.view reads) floor m (⟦<Direct<R> as Book>⟧.told result) }
         // Of the property files of revisions that there are it may read what the store's looks may meet.
         ensures props { (r : ℕ) (read : Result (List ℕ) Refusal) → ⟦<Direct<R> as RevProps>⟧.may_read result r read → may_read (R.view reads).reach (R.may_meet reads) r read }

@@ -67,7 +67,14 @@ impl History {
     pub fn get(&self, rev: RevNum) -> Option<&Revision>
         ensures { option_copied result ≡ slice_get self.now rev }
     {
-        self.revisions.get(rev.get() as usize)
+        self.at(rev.get() as usize)
+    }
+
+    /// The revision at this place.
+    pub fn at(&self, place: usize) -> Option<&Revision>
+        ensures { option_copied result ≡ slice_get self.now place }
+    {
+        self.revisions.get(place)
     }
 
     /// Adds the next revision.

@@ -1,6 +1,6 @@
 //! Which call of a disk it was that failed.
 ghost use Rattle.std.specs.Prelude.{◌≡◌, ◌≤◌, length};
-ghost use Rattle.fsfs_base.specs.Places.{open_place_word, create_place_word, begin_place_word, commit_place_word, place_word};
+ghost use Rattle.fsfs_base.specs.Places.{open_place_word, create_place_word, begin_place_word, commit_place_word, pack_place_word, place_word};
 
 /// A place of an opening.
 #[derive(Clone, Copy, Debug)]
@@ -110,6 +110,39 @@ impl CommitPlace {
     }
 }
 
+/// A place of a pack's section.
+#[derive(Clone, Copy, Debug)]
+pub enum PackPlace {
+    /// The pack of a shard gets its name.
+    AdoptPack,
+    /// The manifest beside it gets its name.
+    AdoptManifest,
+    /// The names of both are made firm.
+    FirmPack,
+    /// The new floor is put under another name than `min-unpacked-rev`.
+    PutFloor,
+    /// That file becomes `min-unpacked-rev`.
+    RenameFloor,
+    /// That name is made firm.
+    FirmFloor,
+}
+
+impl PackPlace {
+    fn word(self) -> &'static str
+        ensures text { result.now ≡ pack_place_word self }
+        ensures short { length result.now ≤ 16 }
+    {
+        match self {
+            PackPlace::AdoptPack => "AdoptPack",
+            PackPlace::AdoptManifest => "AdoptManifest",
+            PackPlace::FirmPack => "FirmPack",
+            PackPlace::PutFloor => "PutFloor",
+            PackPlace::RenameFloor => "RenameFloor",
+            PackPlace::FirmFloor => "FirmFloor",
+        }
+    }
+}
+
 /// The place of a call of a disk: which call it was that failed.
 #[derive(Clone, Copy, Debug)]
 pub enum DiskPlace {
@@ -125,6 +158,7 @@ pub enum DiskPlace {
     Create(CreatePlace),
     Begin(BeginPlace),
     Commit(CommitPlace),
+    Pack(PackPlace),
 }
 
 impl DiskPlace {
@@ -142,6 +176,7 @@ impl DiskPlace {
             DiskPlace::Create(place) => place.word(),
             DiskPlace::Begin(place) => place.word(),
             DiskPlace::Commit(place) => place.word(),
+            DiskPlace::Pack(place) => place.word(),
         }
     }
 }
