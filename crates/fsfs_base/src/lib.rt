@@ -49,9 +49,7 @@ pub use paths::path::FsPath;
 pub use paths::path_text::is_name;
 pub use places::create_fault::CreateFault;
 pub use places::open_fault::OpenFault;
-pub use places::place::{
-    BeginPlace, CommitPlace, CreatePlace, DiskPlace, OpenPlace, PackPlace,
-};
+pub use places::place::{BeginPlace, CommitPlace, CreatePlace, DiskPlace, OpenPlace, PackPlace};
 pub use room::fitting;
 pub use small_fault::{SmallFault, SmallFile};
 pub use streams::{Clock, Dice, Gate, GatePlace, Sink, Source};

@@ -26,11 +26,15 @@ use Rattle.fsfs_turn.specs.Bytes.{bytes_of}
 use Rattle.fsfs_turn.specs.Courses.{Course, ReadOnly, End as CourseEnd, More as CourseMore}
 use Rattle.fsfs_turn.specs.Labels.{KeepsLabels, Relabels}
 use Rattle.fsfs_turn.specs.Learning.{MayMake}
-use Rattle.fsfs_turn.specs.Views.{View, Begins, Looked, LockTaken, LockGiven, MayGive, is_held}
+use Rattle.fsfs_turn.specs.Views.{View, Begins, Looked, LockTaken, LockGiven, MayGive, Turned, is_held, left_by}
+use Rattle.fsfs_turn.proofs.Locking.{quiet_left}
 use Rattle.fsfs_turn.proofs.Doubts.{same_faults}
 use Rattle.fsfs_turn.proofs.Reading.{begins_on}
 use Rattle.fsfs_turn.proofs.Moments.{begins_itself}
-use Rattle.fsfs_begin.specs.Steps.{Steps, End, HasName, Moved}
+use Rattle.fsfs_machine.specs.declared.machine.Outcome.{Outcome}
+use Rattle.fsfs_machine.specs.declared.machine.Step.{Step}
+use Rattle.fsfs_machine.specs.declared.machine.Txn.{Txn}
+use Rattle.fsfs_begin.specs.Steps.{Steps, End, HasName, Moved, met_last}
 use Rattle.fsfs_begin.specs.Drawing.{Draws}
 use Rattle.fsfs_begin.specs.Faults.{Cause, LacksNumber, NoNumber, named_fault, read_fault}
 use Rattle.fsfs_begin.specs.Begun.{IsMade, IsMadeAmong, HasBegunAmong}
@@ -38,7 +42,7 @@ use Rattle.fsfs_begin.specs.Labels.{ListsNoMore}
 use Rattle.fsfs_begin.specs.declared.begin_fault.BeginFault.{BeginFault}
 use Rattle.fsfs_begin.proofs.Benching.{no_more_on}
 use Rattle.fsfs_begin.proofs.Going.{steps_on, one_turn}
-use Rattle.fsfs_begin.proofs.Moving.{moved_on, by_look, moved_by, may_give, given_over, bytes_stay, longer}
+use Rattle.fsfs_begin.proofs.Moving.{moved_on, by_look, begun_at, may_give, given_over, bytes_stay, longer}
 use Rattle.fsfs_begin.proofs.Parts.{above_given}
 
 -- ---- the lock may be given, however the section went
@@ -46,8 +50,8 @@ use Rattle.fsfs_begin.proofs.Parts.{above_given}
 pub held_begun : (v : View) → v.section ≡ Some Begun → MayGive v
 held_begun v at = record { inside = Begun; is = at; quiet = refl }
 
-pub give_due : (known : View → Type 0) (base : ℕ) (r : Result TxnName NameFault) (m : View) (P : Type 0) → m.section ≡ Some Begun → Draws known base r m ⊎ (P × OnOk r ⊥ × IfErr r NoNumber × known m) → (u : View) × known u × MayGive u
-give_due known base r m P at (inr p) = (m, p.3, held_begun m at)
+pub give_due : (known : View → Type 0) (base : ℕ) (r : Result TxnName NameFault) (m : View) (P : Type 0) → m.section ≡ Some Begun → Draws known base r m ⊎ (P × OnOk r ⊥ × IfErr r NoNumber × known (met_last m)) → (u : View) × known u × MayGive u
+give_due known base r m P at (inr p) = (met_last m, p.3, held_begun (met_last m) at)
 give_due known base (Ok name) m P at (inl d) = (d.0, d.1, given_over name.number.number m d.0 d.2)
 give_due known base (Err why) m P at (inl d) = (d.0, d.1, may_give base m d.0 why d.2)
 
@@ -61,8 +65,37 @@ lacks_named (names.DiskFault begin.Rename) w = absurd w
 lacks_named (names.DiskFault begin.Firm) w = absurd w
 lacks_named names.Memory w = absurd w
 
-pub undrawn_moved : (v m u : View) → LockTaken v m → LockGiven (step.GiveLock m.number) m u → Moved v u
-undrawn_moved v m u t g = moved_by v m m u t g (begins_itself m.seen) (End m) refl refl refl refl refl refl refl refl (λ few. few)
+-- what is known of a store to which the last number was met is known of it without that
+less_known : (txns : List Txn) (s : Step) (o : Outcome) (m u : View) → Turned txns s o (met_last m) u → Turned txns s o m u
+less_known txns s o m u t = record {
+  world = t.world;
+  kept = t.kept;
+  sees = (let e = t.sees in record { pass = e.pass; seen = e.seen; section = e.section; up = e.up; sure = e.sure; whole = e.whole; given = e.given; opened = e.opened; shown = e.shown; names = record { full = λ full. e.names.full refl; drawing = e.names.drawing } });
+  did = t.did;
+  happens = t.happens;
+  answers = t.answers;
+  after = t.after;
+  leaves = t.leaves;
+}
+
+pub undrawn_moved : (v m u : View) → LockTaken v m → LockGiven (step.GiveLock m.number) (met_last m) u → Moved v u
+undrawn_moved v m u t g = record {
+  number = ap {A = View} (λ z. z.number) g.is ∙ ap {A = View} (λ z. z.number) t.is;
+  layout = ap {A = View} (λ z. z.layout) g.is ∙ ap {A = View} (λ z. z.layout) t.is;
+  since = ap {A = View} (λ z. z.since) g.is ∙ ap {A = View} (λ z. z.since) t.is;
+  opened = ap {A = View} (λ z. z.opened) g.is ∙ ap {A = View} (λ z. z.opened) t.is;
+  mine = ap {A = View} (λ z. z.pass.mine) g.is ∙ ap {A = View} (λ z. z.pass.mine) t.is;
+  least = let e : u.pass.least ≡ v.pass.least = ap {A = View} (λ z. z.pass.least) g.is ∙ ap {A = View} (λ z. z.pass.least) t.is in omega (arith, e);
+  grows = subst (λ l. Begins l v.seen) (sym (ap {A = View} (λ z. z.seen) g.is ∙ ap {A = View} (λ z. z.seen) t.is)) (begins_itself v.seen);
+  more = [];
+  given = ap {A = View} (λ z. z.given) g.is ∙ ap {A = View} (λ z. z.given) t.is;
+  still = λ stuck. ap {A = View} (λ z. is_some z.pass.stuck) g.is ∙ ap {A = View} (λ z. is_some z.pass.stuck) t.is ∙ stuck;
+  full = λ full. ap {A = View} (λ z. z.full) g.is;
+  outside = ap {A = View} (λ z. z.section) g.is;
+  left = ap {A = View} (λ z. z.left) g.is ∙ ap (λ o. left_by o m.left) (begun_at v m t) ∙ quiet_left Begun m.left refl ∙ ap {A = View} (λ z. z.left) t.is;
+  doubtless = λ few. same_faults m u (ap {A = View} (λ z. z.pass.faults) g.is) (same_faults v m (ap {A = View} (λ z. z.pass.faults) t.is) few);
+  steps = steps_on v m u (one_turn [] (step.TakeLock v.number) outcome.Done v m t.turned) (one_turn [] (step.GiveLock m.number) outcome.Done m u (less_known [] (step.GiveLock m.number) outcome.Done m u g.turned));
+}
 
 -- ---- reading
 
@@ -75,6 +108,7 @@ by_reading v u none r = record {
   number = ap {A = View} (λ z. z.number) r.is;
   layout = ap {A = View} (λ z. z.layout) r.is;
   since = ap {A = View} (λ z. z.since) r.is;
+  left = ap {A = View} (λ z. z.left) r.is;
   opened = ap {A = View} (λ z. z.opened) r.is;
   mine = ap {A = View} (λ z. z.pass.mine) r.is;
   least = let e : u.pass.least ≡ v.pass.least = ap {A = View} (λ z. z.pass.least) r.is in omega (arith, e);
@@ -82,6 +116,7 @@ by_reading v u none r = record {
   more = [];
   given = ap {A = View} (λ z. z.given) r.is;
   still = λ stuck. ap {A = View} (λ z. is_some z.pass.stuck) r.is ∙ stuck;
+  full = λ full. ap {A = View} (λ z. z.full) r.is ∙ full;
   outside = ap {A = View} (λ z. z.section) r.is ∙ none;
   doubtless = r.doubtless;
   steps = steps_of v u r.course;

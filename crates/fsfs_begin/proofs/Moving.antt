@@ -15,13 +15,14 @@ use Rattle.fsfs_machine.specs.Machine.{is_fine_in, answer}
 use Rattle.fsfs_machine.specs.Kept.{AllBelow, IsIn}
 use Rattle.fsfs_turn.specs.Alone.{BringsNoDoubt, are_harmless, brings_doubt}
 use Rattle.fsfs_turn.specs.Bytes.{bytes_beside, bytes_of}
-use Rattle.fsfs_turn.specs.Views.{View, Begins, Looked, LockTaken, FoundStuck, LockGiven, MayGive, outside}
+use Rattle.fsfs_turn.specs.Views.{View, Begins, Looked, LockTaken, FoundStuck, LockGiven, MayGive, left_by, outside}
 use Rattle.fsfs_turn.specs.Learning.{BenchMade, SpentPurged, MayMake, drawn_of, with_named, with_spent}
 use Rattle.fsfs_turn.proofs.Doubts.{harmless_more, same_faults}
 use Rattle.fsfs_begin.specs.Steps.{Steps, End, Stopped, IsGiven, HasName, Moved, HasFault}
 use Rattle.fsfs_begin.specs.Drawing.{IsUndrawn}
 use Rattle.fsfs_begin.specs.Faults.{Cause, named_fault}
 use Rattle.fsfs_begin.specs.Begun.{IsMade}
+use Rattle.fsfs_turn.proofs.Locking.{quiet_left}
 use Rattle.fsfs_turn.proofs.Reading.{begins_on}
 use Rattle.fsfs_turn.proofs.Moments.{begins_itself}
 use Rattle.fsfs_begin.proofs.Going.{steps_on, one_step, one_turn}
@@ -29,13 +30,14 @@ use Rattle.fsfs_begin.proofs.Going.{steps_on, one_step, one_turn}
 -- ---- the pass moved on
 
 pub moved_itself : (v : View) → v.section ≡ None → Moved v v
-moved_itself v none = record { number = refl; layout = refl; since = refl; opened = refl; mine = refl; least = omega arith; grows = begins_itself v.seen; more = []; given = refl; still = λ stuck. stuck; outside = none; doubtless = λ few. few; steps = End v }
+moved_itself v none = record { number = refl; layout = refl; since = refl; left = refl; opened = refl; mine = refl; least = omega arith; grows = begins_itself v.seen; more = []; given = refl; still = λ stuck. stuck; full = λ full. full; outside = none; doubtless = λ few. few; steps = End v }
 
 pub moved_on : (v m u : View) → Moved v m → Moved m u → Moved v u
 moved_on v m u a b = record {
   number = b.number ∙ a.number;
   layout = b.layout ∙ a.layout;
   since = b.since ∙ a.since;
+  left = b.left ∙ a.left;
   opened = b.opened ∙ a.opened;
   mine = b.mine ∙ a.mine;
   least = omega (arith, a.least, b.least);
@@ -43,6 +45,7 @@ moved_on v m u a b = record {
   more = b.more ++ a.more;
   given = b.given ∙ ap (λ l. b.more ++ l) a.given ∙ sym (append_assoc b.more a.more v.given);
   still = λ stuck. b.still (a.still stuck);
+  full = λ full. b.full (a.full full);
   outside = b.outside;
   doubtless = λ few. b.doubtless (a.doubtless few);
   steps = steps_on v m u a.steps b.steps;
@@ -56,6 +59,7 @@ by_look young v u none l = record {
   number = ap {A = View} (λ z. z.number) l.is;
   layout = ap {A = View} (λ z. z.layout) l.is;
   since = ap {A = View} (λ z. z.since) l.is;
+  left = ap {A = View} (λ z. z.left) l.is;
   opened = ap {A = View} (λ z. z.opened) l.is;
   mine = ap {A = View} (λ z. z.pass.mine) l.is;
   least = let e : u.pass.least ≡ young = ap {A = View} (λ z. z.pass.least) l.is in omega (arith, e, l.least);
@@ -63,6 +67,7 @@ by_look young v u none l = record {
   more = [];
   given = ap {A = View} (λ z. z.given) l.is;
   still = λ stuck. ap {A = View} (λ z. is_some z.pass.stuck) l.is ∙ stuck;
+  full = λ full. ap {A = View} (λ z. z.full) l.is ∙ full;
   outside = ap {A = View} (λ z. z.section) l.is ∙ none;
   doubtless = same_faults v u (ap {A = View} (λ z. z.pass.faults) l.is);
   steps = one_turn [] (step.Look v.number) (outcome.Youngest young) v u l.turned;
@@ -73,6 +78,7 @@ by_stuck at v u none f = record {
   number = ap {A = View} (λ z. z.number) f.is;
   layout = ap {A = View} (λ z. z.layout) f.is;
   since = ap {A = View} (λ z. z.since) f.is;
+  left = ap {A = View} (λ z. z.left) f.is;
   opened = ap {A = View} (λ z. z.opened) f.is;
   mine = ap {A = View} (λ z. z.pass.mine) f.is;
   least = let e : u.pass.least ≡ v.pass.least = ap {A = View} (λ z. z.pass.least) f.is in omega (arith, e);
@@ -80,6 +86,7 @@ by_stuck at v u none f = record {
   more = [];
   given = ap {A = View} (λ z. z.given) f.is;
   still = λ stuck. ap {A = View} (λ z. is_some z.pass.stuck) f.is;
+  full = λ full. ap {A = View} (λ z. z.full) f.is ∙ full;
   outside = ap {A = View} (λ z. z.section) f.is ∙ none;
   doubtless = same_faults v u (ap {A = View} (λ z. z.pass.faults) f.is);
   steps = one_turn [] (step.TakeLock v.number) (outcome.Stuck at) v u f.turned;
@@ -90,6 +97,7 @@ by_name name v u h = record {
   number = ap {A = View} (λ z. z.number) h.is;
   layout = ap {A = View} (λ z. z.layout) h.is;
   since = ap {A = View} (λ z. z.since) h.is;
+  left = ap {A = View} (λ z. z.left) h.is;
   opened = ap {A = View} (λ z. z.opened) h.is;
   mine = ap {A = View} (λ z. z.pass.mine) h.is;
   least = let e : u.pass.least ≡ v.pass.least = ap {A = View} (λ z. z.pass.least) h.is in omega (arith, e);
@@ -97,6 +105,7 @@ by_name name v u h = record {
   more = name ∷ [];
   given = ap {A = View} (λ z. z.given) h.is;
   still = λ stuck. ap {A = View} (λ z. is_some z.pass.stuck) h.is ∙ stuck;
+  full = λ full. ap {A = View} (λ z. z.full) h.is ∙ full;
   outside = ap {A = View} (λ z. z.section) h.is;
   doubtless = same_faults v u (ap {A = View} (λ z. z.pass.faults) h.is);
   steps = h.steps;
@@ -153,8 +162,9 @@ module _ (v m k u : View) (t : LockTaken v m) (g : LockGiven (step.GiveLock k.nu
     steps = course;
   }
 
-  pub moved_by : (number : k.number ≡ m.number) → k.layout ≡ m.layout → k.since ≡ m.since → k.opened ≡ m.opened → k.pass.mine ≡ m.pass.mine → k.pass.least ≡ m.pass.least → k.pass.stuck ≡ m.pass.stuck → k.given ≡ m.given → BringsNoDoubt m k → Moved v u
-  moved_by number layout since opened mine least found given doubtless = record {
+  pub moved_by : (number : k.number ≡ m.number) → k.layout ≡ m.layout → k.since ≡ m.since → k.opened ≡ m.opened → k.pass.mine ≡ m.pass.mine → k.pass.least ≡ m.pass.least → k.pass.stuck ≡ m.pass.stuck → k.full ≡ m.full → k.given ≡ m.given → BringsNoDoubt m k → k.left ≡ m.left → MayGive k → Moved v u
+  moved_by number layout since opened mine least found full given doubtless left may = record {
+    left = ap {A = View} (λ z. z.left) g.is ∙ ap (λ o. left_by o k.left) may.is ∙ quiet_left may.inside k.left may.quiet ∙ left ∙ ap {A = View} (λ z. z.left) t.is;
     number = ap {A = View} (λ z. z.number) g.is ∙ number ∙ ap {A = View} (λ z. z.number) t.is;
     layout = ap {A = View} (λ z. z.layout) g.is ∙ layout ∙ ap {A = View} (λ z. z.layout) t.is;
     since = ap {A = View} (λ z. z.since) g.is ∙ since ∙ ap {A = View} (λ z. z.since) t.is;
@@ -165,6 +175,7 @@ module _ (v m k u : View) (t : LockTaken v m) (g : LockGiven (step.GiveLock k.nu
     more = [];
     given = ap {A = View} (λ z. z.given) g.is ∙ given ∙ ap {A = View} (λ z. z.given) t.is;
     still = λ stuck. ap {A = View} (λ z. is_some z.pass.stuck) g.is ∙ ap (λ o. is_some o) found ∙ ap {A = View} (λ z. is_some z.pass.stuck) t.is ∙ stuck;
+    full = λ met. ap {A = View} (λ z. z.full) g.is ∙ full ∙ ap {A = View} (λ z. z.full) t.is ∙ met;
     outside = ap {A = View} (λ z. z.section) g.is;
     doubtless = λ few. same_faults k u (ap {A = View} (λ z. z.pass.faults) g.is) (doubtless (same_faults v m (ap {A = View} (λ z. z.pass.faults) t.is) few));
     steps = course;
@@ -178,13 +189,13 @@ pub undrawn : (base : ℕ) (v m k u : View) (why : NameFault) → LockTaken v m 
 undrawn base v m k u (names.Small fault) t w g = absurd w
 undrawn base v m k u names.NamesFull t w g = absurd w
 undrawn base v m k u (names.DiskFault call) t w g = (
-  moved_by v m k u t g w.grows w.steps (ap {A = View} (λ z. z.number) w.is) (ap {A = View} (λ z. z.layout) w.is) (ap {A = View} (λ z. z.since) w.is) (ap {A = View} (λ z. z.opened) w.is) (ap {A = View} (λ z. z.pass.mine) w.is) (ap {A = View} (λ z. z.pass.least) w.is) (ap {A = View} (λ z. z.pass.stuck) w.is) (ap {A = View} (λ z. z.given) w.is)
-      (λ few. ap {A = View} (λ z. are_harmless z.pass.faults) w.is ∙ harmless_more m.pass.faults (place.Begin call) few refl),
+  moved_by v m k u t g w.grows w.steps (ap {A = View} (λ z. z.number) w.is) (ap {A = View} (λ z. z.layout) w.is) (ap {A = View} (λ z. z.since) w.is) (ap {A = View} (λ z. z.opened) w.is) (ap {A = View} (λ z. z.pass.mine) w.is) (ap {A = View} (λ z. z.pass.least) w.is) (ap {A = View} (λ z. z.pass.stuck) w.is) (ap {A = View} (λ z. z.full) w.is) (ap {A = View} (λ z. z.given) w.is)
+      (λ few. ap {A = View} (λ z. are_harmless z.pass.faults) w.is ∙ harmless_more m.pass.faults (place.Begin call) few refl) (ap {A = View} (λ z. z.left) w.is) (may_give base m k (names.DiskFault call) w),
   record { before = v.pass.faults; later = []; is = stopped_faults v m k u t g w.grows w.steps call w },
 )
 undrawn base v m k u names.Memory t w g = (
-  moved_by v m k u t g w.1.grows w.1.steps (ap {A = View} (λ z. z.number) w.1.is) (ap {A = View} (λ z. z.layout) w.1.is) (ap {A = View} (λ z. z.since) w.1.is) (ap {A = View} (λ z. z.opened) w.1.is) (ap {A = View} (λ z. z.pass.mine) w.1.is) (ap {A = View} (λ z. z.pass.least) w.1.is) (ap {A = View} (λ z. z.pass.stuck) w.1.is) (ap {A = View} (λ z. z.given) w.1.is)
-      (same_faults m k (ap {A = View} (λ z. z.pass.faults) w.1.is)),
+  moved_by v m k u t g w.1.grows w.1.steps (ap {A = View} (λ z. z.number) w.1.is) (ap {A = View} (λ z. z.layout) w.1.is) (ap {A = View} (λ z. z.since) w.1.is) (ap {A = View} (λ z. z.opened) w.1.is) (ap {A = View} (λ z. z.pass.mine) w.1.is) (ap {A = View} (λ z. z.pass.least) w.1.is) (ap {A = View} (λ z. z.pass.stuck) w.1.is) (ap {A = View} (λ z. z.full) w.1.is) (ap {A = View} (λ z. z.given) w.1.is)
+      (same_faults m k (ap {A = View} (λ z. z.pass.faults) w.1.is)) (ap {A = View} (λ z. z.left) w.1.is) (may_give base m k names.Memory w),
   tt,
 )
 
@@ -203,6 +214,7 @@ told_moved at fine v u harmless none is grows steps = record {
   number = ap {A = View} (λ z. z.number) is;
   layout = ap {A = View} (λ z. z.layout) is;
   since = ap {A = View} (λ z. z.since) is;
+  left = ap {A = View} (λ z. z.left) is;
   opened = ap {A = View} (λ z. z.opened) is;
   mine = ap {A = View} (λ z. z.pass.mine) is;
   least = let e : u.pass.least ≡ v.pass.least = ap {A = View} (λ z. z.pass.least) is in omega (arith, e);
@@ -210,6 +222,7 @@ told_moved at fine v u harmless none is grows steps = record {
   more = [];
   given = ap {A = View} (λ z. z.given) is;
   still = λ stuck. ap {A = View} (λ z. is_some z.pass.stuck) is ∙ stuck;
+  full = λ full. ap {A = View} (λ z. z.full) is ∙ full;
   outside = ap {A = View} (λ z. z.section) is ∙ none;
   doubtless = λ few. ap {A = View} (λ z. are_harmless z.pass.faults) is ∙ told_harmless at fine v.pass.faults harmless few;
   steps = steps;

@@ -21,7 +21,7 @@ use Rattle.fsfs_machine.specs.Machine.{is_fine_in, last_name}
 use Rattle.fsfs_turn.specs.Views.{View, Answers}
 use Rattle.fsfs_turn.specs.Learning.{ReadsCounter, CounterRead}
 use Rattle.fsfs_base.specs.declared.places.place.BeginPlace.TheVariants as place
-use Rattle.fsfs_begin.specs.Steps.{FilesStay, HasLastName, MeetsLastName}
+use Rattle.fsfs_begin.specs.Steps.{FilesStay, HasLastName, MeetsLastName, met_last}
 use Rattle.fsfs_begin.specs.Drawing.{Counts, HasRead}
 use Rattle.fsfs_begin.specs.Faults.{NoNumber}
 use Rattle.fsfs_begin.proofs.Going.{count_reached, count_stopped}
@@ -64,7 +64,7 @@ err_drawn (Err e) A P f never w = ⊎_elim (λ d. inl (f d)) (λ q. absurd (neve
 module _ {E : Type 0} (known : View → Type 0) {Lasting : Type 0} (s : StoreView Lasting) (base : ℕ) (old new : List ℕ) (v : View) (size : length old ≡ 64) where
   -- where bytes came, they are the number's
   pub counts_some : (count : ℕ) (bytes : List ℕ) (found : Result B36 NameFault) → bytes ≡ take count new → (r : Result (Option ℕ) E) → r ≡ Ok (Some count) → ReadsCounter known s.files base r old new v
-      → IfOk found (λ b. IsBase36Line bytes b.number) → IfErr found (IsSmallIn bytes) → Counts known base found v ⊎ (known v × IfOk found (λ b. last_name ≤ b.number) × IfErr found NoNumber × HasLastName s)
+      → IfOk found (λ b. IsBase36Line bytes b.number) → IfErr found (IsSmallIn bytes) → Counts known base found v ⊎ (known (met_last v) × IfOk found (λ b. last_name ≤ b.number) × IfErr found NoNumber × HasLastName s)
   counts_some count bytes found bytes_are r is c ok err = ⊎_elim (λ few. inl (by_found few found ok err)) (λ many. inr (c.full many, past_found many found ok, past_err found err, last_there s c.files c.text c.number c.files_are c.there c.line many)) (few_or_many c.number)
     where
       first : bytes ≡ take 64 c.text
@@ -101,12 +101,12 @@ module _ {E : Type 0} (known : View → Type 0) {Lasting : Type 0} (s : StoreVie
       by_found few (Err Memory) ok err = absurd err
 
   -- there is such a file
-  pub counts_none : (found : Result B36 NameFault) (r : Result (Option ℕ) E) → r ≡ Ok None → ReadsCounter known s.files base r old new v → Counts known base found v ⊎ (known v × IfOk found (λ b. last_name ≤ b.number) × IfErr found NoNumber × HasLastName s)
+  pub counts_none : (found : Result B36 NameFault) (r : Result (Option ℕ) E) → r ≡ Ok None → ReadsCounter known s.files base r old new v → Counts known base found v ⊎ (known (met_last v) × IfOk found (λ b. last_name ≤ b.number) × IfErr found NoNumber × HasLastName s)
   counts_none found r is c =
       let read : IsRead (Some c.text) 0 old new None = subst (λ q. IfOk q (IsRead (Some c.text) 0 old new)) is c.read in
       let h = read.0 in absurd cc
 
-  pub counts_failed : (e : E) (r : Result (Option ℕ) E) → r ≡ Err e → ReadsCounter known s.files base r old new v → Counts known base (Err (DiskFault place.Read)) v ⊎ (known v × Unit {0} × Unit {0} × HasLastName s)
+  pub counts_failed : (e : E) (r : Result (Option ℕ) E) → r ≡ Err e → ReadsCounter known s.files base r old new v → Counts known base (Err (DiskFault place.Read)) v ⊎ (known (met_last v) × Unit {0} × Unit {0} × HasLastName s)
   counts_failed e r is c = ⊎_elim (λ few. inl (failed few)) (λ many. inr (c.full many, tt, tt, last_there s c.files c.text c.number c.files_are c.there c.line many)) (few_or_many c.number)
     where
       failed : c.number < last_name → Counts known base (Err (DiskFault place.Read)) v

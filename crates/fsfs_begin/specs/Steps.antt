@@ -19,6 +19,10 @@ use Rattle.fsfs_turn.specs.Alone.{BringsNoDoubt}
 use Rattle.fsfs_turn.specs.Views.{View, Begins}
 use Rattle.fsfs_turn.specs.Learning.{TurnedFrom}
 
+-- what it knows that has met the last number in `txn-current`, behind which no name comes
+abbrev pub met_last : View → View
+met_last v = record v { full = true }
+
 -- steps of the machine, one after another, from what the pass knew to what it knows
 pub data Steps : View → View → Type 0 where
   End : (v : View) → Steps v v
@@ -65,8 +69,11 @@ pub record Moved (v u : View) : Type 0 where
   pub given : u.given ≡ more ++ v.given
   -- a pass that found the lock stuck knows so still
   pub still : is_some v.pass.stuck ≡ true → is_some u.pass.stuck ≡ true
+  -- and one that met the last number of a name knows still that no name is left
+  pub full : v.full ≡ true → u.full ≡ true
   pub outside : u.section ≡ None
   pub doubtless : BringsNoDoubt v u
+  pub left : u.left ≡ v.left
   pub steps : Steps v u
 
 -- a call failed at this place

@@ -95,13 +95,13 @@ pub fn begin<R, T: Turns<R>>(
     ensures sound { IfOk result.1 (λ begun. T.Bench.faults begun.bench ≡ 0) }
     ensures kept { IfSome (T.labels result.0) (λ ls. IfOk result.1 (λ begun. has_label (txn_label (pair_of begun.name)) ls ≡ true)) }
     // What the pass knows then; and why none was begun, where none was. Or the last number stood in `db/txn-current`, as a call met it: none
-    // was begun then, for want of a number or since its read failed, and the lock was given.
+    // was begun then, for want of a number or since its read failed, the lock was given, and the pass knows that no name is left.
     ensures begun { (v : View) → T.knows turns v → v.section ≡ None
         → IfOk result.1 (λ begun. (u : View) × T.knows result.0 u × HasBegunAmong begun.name begun.root (T.Bench.contents begun.bench) v u) }
     ensures refused { (v : View) → T.knows turns v → v.section ≡ None
         → IfErr result.1 (λ why. ((u : View) × T.knows result.0 u × Moved v u × Cause base why u
         × IfBench why (LeavesNone base (T.labels result.0) (Rose (T.faults turns) (T.faults result.0)) v u))
-        ⊎ (MeetsLastName T.store turns × LacksNumber why × ((u : View) × T.knows result.0 u × Moved v u))) }
+        ⊎ (MeetsLastName T.store turns × LacksNumber why × ((u : View) × T.knows result.0 u × Moved v u × (u.full ≡ true)))) }
     // Where no name is left and the files are of what no reading changes, none is begun, and all of that stays as it was.
     ensures full { FilesStay T.store → HasLastName (T.store turns) → OnOk result.1 ⊥ × ((T.store result.0).below ≡ (T.store turns).below) }
     // Where what is known is of what no reading changes, as it is for a pass that is alone, reading tells it nothing.

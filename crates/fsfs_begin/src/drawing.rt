@@ -7,7 +7,7 @@ ghost use Rattle.fsfs_machine.specs.declared.machine.Section.TheVariants.{Begun,
 ghost use Rattle.fsfs_machine.specs.Machine.{last_name};
 ghost use Rattle.fsfs_turn.specs.Labels.{KeepsLabels};
 ghost use Rattle.fsfs_turn.specs.Views.{View};
-ghost use Rattle.fsfs_begin.specs.Steps.{FilesStay, HasLastName, MeetsLastName, Moved};
+ghost use Rattle.fsfs_begin.specs.Steps.{FilesStay, HasLastName, MeetsLastName, Moved, met_last};
 ghost use Rattle.fsfs_begin.specs.Faults.{IfDisk, IfNameDisk, IsNoBase, IsNoBench, LacksNumber, NoNumber, named_fault};
 ghost use Rattle.fsfs_begin.specs.Drawing.{Counts, IsSmallIn, Raises, Draws, Drew};
 
@@ -33,11 +33,11 @@ fn number_in(bytes: &[u8]) -> Result<B36, NameFault>
 }
 
 // The number that stands in `db/txn-current`, by the section's first call. A file that isn't there counts as empty. Where the machine has no
-// reading of it, the last one, the pass knows what it knew.
+// reading of it, the last one, the pass knows that no name is left.
 fn read_number<R, T: Turns<R>>(rt: &R, turns: &mut T, base: RevNum) -> Result<B36, NameFault>
     requires due { T.bound turns.old ≡ true → (v : View) × T.knows turns.old v × (v.section ≡ Some Begun) × (base ≤ v.pass.least) }
     ensures counted { (v : View) → T.knows turns.old v → v.section ≡ Some Begun → base ≤ v.pass.least
-        → Counts (T.knows turns.new) base result v ⊎ (T.knows turns.new v × IfOk result (λ b. last_name ≤ b.number) × IfErr result NoNumber × MeetsLastName T.store turns.old) }
+        → Counts (T.knows turns.new) base result v ⊎ (T.knows turns.new (met_last v) × IfOk result (λ b. last_name ≤ b.number) × IfErr result NoNumber × MeetsLastName T.store turns.old) }
     ensures full { FilesStay T.store → HasLastName (T.store turns.old) → IfOk result (λ b. last_name ≤ b.number) }
     ensures same { (T.store turns.new).below ≡ (T.store turns.old).below }
     ensures mounted { T.mounting turns.new ≡ T.mounting turns.old }
@@ -81,7 +81,7 @@ fn raise<R, T: Turns<R>>(rt: &R, turns: &mut T, text: &[u8]) -> Result<(), Begin
 }
 
 // Draws a name with the lock held: the number that stands in `db/txn-current`, where the next one takes its place. Where none
-// comes behind it nothing is done, and the pass knows what it knew.
+// comes behind it nothing is done, and the pass knows that no name is left.
 fn next_name<R, T: Turns<R>>(
     alloc: Global,
     rt: &R,
@@ -91,7 +91,7 @@ fn next_name<R, T: Turns<R>>(
     requires due { T.bound turns.old ≡ true → (v : View) × T.knows turns.old v × (v.section ≡ Some Begun) × (base ≤ v.pass.least) }
     ensures base { IfOk result (λ name. name.base ≡ base) }
     ensures drawn { (v : View) → T.knows turns.old v → v.section ≡ Some Begun → base ≤ v.pass.least
-        → Draws (T.knows turns.new) base result v ⊎ (MeetsLastName T.store turns.old × OnOk result ⊥ × IfErr result NoNumber × T.knows turns.new v) }
+        → Draws (T.knows turns.new) base result v ⊎ (MeetsLastName T.store turns.old × OnOk result ⊥ × IfErr result NoNumber × T.knows turns.new (met_last v)) }
     ensures full { FilesStay T.store → HasLastName (T.store turns.old) → OnOk result ⊥ × ((T.store turns.new).below ≡ (T.store turns.old).below) }
     ensures mounted { T.mounting turns.new ≡ T.mounting turns.old }
     ensures duty { T.bound turns.new ≡ T.bound turns.old }
@@ -138,7 +138,7 @@ pub(crate) fn draw<R, T: Turns<R>>(
     requires due { T.bound turns.old ≡ true → (v : View) × T.knows turns.old v × (v.section ≡ None) × (base ≤ v.pass.least) }
     ensures base { IfOk result (λ name. name.base ≡ base) }
     ensures drew { (v : View) → T.knows turns.old v → v.section ≡ None → base ≤ v.pass.least
-        → Drew (T.knows turns.new) base result v ⊎ (MeetsLastName T.store turns.old × OnOk result ⊥ × IfErr result LacksNumber × ((u : View) × T.knows turns.new u × Moved v u)) }
+        → Drew (T.knows turns.new) base result v ⊎ (MeetsLastName T.store turns.old × OnOk result ⊥ × IfErr result LacksNumber × ((u : View) × T.knows turns.new u × Moved v u × (u.full ≡ true))) }
     ensures full { FilesStay T.store → HasLastName (T.store turns.old) → OnOk result ⊥ × ((T.store turns.new).below ≡ (T.store turns.old).below) }
     ensures mounted { T.mounting turns.new ≡ T.mounting turns.old }
     ensures duty { T.bound turns.new ≡ T.bound turns.old }

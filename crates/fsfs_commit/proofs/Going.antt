@@ -98,8 +98,8 @@ ended x v m u a b = record { is = b.is ∙ ap {A = View} (λ z. outside z) a.is;
 pub may_give : (x : Coming) (v m : View) → Revealed x v m → MayGive m
 may_give x v m a = record { inside = Over; is = ap {A = View} (λ z. z.section) a.is; quiet = refl }
 
-pub stopped : (place : CommitPlace) (s : Section) (v m u : View) → Failed place s v m → LockGiven (ends_at place m.number) m u → StoppedAt place v u
-stopped place s v m u a b = record { is = b.is ∙ ap {A = View} (λ z. outside z) a.is; before = m; course = a.course; last = subst (λ n. LockGiven (ends_at place n) m u) (ap {A = View} (λ z. z.number) a.is) b }
+pub stopped : (place : CommitPlace) (x : Coming) (v m u : View) → Failed place (spoilt x place) v m → LockGiven (ends_at place m.number) m u → StoppedAt place x v u
+stopped place x v m u a b = record { is = b.is ∙ ap {A = View} (λ z. outside z) a.is; before = m; course = a.course; last = subst (λ n. LockGiven (ends_at place n) m u) (ap {A = View} (λ z. z.number) a.is) b }
 
 -- the lock after a fault
 module _ (place : CommitPlace) (v : View) where

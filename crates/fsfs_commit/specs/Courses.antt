@@ -13,7 +13,7 @@ use Rattle.fsfs_base.specs.declared.places.place.CommitPlace.TheVariants.{Rename
 use Rattle.fsfs_machine.specs.declared.machine.Step.{Step}
 use Rattle.fsfs_machine.specs.declared.machine.Step.TheVariants.{GiveLock, StickLock}
 use Rattle.fsfs_machine.specs.Machine.{reveals, with_next}
-use Rattle.fsfs_turn.specs.Views.{View, LockGiven, MayAdopt, rev_name, props_name, coming_of}
+use Rattle.fsfs_turn.specs.Views.{View, left_by, LockGiven, MayAdopt, rev_name, props_name, coming_of}
 use Rattle.fsfs_turn.specs.Courses.{Course}
 
 -- what is written, for the revision that follows what the pass has seen
@@ -51,9 +51,13 @@ leaves_doubt place = false
 abbrev pub ends_at : CommitPlace → ℕ → Step
 ends_at place p = if leaves_doubt place then StickLock p else GiveLock p
 
--- the call at this place failed: nothing was added, and the lock was given, or left stuck there
-pub record StoppedAt (place : CommitPlace) (v u : View) : Type 0 where
-  pub is : u ≡ record v { pass = record v.pass { seen = length v.seen; faults = v.pass.faults ++ Commit place ∷ [] }; section = None; sure = false }
+-- where a fault at a place of the commit leaves the section
+abbrev pub spoilt : Coming → CommitPlace → Section
+spoilt x place = if leaves_doubt place then Doubtful (Commit place) x else Over
+
+-- the call at this place failed: nothing was added, and the lock was given, or left stuck there; then the revision that was to come is left in doubt
+pub record StoppedAt (place : CommitPlace) (x : Coming) (v u : View) : Type 0 where
+  pub is : u ≡ record v { pass = record v.pass { seen = length v.seen; faults = v.pass.faults ++ Commit place ∷ [] }; section = None; sure = false; left = left_by (Some (spoilt x place)) v.left }
   pub before : View
   pub course : Course v before
   pub last : LockGiven (ends_at place v.number) before u
@@ -67,10 +71,6 @@ pub record Reached (s : Section) (v u : View) : Type 0 where
 pub record Failed (place : CommitPlace) (s : Section) (v u : View) : Type 0 where
   pub is : u ≡ record v { pass = record v.pass { seen = length v.seen; faults = v.pass.faults ++ Commit place ∷ [] }; section = Some s }
   pub course : Course v u
-
--- where a fault at a place of the commit leaves the section
-abbrev pub spoilt : Coming → CommitPlace → Section
-spoilt x place = if leaves_doubt place then Doubtful (Commit place) x else Over
 
 -- calls of a commit's section from v: to s, or to the first that failed
 pub record Goes (known : View → Type 0) (result : Result (Unit {0}) CommitPlace) (x : Coming) (s : Section) (v : View) : Type 0 where

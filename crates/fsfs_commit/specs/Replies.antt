@@ -1,9 +1,10 @@
 -- The answers of a commit, and their causes.
-use Rattle.std.specs.Prelude.{◌≡◌, ◌<◌, ◌≤◌, ◌+◌, ℕ, List, [], ◌∷◌, ◌++◌, length, take, true, false, Option, Some, None, is_some}
+use Rattle.std.specs.Prelude.{◌≡◌, ◌⊎◌, ◌<◌, ◌≤◌, ◌+◌, ℕ, List, [], ◌∷◌, ◌++◌, length, take, true, false, Option, Some, None, is_some}
 use Rattle.fsfs_tree.specs.Revisions.{Revision}
 use Rattle.fsfs_tree.specs.Histories.{IsHistory}
 use Rattle.fsfs_model.specs.Flat.Transactions.{IsNext}
 use Rattle.fsfs_machine.specs.declared.machine.Recorded.{Recorded}
+use Rattle.fsfs_machine.specs.declared.machine.Coming.{Coming}
 use Rattle.fsfs_machine.specs.declared.machine.Txn.{Txn}
 use Rattle.fsfs_base.specs.declared.places.place.DiskPlace.TheVariants.{Commit}
 use Rattle.fsfs_machine.specs.Machine.{revisions, entry_of}
@@ -30,6 +31,8 @@ pub record Drifted (v u : View) : Type 0 where
   pub given : u.given ≡ v.given
   -- a pass that found the lock stuck knows so still
   pub still : is_some v.pass.stuck ≡ true → is_some u.pass.stuck ≡ true
+  -- and one that met the last number of a name knows still that no name is left
+  pub full : v.full ≡ true → u.full ≡ true
   pub grows : Begins u.seen v.seen
   pub course : Course v u
 
@@ -44,10 +47,23 @@ pub record IsToCome (head : ℕ) (made : Made) (bytes : List ℕ) (number : ℕ)
   pub shows : BytesShow (take (head + 1) u.seen ++ record { revision = next; bytes = bytes } ∷ [])
   pub written : head + 1 ≡ length u.seen → IsMade u properties made.rev made.rev_file made.props_file made.properties.items made.current.items
 
+-- what was left in doubt was so before; or it is a revision of which this is known
+abbrev pub LeavesDoubt : (Coming → Type 0) → View → View → Type 0
+LeavesDoubt W v u = (u.left ≡ v.left) ⊎ ((c : Coming) × (u.left ≡ Some c) × W c)
+
+-- the revision is the next of a history that lies between what the pass had seen and what it has seen now, by the entry of x
+pub record Wrote (properties : List (List ℕ × List ℕ)) (v u : View) (x : Txn) (c : Coming) : Type 0 where
+  pub before : List Recorded
+  pub seen : Begins u.seen before
+  pub begins : Begins before v.seen
+  pub history : IsHistory (revisions before)
+  pub is_next : IsNext (revisions before) (entry_of v.number x properties) c.revision
+
 -- all is made for the revision that follows the head, on which the transaction stands
 pub record IsReady (holds : Txn → Revision → List ℕ → Type 0) (ready : Ready) (properties : List (List ℕ × List ℕ)) (v u : View) (x y : Txn) : Type 0 where
   pub moved : Moved v u
   pub doubtless : BringsNoDoubt v u
+  pub left : u.left ≡ v.left
   pub from : CanCommit v x properties
   pub landings : Landings u.seen x y
   pub can : CanCommit u y properties
@@ -81,14 +97,18 @@ pub record Committed (rev : ℕ) (properties : List (List ℕ × List ℕ)) (v u
   pub opened : u.opened ≡ v.opened
   pub given : u.given ≡ v.given
   pub still : is_some v.pass.stuck ≡ true → is_some u.pass.stuck ≡ true
+  -- and one that met the last number of a name knows still that no name is left
+  pub full : v.full ≡ true → u.full ≡ true
   pub outside : u.section ≡ None
   pub doubtless : BringsNoDoubt v u
+  pub left : u.left ≡ v.left
   pub course : Course v u
 
 -- a turn that was lost to another commit
 pub record Lost (properties : List (List ℕ × List ℕ)) (v u : View) (x y : Txn) : Type 0 where
   pub moved : Moved v u
   pub doubtless : BringsNoDoubt v u
+  pub left : u.left ≡ v.left
   pub from : CanCommit v x properties
   pub landings : Landings u.seen x y
   pub can : CanCommit u y properties
@@ -102,11 +122,11 @@ abbrev pub Refusals : Type 0 → Type 1
 Refusals E = E → ℕ → List Recorded → Txn → Type 0
 
 -- with the lock held: the draft could not be written, and the lock was given; or the call at a place failed
-abbrev pub EndsShort : {E : Type 0} → Refusals E → CommitFault E → View → View → Type 0
-EndsShort Says RevsFull v u = ⊥
-EndsShort Says (Stuck place) v u = ⊥
-EndsShort Says (Refuses refusal) v u = LockGiven (GiveLock v.number) v u × ((head : ℕ) (h : List Recorded) (x : Txn) → Says refusal head h x)
-EndsShort Says (DiskFault place) v u = StoppedAt place v u
+abbrev pub EndsShort : {E : Type 0} → Refusals E → Coming → CommitFault E → View → View → Type 0
+EndsShort Says x RevsFull v u = ⊥
+EndsShort Says x (Stuck place) v u = ⊥
+EndsShort Says x (Refuses refusal) v u = LockGiven (GiveLock v.number) v u × ((head : ℕ) (h : List Recorded) (y : Txn) → Says refusal head h y)
+EndsShort Says x (DiskFault place) v u = StoppedAt place x v u
 
 -- why a commit was refused, in what the pass knows after it; a draft's refusal is of the transaction as it stood then, and of the youngest
 -- revision that the pass was told of, which isn't the last that there may be; a fault of the disk is that of the section that came last
@@ -114,7 +134,7 @@ abbrev pub Cause : {E : Type 0} → Refusals E → CommitFault E → View → Vi
 Cause Says RevsFull v u y = 2147483647 ≤ u.pass.least
 Cause Says (Stuck place) v u y = u.pass.stuck ≡ Some place
 Cause Says (Refuses refusal) v u y = (u.pass.least < 2147483647) × Says refusal u.pass.least u.seen y
-Cause Says (DiskFault place) v u y = (m : View) × Drifted v m × StoppedAt place m u
+Cause Says (DiskFault place) v u y = (m : View) × Drifted v m × (x : Coming) × StoppedAt place x m u
 
 -- a fact, unless the call failed at a place that leaves the revision in doubt
 abbrev pub UnlessDoubt : {E : Type 0} → CommitFault E → Type 0 → Type 0
@@ -123,11 +143,20 @@ UnlessDoubt (Stuck place) P = P
 UnlessDoubt (Refuses refusal) P = P
 UnlessDoubt (DiskFault place) P = brings_doubt (Commit place) ≡ false → P
 
--- REFUSED: nothing was added; the transaction stands on the head of the last landing, or as it was
-pub record Refused {E : Type 0} (Says : Refusals E) (fault : CommitFault E) (v u : View) (x y : Txn) : Type 0 where
+-- what is left in doubt is what was, unless a call of the section failed: then it may be a revision of which this is known
+abbrev pub FaultLeft : {E : Type 0} → CommitFault E → (Coming → Type 0) → View → View → Type 0
+FaultLeft RevsFull W v u = u.left ≡ v.left
+FaultLeft (Stuck place) W v u = u.left ≡ v.left
+FaultLeft (Refuses refusal) W v u = u.left ≡ v.left
+FaultLeft (DiskFault place) W v u = LeavesDoubt W v u
+
+-- REFUSED: nothing was added; the transaction stands on the head of the last landing, or as it was. What is left in doubt is the revision that
+-- this commit was to add.
+pub record Refused {E : Type 0} (Says : Refusals E) (properties : List (List ℕ × List ℕ)) (fault : CommitFault E) (v u : View) (x y : Txn) : Type 0 where
   pub moved : Moved v u
   pub landings : Landings u.seen x y
   pub doubtless : UnlessDoubt fault (BringsNoDoubt v u)
+  pub left : FaultLeft fault (Wrote properties v u x) v u
   pub cause : Cause Says fault v u y
 
 -- a fault of the disk, also one for which the draft refused, comes only where the count rose

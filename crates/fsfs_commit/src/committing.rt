@@ -6,7 +6,7 @@ ghost use Rattle.fsfs_base.specs.declared.fields.txn_name.TxnName.{TxnName};
 ghost use Rattle.fsfs_tree.specs.Revisions.{Revision};
 ghost use Rattle.fsfs_machine.specs.declared.machine.Recorded.{Recorded};
 ghost use Rattle.fsfs_machine.specs.declared.machine.Txn.{Txn};
-ghost use Rattle.fsfs_turn.specs.Views.{View, MayAdopt};
+ghost use Rattle.fsfs_turn.specs.Views.{View, MayAdopt, coming_of};
 ghost use Rattle.fsfs_turn.specs.Labels.{KeepsLabels};
 ghost use Rattle.fsfs_commit.specs.Courses.{IsMade, MayPublish, Published};
 ghost use Rattle.fsfs_commit.specs.Works.{CanCommit};
@@ -61,7 +61,7 @@ fn prepare<R, T: Turns<R>, D: Draft<R, T>>(
     ensures ok { (v : View) (x : Txn) → T.knows turns v → D.means draft.old v.seen x → CanCommit v x (D.properties draft.old)
         → IfOk result.1 (λ ready. (u : View) × (y : Txn) × T.knows result.0 u × D.means draft.new u.seen y × IsReady (D.holds draft.new) ready (D.properties draft.old) v u x y) }
     ensures err { (v : View) (x : Txn) → T.knows turns v → D.means draft.old v.seen x → CanCommit v x (D.properties draft.old)
-        → IfErr result.1 (λ fault. (u : View) × (y : Txn) × T.knows result.0 u × D.means draft.new u.seen y × Refused D.refuses fault v u x y) }
+        → IfErr result.1 (λ fault. (u : View) × (y : Txn) × T.knows result.0 u × D.means draft.new u.seen y × Refused D.refuses (D.properties draft.old) fault v u x y) }
     ensures found { IfErr result.1 (IfRefused (D.finds draft.new)) }
     ensures made { D.lives draft.old → OnOk result.1 (D.lives draft.new × D.is_made draft.new) }
     ensures left { D.lives draft.old → IfErr result.1 (LeavesSo (D.lives draft.new) (D.blames draft.new)) }
@@ -117,7 +117,7 @@ fn add<R, T: Turns<R>, D: Draft<R, T>, G: Gate>(
         → OnOk result.1 ((u : View) × T.knows turns.new u × Published txn (D.properties draft) next bytes v u) }
     ensures err { (v : View) (txn : Txn) (next : Revision) (bytes : List ℕ) → T.knows turns.old v → D.holds draft txn next bytes → MayAdopt v txn (D.properties draft) next bytes
         → IsMade v (D.properties draft) made.now.rev made.now.rev_file made.now.props_file made.now.properties.items made.now.current.items
-        → IfErr result.1 (λ fault. (u : View) × T.knows turns.new u × EndsShort D.refuses fault v u) }
+        → IfErr result.1 (λ fault. (u : View) × T.knows turns.new u × EndsShort D.refuses (coming_of v txn (D.properties draft) next bytes) fault v u) }
     ensures means { (h : List Recorded) (x : Txn) → D.means draft h x → D.means result.0 h x }
     ensures found { IfErr result.1 (IfRefused (D.finds result.0)) }
     ensures left { D.is_made draft → IfErr result.1 (LeavesSo (D.lives result.0) (D.blames result.0)) }
@@ -158,7 +158,7 @@ fn take_turn<R, T: Turns<R>, D: Draft<R, T>, G: Gate>(
     ensures ok { (v : View) (x : Txn) → T.knows turns v → D.means draft v.seen x → CanCommit v x (D.properties draft) → v.section ≡ None
         → IfOk result.2 (λ done. (u : View) × (y : Txn) × T.knows result.0 u × D.means result.1 u.seen y × IsTurn done (D.properties draft) v u x y) }
     ensures err { (v : View) (x : Txn) → T.knows turns v → D.means draft v.seen x → CanCommit v x (D.properties draft) → v.section ≡ None
-        → IfErr result.2 (λ fault. (u : View) × (y : Txn) × T.knows result.0 u × D.means result.1 u.seen y × Refused D.refuses fault v u x y) }
+        → IfErr result.2 (λ fault. (u : View) × (y : Txn) × T.knows result.0 u × D.means result.1 u.seen y × Refused D.refuses (D.properties draft) fault v u x y) }
     ensures found { IfErr result.2 (IfRefused (D.finds result.1)) }
     ensures lost { D.lives draft → IfOk result.2 (λ done. done ≡ None → D.lives result.1) }
     ensures left { D.lives draft → IfErr result.2 (LeavesSo (D.lives result.1) (D.blames result.1)) }
@@ -207,7 +207,7 @@ fn take_last_turn<R, T: Turns<R>, D: Draft<R, T>, G: Gate>(
     ensures ok { (v : View) (x : Txn) → T.knows turns v → D.means draft v.seen x → CanCommit v x (D.properties draft) → v.section ≡ None
         → IfOk result.2 (λ rev. (u : View) × (y : Txn) × T.knows result.0 u × D.means result.1 u.seen y × Committed rev (D.properties draft) v u x y) }
     ensures err { (v : View) (x : Txn) → T.knows turns v → D.means draft v.seen x → CanCommit v x (D.properties draft) → v.section ≡ None
-        → IfErr result.2 (λ fault. (u : View) × (y : Txn) × T.knows result.0 u × D.means result.1 u.seen y × Refused D.refuses fault v u x y) }
+        → IfErr result.2 (λ fault. (u : View) × (y : Txn) × T.knows result.0 u × D.means result.1 u.seen y × Refused D.refuses (D.properties draft) fault v u x y) }
     ensures found { IfErr result.2 (IfRefused (D.finds result.1)) }
     ensures left { D.lives draft → IfErr result.2 (LeavesSo (D.lives result.1) (D.blames result.1)) }
     ensures named { (name : TxnName) → D.named draft name → D.named result.1 name }
@@ -252,7 +252,7 @@ fn take_three_turns<R, T: Turns<R>, D: Draft<R, T>, G: Gate>(
     ensures ok { (v : View) (x : Txn) → T.knows turns v → D.means draft v.seen x → CanCommit v x (D.properties draft) → v.section ≡ None
         → IfOk result.2 (λ done. (u : View) × (y : Txn) × T.knows result.0 u × D.means result.1 u.seen y × IsTurn done (D.properties draft) v u x y) }
     ensures err { (v : View) (x : Txn) → T.knows turns v → D.means draft v.seen x → CanCommit v x (D.properties draft) → v.section ≡ None
-        → IfErr result.2 (λ fault. (u : View) × (y : Txn) × T.knows result.0 u × D.means result.1 u.seen y × Refused D.refuses fault v u x y) }
+        → IfErr result.2 (λ fault. (u : View) × (y : Txn) × T.knows result.0 u × D.means result.1 u.seen y × Refused D.refuses (D.properties draft) fault v u x y) }
     ensures found { IfErr result.2 (IfRefused (D.finds result.1)) }
     ensures lost { D.lives draft → IfOk result.2 (λ done. done ≡ None → D.lives result.1) }
     ensures left { D.lives draft → IfErr result.2 (LeavesSo (D.lives result.1) (D.blames result.1)) }
@@ -300,7 +300,7 @@ pub fn commit<R, T: Turns<R>, D: Draft<R, T>, G: Gate>(
     ensures committed { (v : View) (x : Txn) → T.knows turns v → D.means draft v.seen x → CanCommit v x (D.properties draft) → v.section ≡ None
         → IfOk result.2 (λ rev. (u : View) × (y : Txn) × T.knows result.0 u × D.means result.1 u.seen y × Committed rev (D.properties draft) v u x y) }
     ensures refused { (v : View) (x : Txn) → T.knows turns v → D.means draft v.seen x → CanCommit v x (D.properties draft) → v.section ≡ None
-        → IfErr result.2 (λ fault. (u : View) × (y : Txn) × T.knows result.0 u × D.means result.1 u.seen y × Refused D.refuses fault v u x y) }
+        → IfErr result.2 (λ fault. (u : View) × (y : Txn) × T.knows result.0 u × D.means result.1 u.seen y × Refused D.refuses (D.properties draft) fault v u x y) }
     // A refusal says what it is of the draft that is given back, whatever is known.
     ensures found { IfErr result.2 (IfRefused (D.finds result.1)) }
     // And of its bench: where that is told to have failed, or the draft is used up, it did.

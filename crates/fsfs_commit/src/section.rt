@@ -275,7 +275,7 @@ pub fn publish<R, T: Turns<R>, D: Draft<R, T>, G: Gate>(
         → OnOk result ((u : View) × T.knows turns.new u × Published txn (D.properties draft.old) next bytes v u) }
     ensures err { (v : View) (txn : Txn) (next : Revision) (bytes : List ℕ) → T.knows turns.old v → D.holds draft.old txn next bytes → MayAdopt v txn (D.properties draft.old) next bytes
         → IsMade v (D.properties draft.old) made.now.rev made.now.rev_file made.now.props_file made.now.properties.items made.now.current.items
-        → IfErr result (λ place. (u : View) × T.knows turns.new u × StoppedAt place v u) }
+        → IfErr result (λ place. (u : View) × T.knows turns.new u × StoppedAt place (coming_of v txn (D.properties draft.old) next bytes) v u) }
 
     // Whatever the disk tells: a fault comes only where the count of failed turns rose in this call.
     ensures means { (h : List Recorded) (x : Txn) → D.means draft.old h x → D.means draft.new h x }

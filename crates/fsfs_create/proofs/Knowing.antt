@@ -1,5 +1,5 @@
 -- What the laws of turns say of a store that was just opened.
-use Rattle.std.proofs.Common.{◌≡◌, ℕ, List, ◌∷◌, length, ap, sym, subst, arith}
+use Rattle.std.proofs.Common.{◌≡◌, ℕ, List, ◌∷◌, length, refl, ap, sym, subst, ◌∙◌, arith}
 use Rattle.std.specs.Prelude.{Option, Some, None, IfSome, Ok}
 use Rattle.fsfs_tree.specs.Revisions.{Revision}
 use Rattle.fsfs_layout.specs.Opening.{small_texts, IsOpened, SaysFormat}
@@ -11,12 +11,15 @@ use Rattle.fsfs_revision.specs.RevBytes.{rev_bytes}
 use Rattle.fsfs_disk.specs.Trace.{Trace, Done, FirmNames, files_now, add_operation, Performs}
 use Rattle.fsfs_disk.proofs.CrashLemmas.{files_are_image}
 use Rattle.fsfs_stands.specs.Files.{StandsFor}
-use Rattle.fsfs_machine.specs.Machine.{revisions}
+use Rattle.fsfs_machine.specs.declared.machine.Lock.{Lock}
+use Rattle.fsfs_machine.specs.declared.machine.Lock.TheVariants.{Free, Held, Stuck, Down, DownDoubtful}
+use Rattle.fsfs_machine.specs.Machine.{revisions, stuck_place}
 use Rattle.fsfs_machine.proofs.Growing.{revisions_length}
 use Rattle.fsfs_turn.specs.Views.{View}
 use Rattle.fsfs_turn.specs.Opening.{LeftoversAgree}
 use Rattle.fsfs_turn.specs.Alone.{KnowsAlone}
 use Rattle.fsfs_turn.specs.Standing.{Knows}
+use Rattle.fsfs_turn.specs.Past.{stuck_with}
 use Rattle.fsfs_turn.proofs.Openings.{store_is_known}
 use Rattle.fsfs_turn.proofs.Wholeness.{seen_is_whole}
 use Rattle.fsfs_create.specs.Known.{HasSeenAll, HoldBytes}
@@ -27,6 +30,17 @@ hold_bytes layout young t v known says at said r x there =
     let same : layout ≡ at = (let e = says_one (small_texts (files_now t)) (Known layout) (Known at) says said in cc) in
     let whole = (seen_is_whole layout young None (add_operation (Done FirmNames) t) v known (files_now t) (files_are_image t.first (Done FirmNames ∷ t.operations))).0 in
     subst (λ l. rev_bytes l (files_now t) r ≡ Ok x.bytes) same (whole r x there).bytes
+
+-- a lock that is not stuck leaves none in doubt
+free_left : (lock : Lock) → stuck_place lock ≡ None → stuck_with lock ≡ None
+free_left Free free = refl
+free_left (Held q s) free = refl
+free_left (Stuck place x) free = absurd cc
+free_left Down free = refl
+free_left (DownDoubtful x) free = refl
+
+none_left : (layout : Layout) (young : ℕ) (t : Trace) (v : View) → Knows layout young None (Some (add_operation (Done FirmNames) t)) v → v.left ≡ None
+none_left layout young t v known = sym known.7 ∙ free_left known.0.lock known.1.stuck_is
 
 -- the names were made firm, and the small files said so: a pass that has seen the history is known by what they said
 pub known_now : (old new : Option Trace) (said : Opened) (knows : View → Type 0) → Performs FirmNames old new → IfSome old (λ t. IsOpened (small_texts (files_now t)) said)
@@ -42,4 +56,4 @@ known_now (Some t) new said knows firm opened known = λ h stands agreeing.
     let mine : length k.0.pass.mine ≡ 0 = ap (λ p. length p.mine) k.3 in
     let long : length (revisions k.0.seen) ≡ length h = ap length k.4 in
     let held = hold_bytes stands.opened.layout stands.opened.youngest t k.0 k.1.0 stands.small.format in
-    (k.0, known k.0 (subst (λ o. KnowsAlone said.layout said.youngest None o k.0) (sym firm) at_youngest), k.2, k.3, k.4, k.5, omega (arith, k.1.1.own, mine, long, revisions_length k.0.seen), k.6, held)
+    (k.0, known k.0 (subst (λ o. KnowsAlone said.layout said.youngest None o k.0) (sym firm) at_youngest), k.2, k.3, k.4, k.5, omega (arith, k.1.1.own, mine, long, revisions_length k.0.seen), k.6, held, none_left stands.opened.layout stands.opened.youngest t k.0 k.1.0)

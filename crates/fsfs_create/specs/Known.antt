@@ -20,9 +20,9 @@ abbrev pub HoldBytes : Files → List Recorded → Type 0
 HoldBytes m h = (layout : Layout) → SaysFormat (small_texts m) (Known layout) → (r : ℕ) (x : Recorded) → slice_get h r ≡ Some x → rev_bytes layout m r ≡ Ok x.bytes
 
 -- A pass has seen all of this history, and knows this floor, and is in no section; of images it is spoken from this opening on, which made
--- the names firm by the operation after those of the trace, and had so many revisions. The files then had the bytes of each.
+-- the names firm by the operation after those of the trace, and had so many revisions. The files then had the bytes of each. It left none in doubt.
 abbrev pub HasSeenAll : (View → Type 0) → Trace → ℕ → ℕ → List Revision → Type 0
-HasSeenAll knows t floor named h = (v : View) × knows v × (v.section ≡ None) × (v.pass ≡ first_pass (length h) floor) × (revisions v.seen ≡ h) × (v.since ≡ opened_at t.first t.operations) × (v.opened ≡ length h) × (v.given ≡ given_before named) × HoldBytes (files_now t) v.seen
+HasSeenAll knows t floor named h = (v : View) × knows v × (v.section ≡ None) × (v.pass ≡ first_pass (length h) floor) × (revisions v.seen ≡ h) × (v.since ≡ opened_at t.first t.operations) × (v.opened ≡ length h) × (v.given ≡ given_before named) × HoldBytes (files_now t) v.seen × (v.left ≡ None)
 
 abbrev pub said_by : {X Y : Type 0} → (X → Opened) → (Y → OpenFault) → Result X Y → Result Opened OpenFault
 said_by said why (Ok x) = Ok (said x)

@@ -24,6 +24,7 @@ pub no_base : (moment : ℕ) (job : CommitJob) (fault : Fault) (v u : View) → 
 no_base moment job fault v u looked lacks = record {
   done = inl ([], tt, λ t less. (t, omega arith, does t));
   leaves = bare_leaves (Stopped job.line fault) v u tt looked.stays (λ calm. looked.doubtless);
+  left = inl looked.left;
 }
   where
     does : (t : ℕ) → Runs (revisions v.seen) [] t (jobs.Commit job) (Stopped job.line fault) (revisions u.seen) t
@@ -36,6 +37,7 @@ pub no_base_read : (moment : ℕ) (job : ReadJob) (fault : Fault) (v u : View) �
 no_base_read moment job fault v u looked lacks = record {
   done = inl ([], tt, λ t less. (t, omega arith, does t));
   leaves = bare_leaves (Stopped job.line fault) v u tt looked.stays (λ calm. looked.doubtless);
+  left = inl looked.left;
 }
   where
     does : (t : ℕ) → Runs (revisions v.seen) [] t (jobs.Read job) (Stopped job.line fault) (revisions u.seen) t

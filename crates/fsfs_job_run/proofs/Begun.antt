@@ -1,5 +1,5 @@
 -- A transaction that has begun, and why none was begun.
-use Rattle.std.proofs.Common.{◌≡◌, ◌≤◌, ◌<◌, ◌∷◌, ℕ, List, [], length, ap, inr, arith}
+use Rattle.std.proofs.Common.{◌≡◌, ◌≤◌, ◌<◌, ◌∷◌, ℕ, List, [], length, true, ap, inr, arith}
 use Rattle.std.specs.Prelude.{Err}
 use Rattle.fsfs_base.specs.declared.fields.txn_name.TxnName.{TxnName}
 use Rattle.fsfs_draft.specs.Drafts.{Folder}
@@ -74,7 +74,7 @@ module _ (base line : ℕ) (job : CommitJob) (v u : View) (told : v.pass.least �
   begin_outside rose (begin.NoRev asked youngest) c disk = tt
   begin_outside rose (begin.Stuck at) c disk = c
   begin_outside rose (begin.Small fault) c disk = tt
-  begin_outside rose begin.NamesFull c disk = tt
+  begin_outside rose begin.NamesFull c disk = absurd c
   begin_outside rose (begin.Wrong wrong) c disk = absurd (whole wrong c.0 c.1)
   begin_outside rose (begin.DiskFault at) c disk = disk
   begin_outside rose begin.BenchFault c disk = tt
@@ -108,6 +108,7 @@ unbegun_so knows rose moment base job why v u known all after told there moved w
     record {
       done = inr (begin_fails base job.line job v u told there moved whole why cause);
       leaves = bare_leaves (Stopped job.line (fault_of_begin why)) v u tt (unbegun_stays v u moved all after) (λ calm. moved.doubtless);
+      left = inl moved.left;
     },
     begin_outside base job.line job v u told there moved whole rose why cause disk,
   ),
@@ -126,27 +127,28 @@ module _ (line : ℕ) (job : CommitJob) where
   lacking_fails begin.BenchFault lacks = absurd lacks
   lacking_fails begin.Memory lacks = absurd lacks
 
-  pub lacking_outside : (rose : Type 0) (u : View) (why : BeginFault) → LacksNumber why → IfDisk why rose → HasOutsideCause rose u (Stopped line (fault_of_begin why))
-  lacking_outside rose u (begin.NoRev asked youngest) lacks disk = tt
-  lacking_outside rose u (begin.Stuck at) lacks disk = absurd lacks
-  lacking_outside rose u (begin.Small fault) lacks disk = tt
-  lacking_outside rose u begin.NamesFull lacks disk = tt
-  lacking_outside rose u (begin.Wrong wrong) lacks disk = absurd lacks
-  lacking_outside rose u (begin.DiskFault at) lacks disk = disk
-  lacking_outside rose u begin.BenchFault lacks disk = tt
-  lacking_outside rose u begin.Memory lacks disk = tt
+  pub lacking_outside : (rose : Type 0) (u : View) (why : BeginFault) → u.full ≡ true → LacksNumber why → IfDisk why rose → HasOutsideCause rose u (Stopped line (fault_of_begin why))
+  lacking_outside rose u (begin.NoRev asked youngest) full lacks disk = tt
+  lacking_outside rose u (begin.Stuck at) full lacks disk = absurd lacks
+  lacking_outside rose u (begin.Small fault) full lacks disk = tt
+  lacking_outside rose u begin.NamesFull full lacks disk = full
+  lacking_outside rose u (begin.Wrong wrong) full lacks disk = absurd lacks
+  lacking_outside rose u (begin.DiskFault at) full lacks disk = disk
+  lacking_outside rose u begin.BenchFault full lacks disk = tt
+  lacking_outside rose u begin.Memory full lacks disk = tt
 
 -- so the job failed as well
-pub lacking_so : (knows : View → Type 0) (rose : Type 0) (moment : ℕ) (job : CommitJob) (why : BeginFault) (v u : View) → knows u → IsCounted v → IsCounted u → Moved v u → LacksNumber why → IfDisk why rose → CommitsSo knows rose moment job (Stopped job.line (fault_of_begin why)) v
-lacking_so knows rose moment job why v u known all after moved lacks disk = (
+pub lacking_so : (knows : View → Type 0) (rose : Type 0) (moment : ℕ) (job : CommitJob) (why : BeginFault) (v u : View) → knows u → IsCounted v → IsCounted u → Moved v u → u.full ≡ true → LacksNumber why → IfDisk why rose → CommitsSo knows rose moment job (Stopped job.line (fault_of_begin why)) v
+lacking_so knows rose moment job why v u known all after moved full lacks disk = (
   (
     u,
     known,
     record {
       done = inr (lacking_fails job.line job why lacks);
       leaves = bare_leaves (Stopped job.line (fault_of_begin why)) v u tt (unbegun_stays v u moved all after) (λ calm. moved.doubtless);
+      left = inl moved.left;
     },
-    lacking_outside job.line job rose u why lacks disk,
+    lacking_outside job.line job rose u why full lacks disk,
   ),
   begin_counted job job.line why (StopsOver v.seen),
 )

@@ -1,9 +1,10 @@
 -- The lines of jobs that are done beside each other hold of the history, however it goes on.
-use Rattle.std.proofs.Common.{◌≡◌, ◌≤◌, ◌<◌, ◌+◌, ℕ, max, take, length, subst, length-append, List, [], ◌∷◌, ◌++◌, suc, Bool, true, false, refl, sym, ap, ◌∙◌, append_assoc, append-nil, inl, inr, arith}
+use Rattle.std.proofs.Common.{◌≡◌, ◌⊎◌, ◌≤◌, ◌<◌, ◌+◌, ℕ, max, take, length, subst, length-append, List, [], ◌∷◌, ◌++◌, suc, Bool, true, false, refl, sym, ap, ◌∙◌, append_assoc, append-nil, inl, inr, ⊎_elim, arith}
 use Rattle.std.proofs.lemmas.List.{map-append, take-append-le}
-use Rattle.std.specs.Prelude.{is_some}
+use Rattle.std.specs.Prelude.{Option, Some, is_some}
 use Rattle.fsfs_tree.specs.Revisions.{Revision}
 use Rattle.fsfs_tree.specs.Dated.{last_of}
+use Rattle.fsfs_machine.specs.declared.machine.Coming.{Coming}
 use Rattle.fsfs_machine.specs.declared.machine.Recorded.{Recorded}
 use Rattle.fsfs_machine.specs.Machine.{revisions}
 use Rattle.fsfs_turn.specs.Views.{View, Begins}
@@ -14,11 +15,13 @@ use Rattle.fsfs_script.specs.declared.job_lines.job.Job.{Job}
 use Rattle.fsfs_cli.specs.declared.faults.fault.Fault.{Fault}
 use Rattle.fsfs_jobs.specs.Serial.{base_of, ReadsText as AloneReads, LacksRead as AloneLacksRead, LacksBase as AloneLacksBase, LacksName, Begins as AloneBegins}
 use Rattle.fsfs_jobs.specs.declared.answer.JobAnswer.{JobAnswer}
-use Rattle.fsfs_job_run.specs.Serial.Jobs.{own_of, own_of_all, tells_stuck}
+use Rattle.fsfs_jobs.specs.declared.answer.JobAnswer.TheVariants.{Committed}
+use Rattle.fsfs_job_run.proofs.Full.{one_true}
+use Rattle.fsfs_job_run.specs.Serial.Jobs.{own_of, own_of_all, tell_full, tells_full, tells_stuck}
 use Rattle.fsfs_job_run.specs.Serial.Counts.{StopsOver}
-use Rattle.fsfs_job_run.specs.Workers.Beside.{CountsIn, IsBase, RunsBeside, ReadsText, LacksRead, LacksBase, DoesEdits, GoesOnFrom, shown_in}
+use Rattle.fsfs_job_run.specs.Workers.Beside.{CountsIn, IsBase, IsOfOne, RunsBeside, ReadsText, LacksRead, LacksBase, DoesEdits, GoesOnFrom, WasToAddTo, shown_in}
 use Rattle.fsfs_job_run.proofs.Counted.{counted_on}
-use Rattle.fsfs_job_run.specs.Workers.Passes.{last_known, IsOnward, End, More}
+use Rattle.fsfs_job_run.specs.Workers.Passes.{last_known, IsOnward, LeftBeside, End, More}
 use Rattle.fsfs_job_run.specs.Workers.Laws.{LinesStay, WorkersLinesStay, AloneIsBeside, WorkGoesOn, WorkersWorked}
 
 -- ---- of a later history, and a worker that knew less
@@ -95,6 +98,22 @@ onward h m u begins later on = record { begins = begins_on h u.seen m.seen on.be
 pub begins_itself : (h : List Recorded) → Begins h h
 begins_itself h = ([], sym (append-nil h))
 
+-- ---- what is left in doubt
+
+pub less_known : (moment : ℕ) (h : List Revision) (k less : ℕ) (job : Job) (next : Revision) → less ≤ k → WasToAddTo moment h k job next → WasToAddTo moment h less job next
+less_known moment h k less job next few w = record { before = w.before; known = omega (arith, few, w.known); date = w.date; dated = w.dated; runs = runs_less w.before w.date k less job (Committed (length w.before)) (w.before ++ next ∷ []) few w.runs; part = w.part }
+
+later_one : (moment : ℕ) (h : List Revision) (k less : ℕ) (job : Job) (js : List Job) (next : Revision) → less ≤ k → IsOfOne moment h k js next → IsOfOne moment h less (job ∷ js) next
+later_one moment h k less job js next few o = record { at = suc o.at; job = o.job; is = o.is; was = less_known moment h k less o.job next few o.was }
+
+-- of one of the first, or of a later one
+jobs_left : (moment : ℕ) (job : Job) (js : List Job) (v m u : View) → Begins u.seen m.seen → last_known m ≤ last_known u → last_known v ≤ last_known m → LeftBeside moment (last_known v) job v m
+    → (u.left ≡ m.left) ⊎ ((c : Coming) × (u.left ≡ Some c) × ((h : List Recorded) → IsOnward u h → IsOfOne moment (revisions h) (last_known m) js c.revision))
+    → (u.left ≡ v.left) ⊎ ((c : Coming) × (u.left ≡ Some c) × ((h : List Recorded) → IsOnward u h → IsOfOne moment (revisions h) (last_known v) (job ∷ js) c.revision))
+jobs_left moment job js v m u begins later first one (inr (c, is, of)) = inr (c, is, λ h on. later_one moment (revisions h) (last_known m) (last_known v) job js c.revision first (of h on))
+jobs_left moment job js v m u begins later first (inl kept) (inl same) = inl (same ∙ kept)
+jobs_left moment job js v m u begins later first (inr (c, is, was)) (inl same) = inr (c, same ∙ is, λ h on. record { at = 0; job = job; is = refl; was = was h (onward h m u begins later on) })
+
 not_so : (a b : Bool) → (a ≡ true → b ≡ true) → b ≡ false → a ≡ false
 not_so true b so none = let e : b ≡ true = so refl in absurd cc
 not_so false b so none = refl
@@ -106,8 +125,11 @@ worked moment _ _ _ _ (End v) = record {
   begins = ([], sym (append-nil v.seen));
   later = omega arith;
   own = sym (append-nil v.pass.mine);
+  left = inl refl;
   stuck = λ free. tt;
+  names = λ told. absurd cc;
   still = λ found. found;
+  full = λ full. full;
 }
 worked moment _ _ _ _ (More job answer js answers v m u first rest) =
     let w = worked moment js answers m u rest in
@@ -120,6 +142,9 @@ worked moment _ _ _ _ (More job answer js answers v m u first rest) =
       begins = begins_on u.seen m.seen v.seen w.begins first.grows;
       later = omega (arith, first.later, w.later);
       own = w.own ∙ ap (λ (l : List ℕ). l ++ own_of_all answers) first.own ∙ append_assoc v.pass.mine (own_of answer) (own_of_all answers);
+      left = jobs_left moment job js v m u w.begins w.later first.later first.left w.left;
       stuck = λ free. (not_so (tells_stuck answer) (is_some u.pass.stuck) (λ told. w.still (first.stuck told)) free, w.stuck free);
+      names = λ told. ⊎_elim (λ one. w.full (first.names one)) (λ more. w.names more) (one_true (tells_full answer) (tell_full answers) told);
       still = λ found. w.still (first.still found);
+      full = λ full. w.full (first.full full);
     }

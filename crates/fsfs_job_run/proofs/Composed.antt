@@ -47,6 +47,7 @@ use Rattle.fsfs_job_run.specs.Ending.{EndsSo, IsEdited}
 use Rattle.fsfs_job_run.proofs.Staying.{IsCounted, bare_leaves}
 use Rattle.fsfs_job_run.proofs.Begun.{begun_stays, begun_told}
 use Rattle.fsfs_job_run.proofs.Counted.{does_on, none_counted, refused_counted, edits_outside}
+use Rattle.fsfs_job_run.proofs.Full.{edits_unfull}
 use Rattle.fsfs_job_run.proofs.Refused.{stopped_does, edited_txn, ends_job, runs_behind}
 use Rattle.fsfs_job_run.proofs.Ends.{IsLone, StaysKnown, purges_stay}
 
@@ -135,18 +136,19 @@ refused_job knows rose moment job line fault v done cause left = (
   record {
     done = subst (λ (now : List Revision). DoesJob moment (revisions v.seen) (jobs.Commit job) (Stopped line fault) now ⊎ Fails (jobs.Commit job) (Stopped line fault)) (sym (ap revisions left.2.seen)) done;
     leaves = bare_leaves (Stopped line fault) v left.0 tt left.2 (λ calm. left.3);
+    left = inl left.5;
   },
   cause left.0 left.4,
 )
 
 -- ---- what came before it added nothing
 
-pub behind : (knows : View → Type 0) (rose : Type 0) (moment : ℕ) (job : CommitJob) (answer : JobAnswer) (v m : View) → Stays v m → BringsNoDoubt v m → DoesSo knows rose moment (jobs.Commit job) answer m → DoesSo knows rose moment (jobs.Commit job) answer v
-behind knows rose moment job answer v m stays brings d = (d.0, d.1, runs_behind moment job answer v m d.0 stays brings d.2, d.3)
+pub behind : (knows : View → Type 0) (rose : Type 0) (moment : ℕ) (job : CommitJob) (answer : JobAnswer) (v m : View) → Stays v m → BringsNoDoubt v m → m.left ≡ v.left → DoesSo knows rose moment (jobs.Commit job) answer m → DoesSo knows rose moment (jobs.Commit job) answer v
+behind knows rose moment job answer v m stays brings kept d = (d.0, d.1, runs_behind moment job answer v m d.0 stays brings kept d.2, d.3)
 
-pub commits_behind : (knows : View → Type 0) (P Q : Type 0) (moment : ℕ) (job : CommitJob) (answer : JobAnswer) (v m : View) → (P → Q) → Stays v m → BringsNoDoubt v m → CommitsSo knows P moment job answer m → CommitsSo knows Q moment job answer v
-commits_behind knows P Q moment job answer v m f stays brings c =
-    (does_on knows P Q moment (jobs.Commit job) answer v f (behind knows P moment job answer v m stays brings c.0), subst (λ (h : List Recorded). IfCounted (jobs.Commit job) answer (StopsOver h)) stays.seen c.1)
+pub commits_behind : (knows : View → Type 0) (P Q : Type 0) (moment : ℕ) (job : CommitJob) (answer : JobAnswer) (v m : View) → (P → Q) → Stays v m → BringsNoDoubt v m → m.left ≡ v.left → CommitsSo knows P moment job answer m → CommitsSo knows Q moment job answer v
+commits_behind knows P Q moment job answer v m f stays brings kept c =
+    (does_on knows P Q moment (jobs.Commit job) answer v f (behind knows P moment job answer v m stays brings kept c.0), subst (λ (h : List Recorded). IfCounted (jobs.Commit job) answer (StopsOver h)) stays.seen c.1)
 
 -- ---- the whole, behind the edits
 
@@ -161,7 +163,7 @@ pub stopped_so : (knows : View → Type 0) (P Q : Type 0) (moment base : ℕ) (n
     → IfRefused fault (StopsAt (Bars (bytes_of v.seen) (tree_of (revisions v.seen)) (last_of (revisions v.seen)) base name) (tree_of (revisions v.seen)) (last_of (revisions v.seen)) (tree_of (revisions v.seen) base) [] job.steps line fault)
     → IfDisk fault P → StaysKnown knows v → CommitsSo knows Q moment job (Stopped line fault) v
 stopped_so knows P Q moment base name job line fault v f on within refused failed left = (
-  refused_job knows Q moment job line fault v (refused_so P moment base name job line fault v.seen on within refused failed) (λ u same. edits_outside P Q line u fault f failed) left,
+  refused_job knows Q moment job line fault v (refused_so P moment base name job line fault v.seen on within refused failed) (λ u same. edits_outside P Q line u fault f failed (edits_unfull line (tree_of (revisions v.seen)) (last_of (revisions v.seen)) (bytes_of v.seen) base name line (tree_of (revisions v.seen) base) [] job.steps fault refused)) left,
   refused_counted base name job line fault v.seen on refused,
 )
 
@@ -173,7 +175,7 @@ pub begun_so : (knows : View → Type 0) (P Q : Type 0) (moment base on_base : �
     → Stands (bytes_of u.seen) (tree_of (revisions u.seen)) (last_of (revisions u.seen)) on_base name settled (tree_of (revisions u.seen) on_base) [] → CommitsSo knows P moment job answer u)
     → CommitsSo knows Q moment job answer v
 begun_so knows P Q moment base on_base name settled job answer v u f all after told on same b does =
-    commits_behind knows P Q moment job answer v u f stays (same_faults v u (ap {A = View} (λ z. z.pass.faults) b.is))
+    commits_behind knows P Q moment job answer v u f stays (same_faults v u (ap {A = View} (λ z. z.pass.faults) b.is)) (ap {A = View} (λ z. z.left) b.is)
     (does stays.outside (begun_told name base settled v u b stays.seen told) (subst (λ (xs : List ℕ). IsIn name.number.number xs) (sym (ap {A = View} (λ z. z.given) b.is)) (inl refl)) (subst (λ (n : ℕ). n < length u.seen) (sym same) b.based)
     (same ∙ on ∙ ap (λ (h : List Recorded). base_of job.base (last_of (revisions h))) (sym stays.seen))
     (subst (λ (n : ℕ). Stands (bytes_of u.seen) (tree_of (revisions u.seen)) (last_of (revisions u.seen)) n name settled (tree_of (revisions u.seen) n) []) (sym same) b.stands))

@@ -1,5 +1,5 @@
 -- Causes of failures, one behind another, and what is told where a job was refused for mergeinfo.
-use Rattle.std.proofs.Common.{◌≡◌, ℕ, List, [], subst}
+use Rattle.std.proofs.Common.{◌≡◌, ℕ, List, [], false, subst}
 use Rattle.fsfs_base.specs.declared.fields.txn_name.TxnName.{TxnName}
 use Rattle.fsfs_tree.specs.Dated.{last_of}
 use Rattle.fsfs_tree.specs.Revisions.{tree_of}
@@ -17,12 +17,23 @@ use Rattle.fsfs_cli.specs.declared.faults.request_fault.RequestFault.{RequestFau
 use Rattle.fsfs_cli.specs.declared.faults.request_fault.RequestFault.TheVariants as requests
 use Rattle.fsfs_jobs.specs.Edits.{StopsAt}
 use Rattle.fsfs_jobs.specs.Serial.{base_of}
+use Rattle.fsfs_cli.specs.declared.faults.limit_fault.LimitFault.{LimitFault}
+use Rattle.fsfs_cli.specs.declared.faults.limit_fault.LimitFault.TheVariants as limits
 use Rattle.fsfs_jobs.specs.declared.answer.JobAnswer.{JobAnswer}
 use Rattle.fsfs_jobs.specs.declared.answer.JobAnswer.TheVariants as answers
 use Rattle.fsfs_jobs.specs.JobEdits.Editing.{Bars, IfRefused, IfDisk}
+use Rattle.fsfs_job_run.specs.Serial.Jobs.{tells_full}
 use Rattle.fsfs_job_run.specs.Running.{HasOutsideCause, IfCounted, IsNoRequest, StopsOver, DoesSo}
 
 -- ---- causes
+
+limit_on : (P Q : Type 0) (u : View) (line : ℕ) (why : LimitFault) → HasOutsideCause P u (answers.Stopped line (Limit why)) → HasOutsideCause Q u (answers.Stopped line (Limit why))
+limit_on P Q u line limits.TextTooLong h = tt
+limit_on P Q u line limits.PropTooLong h = tt
+limit_on P Q u line limits.TooManyEntries h = tt
+limit_on P Q u line limits.TooManyJobs h = tt
+limit_on P Q u line limits.NamesFull h = h
+limit_on P Q u line limits.RevsFull h = tt
 
 pub outside_on : (P Q : Type 0) (u : View) (answer : JobAnswer) → (P → Q) → HasOutsideCause P u answer → HasOutsideCause Q u answer
 outside_on P Q u (answers.Committed rev) f h = tt
@@ -38,25 +49,33 @@ outside_on P Q u (answers.Stopped line (Outside outside.Write)) f h = h
 outside_on P Q u (answers.Stopped line (Outside outside.Bench)) f h = tt
 outside_on P Q u (answers.Stopped line (Outside (outside.Stuck at))) f h = h
 outside_on P Q u (answers.Stopped line Memory) f h = tt
-outside_on P Q u (answers.Stopped line (Limit why)) f h = tt
+outside_on P Q u (answers.Stopped line (Limit why)) f h = limit_on P Q u line why h
 
 -- the same, over more calls
 pub does_on : (knows : View → Type 0) (P Q : Type 0) (moment : ℕ) (job : Job) (answer : JobAnswer) (v : View) → (P → Q) → DoesSo knows P moment job answer v → DoesSo knows Q moment job answer v
 does_on knows P Q moment job answer v f d = (d.0, d.1, d.2, outside_on P Q d.0 answer f d.3)
 
+limit_outside : (Q : Type 0) (line : ℕ) (u : View) (why : LimitFault) → tells_full (answers.Stopped line (Limit why)) ≡ false → HasOutsideCause Q u (answers.Stopped line (Limit why))
+limit_outside Q line u limits.TextTooLong unfull = tt
+limit_outside Q line u limits.PropTooLong unfull = tt
+limit_outside Q line u limits.TooManyEntries unfull = tt
+limit_outside Q line u limits.TooManyJobs unfull = tt
+limit_outside Q line u limits.NamesFull unfull = absurd cc
+limit_outside Q line u limits.RevsFull unfull = tt
+
 -- of an edit
-pub edits_outside : (P Q : Type 0) (line : ℕ) (u : View) (fault : Fault) → (P → Q) → IfDisk fault P → HasOutsideCause Q u (answers.Stopped line fault)
-edits_outside P Q line u (Words why) f h = tt
-edits_outside P Q line u (Request why) f h = tt
-edits_outside P Q line u (Repository why) f h = tt
-edits_outside P Q line u (Outside outside.Mount) f h = h
-edits_outside P Q line u (Outside (outside.Disk at)) f h = f h
-edits_outside P Q line u (Outside outside.Read) f h = h
-edits_outside P Q line u (Outside outside.Write) f h = h
-edits_outside P Q line u (Outside outside.Bench) f h = tt
-edits_outside P Q line u (Outside (outside.Stuck at)) f h = absurd h
-edits_outside P Q line u Memory f h = tt
-edits_outside P Q line u (Limit why) f h = tt
+pub edits_outside : (P Q : Type 0) (line : ℕ) (u : View) (fault : Fault) → (P → Q) → IfDisk fault P → tells_full (answers.Stopped line fault) ≡ false → HasOutsideCause Q u (answers.Stopped line fault)
+edits_outside P Q line u (Words why) f h unfull = tt
+edits_outside P Q line u (Request why) f h unfull = tt
+edits_outside P Q line u (Repository why) f h unfull = tt
+edits_outside P Q line u (Outside outside.Mount) f h unfull = h
+edits_outside P Q line u (Outside (outside.Disk at)) f h unfull = f h
+edits_outside P Q line u (Outside outside.Read) f h unfull = h
+edits_outside P Q line u (Outside outside.Write) f h unfull = h
+edits_outside P Q line u (Outside outside.Bench) f h unfull = tt
+edits_outside P Q line u (Outside (outside.Stuck at)) f h unfull = absurd h
+edits_outside P Q line u Memory f h unfull = tt
+edits_outside P Q line u (Limit why) f h unfull = limit_outside Q line u why unfull
 
 -- ---- mergeinfo
 

@@ -8,13 +8,15 @@ use Rattle.fsfs_tree.specs.Histories.{IsHistory}
 use Rattle.fsfs_tree.specs.Revisions.{Revision}
 use Rattle.fsfs_tree.specs.Dated.{last_of}
 use Rattle.fsfs_model.specs.Flat.Transactions.{IsNext}
+use Rattle.fsfs_machine.specs.declared.machine.Coming.{Coming}
 use Rattle.fsfs_machine.specs.declared.machine.Recorded.{Recorded}
 use Rattle.fsfs_machine.specs.declared.machine.Txn.{Txn}
 use Rattle.fsfs_machine.specs.Machine.{revisions, entry_of}
 use Rattle.fsfs_machine.proofs.Growing.{revisions_length}
 use Rattle.fsfs_turn.specs.Views.{View, IsTxnOver}
+use Rattle.fsfs_turn.proofs.Alone.{same_by_length, no_shorter}
 use Rattle.fsfs_repo.specs.Works.{Landings}
-use Rattle.fsfs_repo.specs.Replies.{Committed}
+use Rattle.fsfs_repo.specs.Replies.{Committed, Wrote}
 use Rattle.fsfs_script.specs.declared.job_lines.job.CommitJob.{CommitJob}
 use Rattle.fsfs_script.specs.declared.job_lines.job.Job.TheVariants as jobs
 use Rattle.fsfs_jobs.specs.Properties.{job_properties}
@@ -47,6 +49,22 @@ commits_added moment rev job date properties v u x y c same dated are =
     next : IsNext (revisions v.seen) (entry_of v.number x (job_properties date job)) c.next.revision
     next = subst (λ (h : List Recorded). IsNext (revisions h) (entry_of v.number x (job_properties date job)) c.next.revision) same
         (subst (λ (p : List (List ℕ × List ℕ)). IsNext (revisions c.before) (entry_of v.number x p) c.next.revision) are c.handed_in)
+
+-- it was to be added, and is left in doubt
+pub commits_wrote : (moment : ℕ) (job : CommitJob) (date : List ℕ) (properties : List (List ℕ × List ℕ)) (v u : View) (x : Txn) (c : Coming) → u.seen ≡ v.seen → Wrote properties v u x c
+    → IsDateAt moment date → properties ≡ job_properties date job → CommitsTxn moment v.number job (revisions v.seen) x (answers.Committed (length (revisions v.seen))) (revisions v.seen ++ c.revision ∷ [])
+commits_wrote moment job date properties v u x c stayed w dated are = ByCommit date (answers.Committed (length (revisions v.seen))) (revisions v.seen ++ c.revision ∷ []) dated (Adds c.revision next)
+  where
+    same : w.before ≡ v.seen
+    same =
+        let long : length u.seen ≡ length v.seen = ap (λ (h : List Recorded). length h) stayed in
+        let low = no_shorter v.seen w.before w.begins in
+        let high = no_shorter w.before u.seen w.seen in
+        same_by_length v.seen w.before w.begins (omega (arith, long, low, high))
+
+    next : IsNext (revisions v.seen) (entry_of v.number x (job_properties date job)) c.revision
+    next = subst (λ (h : List Recorded). IsNext (revisions h) (entry_of v.number x (job_properties date job)) c.revision) same
+        (subst (λ (p : List (List ℕ × List ℕ)). IsNext (revisions w.before) (entry_of v.number x p) c.revision) are w.is_next)
 
 -- it clashes with the last revision, where the history is not full
 pub commits_clash : (moment pass : ℕ) (job : CommitJob) (h : List Recorded) (x y : Txn) (path : Path) → IsHistory (revisions h) → IsTxnOver h x → Landings h x y → 0 < length h → y.base ≤ last_of (revisions h) → last_of (revisions h) < last_rev

@@ -33,7 +33,7 @@ use Rattle.fsfs_job_run.specs.Serial.Jobs.{Fails, tells_doubt}
 use Rattle.fsfs_repo.specs.Dating.{IsDatedAt}
 use Rattle.fsfs_repo.specs.Txns.Commits.{IsDropped}
 use Rattle.fsfs_job_run.specs.Running.{Stays, HasOutsideCause}
-use Rattle.fsfs_job_run.specs.Ending.{CommitsTxn, EndsSo}
+use Rattle.fsfs_job_run.specs.Ending.{CommitsTxn, EndsSo, TxnLeft}
 use Rattle.fsfs_job_run.proofs.PropertyLemmas.{job_dated}
 use Rattle.fsfs_job_run.proofs.Staying.{IsCounted, IsBare, seen_same, between, bare_leaves, stays_on, then_stays, purge_stays, no_purge_stays, moved_stays, commit_leaves}
 use Rattle.fsfs_job_run.proofs.Ended.{commits_added}
@@ -44,17 +44,22 @@ pub record IsLone (knows : View → Type 0) : Type 0 where
   pub told : (u : View) → knows u → u.pass.least < length u.seen
   pub number : (u : View) → knows u → u.number ≡ 0
 
+-- what is left in doubt stays so
+left_on : (moment : ℕ) (job : CommitJob) (x : Txn) (v m u : View) → u.left ≡ m.left → TxnLeft moment job x v m → TxnLeft moment job x v u
+left_on moment job x v m u same (inl kept) = inl (same ∙ kept)
+left_on moment job x v m u same (inr (c, is, wrote)) = inr (c, same ∙ is, wrote)
+
 -- behind a purge
 abbrev pub StaysKnown : (View → Type 0) → View → Type 0
-StaysKnown knows v = (u : View) × knows u × Stays v u × BringsNoDoubt v u × (u.pass.stuck ≡ v.pass.stuck)
+StaysKnown knows v = (u : View) × knows u × Stays v u × BringsNoDoubt v u × (u.pass.stuck ≡ v.pass.stuck) × (u.left ≡ v.left)
 
 module _ (knows : View → Type 0) (lone : IsLone knows) where
   purged_known : (lay : World → World) (step : Step) (v u : View) → IsCounted v → v.section ≡ None → knows u → HasPurged lay step v u → StaysKnown knows v
-  purged_known lay step v u all none known p = (u, known, purge_stays lay step v u p all (lone.all u known) none, same_faults v u (ap {A = View} (λ z. z.pass.faults) p.is), ap {A = View} (λ z. z.pass.stuck) p.is)
+  purged_known lay step v u all none known p = (u, known, purge_stays lay step v u p all (lone.all u known) none, same_faults v u (ap {A = View} (λ z. z.pass.faults) p.is), ap {A = View} (λ z. z.pass.stuck) p.is, ap {A = View} (λ z. z.left) p.is)
 
   not_purged_known : (place : DiskPlace) (lay : World → World) (step : Step) (v u : View) → brings_doubt place ≡ false → IsCounted v → v.section ≡ None → knows u → HasNotPurged place lay step v u → StaysKnown knows v
   not_purged_known place lay step v u harmless all none known p =
-      (u, known, no_purge_stays place lay step v u p all (lone.all u known) none, fault_more place v u (ap {A = View} (λ z. z.pass.faults) p.is) harmless, ap {A = View} (λ z. z.pass.stuck) p.is)
+      (u, known, no_purge_stays place lay step v u p all (lone.all u known) none, fault_more place v u (ap {A = View} (λ z. z.pass.faults) p.is) harmless, ap {A = View} (λ z. z.pass.stuck) p.is, ap {A = View} (λ z. z.left) p.is)
 
   pub purges_stay : (lay : World → World) (step : Went → Step) (result : Result (Unit {0}) PurgeFault) (v : View) → IsCounted v → v.section ≡ None → Purges knows lay step result v → StaysKnown knows v
   purges_stay lay step (Ok done) v all none p = purged_known lay (step Fine) v p.0 all none p.1 p.2
@@ -88,6 +93,7 @@ module _ (knows : View → Type 0) (lone : IsLone knows) where
     record {
       done = inl (subst (λ (now : List Revision). CommitsTxn moment v.number job (revisions v.seen) x (answers.Committed rev) now) (sym (ap revisions left.2.seen)) does);
       leaves = then_stays (answers.Committed rev) v m left.0 (commit_leaves rev dated v m x y c same (sym after.3 ∙ after.4 ∙ sym at_first)) left.2 left.3;
+      left = inl (left.5 ∙ c.left);
     },
     tt,
   )
@@ -113,9 +119,13 @@ module _ (knows : View → Type 0) (lone : IsLone knows) where
   -- ---- nothing was added, and the transaction is no more
 
   pub ends_failed : (rose : Type 0) (moment : ℕ) (job : CommitJob) (answer : JobAnswer) (x : Txn) (gone : Bool) (name : ℕ) (v m : View) → IsCounted v → v.section ≡ None → IsBare answer → Fails (jobs.Commit job) answer
-      → ((u : View) → u.pass.stuck ≡ m.pass.stuck → HasOutsideCause rose u answer) → (tells_doubt answer ≡ false → BringsNoDoubt v m) → Moved v m → IsDropped knows gone name m → EndsSo knows rose moment job answer x v
-  ends_failed rose moment job answer x gone name v m all none bare fails cause brings moved dropped =
-      (left.0, left.1, record { done = inr fails; leaves = bare_leaves answer v left.0 bare (stays_on v m left.0 stays left.2) (λ calm few. left.3 (brings calm few)) }, cause left.0 left.4)
+      → ((u : View) → u.pass.stuck ≡ m.pass.stuck → HasOutsideCause rose u answer) → (tells_doubt answer ≡ false → BringsNoDoubt v m) → (m.seen ≡ v.seen → TxnLeft moment job x v m) → Moved v m → IsDropped knows gone name m → EndsSo knows rose moment job answer x v
+  ends_failed rose moment job answer x gone name v m all none bare fails cause brings doubt moved dropped = (
+    left.0,
+    left.1,
+    record { done = inr fails; leaves = bare_leaves answer v left.0 bare (stays_on v m left.0 stays left.2) (λ calm few. left.3 (brings calm few)); left = left_on moment job x v m left.0 left.5 (doubt stays.seen) },
+    cause left.0 left.4,
+  )
     where
       after : GoesOn m
       after = dropped_on gone name m dropped
@@ -137,14 +147,15 @@ module _ (knows : View → Type 0) (lone : IsLone knows) where
   pub back_stays : (v m : View) → IsCounted v → v.section ≡ None → Moved v m → knows m → Stays v m
   back_stays v m all none moved known = moved_stays v m moved (seen_same v m all moved.drifted.grows (lone.all m known) moved.drifted.opened moved.drifted.mine) none
 
-  pub ends_purged : (rose : Type 0) (moment : ℕ) (job : CommitJob) (answer : JobAnswer) (x : Txn) (v m : View) → Stays v m → BringsNoDoubt v m → IsBare answer → CommitsTxn moment v.number job (revisions v.seen) x answer (revisions v.seen) ⊎ Fails (jobs.Commit job) answer
+  pub ends_purged : (rose : Type 0) (moment : ℕ) (job : CommitJob) (answer : JobAnswer) (x : Txn) (v m : View) → Stays v m → BringsNoDoubt v m → m.left ≡ v.left → IsBare answer → CommitsTxn moment v.number job (revisions v.seen) x answer (revisions v.seen) ⊎ Fails (jobs.Commit job) answer
       → ((u : View) → u.pass.stuck ≡ m.pass.stuck → HasOutsideCause rose u answer) → StaysKnown knows m → EndsSo knows rose moment job answer x v
-  ends_purged rose moment job answer x v m stays brings bare done cause left = (
+  ends_purged rose moment job answer x v m stays brings kept bare done cause left = (
     left.0,
     left.1,
     record {
       done = subst (λ (now : List Revision). CommitsTxn moment v.number job (revisions v.seen) x answer now ⊎ Fails (jobs.Commit job) answer) (sym (ap revisions (left.2.seen ∙ stays.seen))) done;
       leaves = bare_leaves answer v left.0 bare (stays_on v m left.0 stays left.2) (λ calm few. left.3 (brings few));
+      left = inl (left.5 ∙ kept);
     },
     cause left.0 left.4,
   )

@@ -217,11 +217,11 @@ cause_unfull base line begin.Memory u c told = absurd cc
 
 -- ---- answers one after another
 
-one_true : (a b : Bool) → (a || b) ≡ true → (a ≡ true) ⊎ (b ≡ true)
+pub one_true : (a b : Bool) → (a || b) ≡ true → (a ≡ true) ⊎ (b ≡ true)
 one_true true b e = inl refl
 one_true false b e = inr e
 
-then_true : (a b : Bool) → b ≡ true → (a || b) ≡ true
+pub then_true : (a b : Bool) → b ≡ true → (a || b) ≡ true
 then_true true b e = refl
 then_true false b e = e
 

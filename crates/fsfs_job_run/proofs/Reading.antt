@@ -89,6 +89,7 @@ pub reads_job : (moment : ℕ) (job : ReadJob) (answer : JobAnswer) (v u : View)
 reads_job moment job answer v u within looked reads = record {
   done = subst (λ (now : List Revision). DoesJob moment (revisions v.seen) (jobs.Read job) answer now ⊎ Fails (jobs.Read job) answer) (sym (ap revisions looked.stays.seen)) (reads_does moment job (revisions v.seen) answer within reads);
   leaves = bare_leaves answer v u (is_bare answer (reads_bare job _ _ answer reads)) looked.stays (λ calm. looked.doubtless);
+  left = inl looked.left;
 }
 
 -- and what is known behind it

@@ -1,5 +1,5 @@
 -- A job whose edits were refused, and one whose edits were done.
-use Rattle.std.proofs.Common.{◌≡◌, ◌⊎◌, ◌≤◌, ◌+◌, ℕ, List, [], refl, sym, ap, subst, inl, inr, arith}
+use Rattle.std.proofs.Common.{◌≡◌, ◌⊎◌, ◌≤◌, ◌+◌, ◌++◌, ◌∷◌, ℕ, List, [], length, refl, sym, ap, subst, ◌∙◌, inl, inr, arith}
 use Rattle.std.specs.FinMap.{get}
 use Rattle.fsfs_base.specs.Paths.{Path}
 use Rattle.fsfs_tree.specs.Nodes.{TreeFunction}
@@ -19,11 +19,11 @@ use Rattle.fsfs_cli.specs.declared.faults.request_fault.RequestFault.TheVariants
 use Rattle.fsfs_jobs.specs.Edits.{Refuses, StopsAt, TakesSteps}
 use Rattle.fsfs_jobs.specs.Serial.{Begins, Refused, base_of}
 use Rattle.fsfs_jobs.specs.declared.answer.JobAnswer.{JobAnswer}
-use Rattle.fsfs_jobs.specs.declared.answer.JobAnswer.TheVariants.{Stopped}
-use Rattle.fsfs_job_run.specs.Serial.Jobs.{DoesJob, Fails, ByCounts, RunsJob}
+use Rattle.fsfs_jobs.specs.declared.answer.JobAnswer.TheVariants.{Committed, Stopped}
+use Rattle.fsfs_job_run.specs.Serial.Jobs.{DoesJob, Fails, ByCounts, LeftBy, RunsJob, WasToAdd}
 use Rattle.fsfs_job_run.proofs.Finite.{edited_maps}
 use Rattle.fsfs_job_run.specs.Running.{Stays}
-use Rattle.fsfs_job_run.specs.Ending.{CommitsTxn, EndsTxn, IsEdited}
+use Rattle.fsfs_job_run.specs.Ending.{CommitsTxn, EndsTxn, IsEdited, TxnLeft}
 use Rattle.fsfs_job_run.proofs.Staying.{stays_then}
 use Rattle.fsfs_job_run.proofs.Ended.{edited_does}
 use Rattle.fsfs_job_run.proofs.Edited.{stops_by}
@@ -60,15 +60,24 @@ edited_txn h last name base job t marks takes =
 -- a job whose edits were done ends as its transaction does
 pub ends_job : (moment : ℕ) (job : CommitJob) (answer : JobAnswer) (x : Txn) (v u : View) → base_of job.base (last_of (revisions v.seen)) ≤ last_of (revisions v.seen) → IsEdited job (base_of job.base (last_of (revisions v.seen))) (revisions v.seen) x
     → EndsTxn moment job answer x v u → RunsJob moment (jobs.Commit job) answer v u
-ends_job moment job answer x v u within e ends = record { done = by ends.done; leaves = ends.leaves }
+ends_job moment job answer x v u within e ends = record { done = by ends.done; leaves = ends.leaves; left = left_by ends.left }
   where
+    left_by : TxnLeft moment job x v u → LeftBy moment (jobs.Commit job) v u
+    left_by (inl kept) = inl kept
+    left_by (inr (c, is, wrote)) = inr (c, is, edited_does moment v.number job (Committed (length (revisions v.seen))) (revisions v.seen) (revisions v.seen ++ c.revision ∷ []) x within e wrote)
+
     by : CommitsTxn moment v.number job (revisions v.seen) x answer (revisions u.seen) ⊎ Fails (jobs.Commit job) answer → DoesJob moment (revisions v.seen) (jobs.Commit job) answer (revisions u.seen) ⊎ Fails (jobs.Commit job) answer
     by (inl commits) = inl (edited_does moment v.number job answer (revisions v.seen) (revisions u.seen) x within e commits)
     by (inr fails) = inr fails
 
 -- what came before it added nothing
-pub runs_behind : (moment : ℕ) (job : CommitJob) (answer : JobAnswer) (v m u : View) → Stays v m → BringsNoDoubt v m → RunsJob moment (jobs.Commit job) answer m u → RunsJob moment (jobs.Commit job) answer v u
-runs_behind moment job answer v m u stays brings runs = record {
+pub runs_behind : (moment : ℕ) (job : CommitJob) (answer : JobAnswer) (v m u : View) → Stays v m → BringsNoDoubt v m → m.left ≡ v.left → RunsJob moment (jobs.Commit job) answer m u → RunsJob moment (jobs.Commit job) answer v u
+runs_behind moment job answer v m u stays brings kept runs = record {
   done = subst (λ (h : List Revision). DoesJob moment h (jobs.Commit job) answer (revisions u.seen) ⊎ Fails (jobs.Commit job) answer) (ap revisions stays.seen) runs.done;
   leaves = stays_then answer v m u stays brings runs.leaves;
+  left = left_by runs.left;
 }
+  where
+    left_by : LeftBy moment (jobs.Commit job) m u → LeftBy moment (jobs.Commit job) v u
+    left_by (inl same) = inl (same ∙ kept)
+    left_by (inr (c, is, wrote)) = inr (c, is, subst (λ (h : List Revision). WasToAdd moment h (jobs.Commit job) c.revision) (ap revisions stays.seen) wrote)

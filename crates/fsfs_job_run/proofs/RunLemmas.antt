@@ -39,14 +39,14 @@ use Rattle.fsfs_turn.specs.Whole.{NamesFrom}
 use Rattle.fsfs_repo.specs.Owned.Crashes.{CrashesLeave}
 use Rattle.fsfs_script.specs.declared.job_lines.job.Job.{Job}
 use Rattle.fsfs_jobs.specs.declared.answer.JobAnswer.{JobAnswer}
-use Rattle.fsfs_job_run.specs.Serial.Jobs.{DoesJob, Fails, ByDisk, ByBench, ByStuck, ByMemory, ByNames, ByCounts, AddsBy, RunsJob, RunJobs, End, More, StuckBehindDoubt, bench_faults_in, tell_full}
+use Rattle.fsfs_job_run.specs.Serial.Jobs.{DoesJob, LeftBy, WasToAdd, Fails, ByDisk, ByBench, ByStuck, ByMemory, ByNames, ByCounts, AddsBy, RunsJob, RunJobs, End, More, StuckBehindDoubt, bench_faults_in, tell_full}
 use Rattle.fsfs_job_run.proofs.SerialJobLemmas.{runs_serial, grow}
 use Rattle.fsfs_job_run.proofs.ListedLemmas.{failed_on}
 use Rattle.fsfs_job_run.specs.Running.{DoAll, HasGiven}
 use Rattle.fsfs_job_run.proofs.Unopened.{does_not_open}
 use Rattle.fsfs_job_run.specs.Openings.{OpensAs}
 use Rattle.fsfs_job_run.specs.Workers.Lines.{disk_faults_in, RoseBy}
-use Rattle.fsfs_job_run.specs.Histories.{EndsJob, EndJobs, DidScript}
+use Rattle.fsfs_job_run.specs.Histories.{EndsJob, EndJobs, DidScript, IsOfJob}
 use Rattle.fsfs_job_run.specs.Runs.{AllStandFor, FollowsHistory, HoldsAll, IsNextName, IsPartOf, Ran, RanOver, RunScene, RunsScript, NotOpened, NotRead, NoRoom, Done}
 
 stays : (job : Job) (answer : JobAnswer) (h now : List Recorded) → Fails job answer → AddsBy answer h now → now ≡ h
@@ -91,11 +91,43 @@ did_script moment js answers v u runs =
       serial = λ none t room. let serial = runs_serial moment js answers v u t runs none room in (serial.0, serial.2);
     }
 
--- ---- what is told of a run
+-- ---- what is left in doubt
 
 -- the revision in doubt, without its bytes
 abbrev pub doubt_of : Option Coming → Option Revision
 doubt_of d = option_map (λ (x : Coming). x.revision) d
+
+-- what the first job was to add, and what a later one was
+first_left : (moment : ℕ) (job : Job) (js : List Job) (h now rest : List Revision) (next : Revision) → now ≡ h ++ rest → WasToAdd moment h job next → IsOfJob moment (job ∷ js) now next
+first_left moment job js h now rest next part was = record { at = 0; job = job; is = refl; before = h; rest = rest; part = part; was = was }
+
+later_left : (moment : ℕ) (job : Job) (js : List Job) (now : List Revision) (next : Revision) → IsOfJob moment js now next → IsOfJob moment (job ∷ js) now next
+later_left moment job js now next d = record { at = suc d.at; job = d.job; is = d.is; before = d.before; rest = d.rest; part = d.part; was = d.was }
+
+-- it is what was, or what one of the jobs was to add
+jobs_left : (moment : ℕ) (js : List Job) (answers : List JobAnswer) (v u : View) → RunJobs moment js answers v u → (u.left ≡ v.left) ⊎ ((c : Coming) × (u.left ≡ Some c) × IsOfJob moment js (revisions u.seen) c.revision)
+jobs_left moment _ _ _ _ (End v) = inl refl
+jobs_left moment _ _ _ _ (More job answer js answers v m u first counts rest) = by (jobs_left moment js answers m u rest) first.left
+  where
+    grown : Begins u.seen v.seen
+    grown = (grow moment (job ∷ js) (answer ∷ answers) v u (More job answer js answers v m u first counts rest)).begins
+
+    by : (u.left ≡ m.left) ⊎ ((c : Coming) × (u.left ≡ Some c) × IsOfJob moment js (revisions u.seen) c.revision) → LeftBy moment job v m
+        → (u.left ≡ v.left) ⊎ ((c : Coming) × (u.left ≡ Some c) × IsOfJob moment (job ∷ js) (revisions u.seen) c.revision)
+    by (inr (c, is, d)) one = inr (c, is, later_left moment job js (revisions u.seen) c.revision d)
+    by (inl same) (inl kept) = inl (same ∙ kept)
+    by (inl same) (inr (c, is, was)) =
+        inr (c, same ∙ is, first_left moment job js (revisions v.seen) (revisions u.seen) (revisions grown.0) c.revision (ap revisions grown.1 ∙ map-append (λ (x : Recorded). x.revision) v.seen grown.0) was)
+
+doubt_left : (moment : ℕ) (js : List Job) (now : List Revision) (d left : Option Coming) → d ≡ left → (left ≡ None) ⊎ ((c : Coming) × (left ≡ Some c) × IsOfJob moment js now c.revision) → IfSome (doubt_of d) (IsOfJob moment js now)
+doubt_left moment js now d left same (inl none) = subst (λ (o : Option Coming). IfSome (doubt_of o) (IsOfJob moment js now)) (sym (same ∙ none)) tt
+doubt_left moment js now d left same (inr (c, is, of)) = subst (λ (o : Option Coming). IfSome (doubt_of o) (IsOfJob moment js now)) (sym (same ∙ is)) of
+
+left_now : {D : Type 0} {a b : Option Coming} → b ≡ None → (a ≡ b) ⊎ D → (a ≡ None) ⊎ D
+left_now clear (inl same) = inl (same ∙ clear)
+left_now clear (inr d) = inr d
+
+-- ---- what is told of a run
 
 pub doubt_follows : (h : List Recorded) (d : Option Coming) → IfSome d (Follows h) → IfSome (doubt_of d) (FollowsHistory (revisions h))
 doubt_follows h None f = tt
@@ -106,10 +138,11 @@ a_part h g d (inl (more, is)) = inl (revisions more, ap revisions is ∙ map-app
 a_part h g d (inr (x, is, with)) = inr (x.revision, ap doubt_of is, ap revisions with ∙ map-append (λ (r : Recorded). r.revision) h (recorded x ∷ []))
 
 -- `was` are the revisions that there were at the opening
-held_all : (was : List Recorded) (layout : Layout) (told : Option Trace) (u : View) → u.opened ≡ length was → Begins u.seen was → HoldBytes u.since.files was → CrashesLeave layout told u
-    → IfSome told (λ t. (all : HoldsAll u.since t (revisions was) (revisions u.seen)) × (all.seen ≡ u.seen))
-held_all was layout None u opened begins had leaves = tt
-held_all was layout (Some t) u opened begins had leaves = (holds, refl)
+held_all : (moment : ℕ) (js : List Job) (was : List Recorded) (layout : Layout) (told : Option Trace) (u : View) → u.opened ≡ length was → Begins u.seen was → HoldBytes u.since.files was → u.section ≡ None
+    → (u.left ≡ None) ⊎ ((c : Coming) × (u.left ≡ Some c) × IsOfJob moment js (revisions u.seen) c.revision) → CrashesLeave layout told u
+    → IfSome told (λ t. (all : HoldsAll u.since t (revisions was) (revisions u.seen)) × (all.seen ≡ u.seen) × IfSome all.doubt (IsOfJob moment js (revisions u.seen)))
+held_all moment js was layout None u opened begins had none left leaves = tt
+held_all moment js was layout (Some t) u opened begins had none left leaves = (holds, refl, doubt_left moment js (revisions u.seen) leaves.doubt u.left (leaves.left none) left)
   where
     says : SaysFormat (small_texts u.since.files) (Known layout)
     says = (were_own layout u.since.files (files_now t) (leaves.own (files_now t) (image_now u.since.operations t.first t.operations (files_now t) (files_are_image t.first t.operations)))).format
@@ -142,9 +175,9 @@ stands_all : (layout : Layout) (told : Option Trace) (u : View) → u.section �
 stands_all layout None u none few leaves = tt
 stands_all layout (Some t) u none few leaves = record { now = leaves.doubtless none few (files_now t) (files_are_image t.first t.operations); images = leaves.doubtless none few }
 
-pub ran : (moment : ℕ) (js : List Job) (answers : List JobAnswer) (youngest : ℕ) (v u : View) (layout : Layout) (told : Option Trace) → v.opened ≡ length v.seen → HoldBytes v.since.files v.seen → are_harmless v.pass.faults ≡ true → u.section ≡ None → (tell_full answers ≡ true → IfSome told (λ t. LeavesNoName (files_now t))) → StuckBehindDoubt answers → RunJobs moment js answers v u → length u.seen ≡ youngest + 1 → CrashesLeave layout told u
+pub ran : (moment : ℕ) (js : List Job) (answers : List JobAnswer) (youngest : ℕ) (v u : View) (layout : Layout) (told : Option Trace) → v.opened ≡ length v.seen → HoldBytes v.since.files v.seen → v.left ≡ None → are_harmless v.pass.faults ≡ true → u.section ≡ None → (tell_full answers ≡ true → IfSome told (λ t. LeavesNoName (files_now t))) → StuckBehindDoubt answers → RunJobs moment js answers v u → length u.seen ≡ youngest + 1 → CrashesLeave layout told u
     → Ran moment v.since js answers youngest (revisions v.seen) told
-ran moment js answers youngest v u layout told opened had few none full stuck runs last leaves =
+ran moment js answers youngest v u layout told opened had clear few none full stuck runs last leaves =
     let grown = grow moment js answers v u runs in
     record {
       now = revisions u.seen;
@@ -152,8 +185,8 @@ ran moment js answers youngest v u layout told opened had few none full stuck ru
       are = refl;
       did = did_script moment js answers v u runs;
       last = length-map u.seen (λ (x : Recorded). x.revision) ∙ last;
-      held = subst (λ n. IfSome told (λ t. (all : HoldsAll n t (revisions v.seen) (revisions u.seen)) × (all.seen ≡ u.seen))) grown.since
-          (held_all v.seen layout told u (grown.opened ∙ opened) grown.begins (subst (λ (n : Since). HoldBytes n.files v.seen) (sym grown.since) had) leaves);
+      held = subst (λ n. IfSome told (λ t. (all : HoldsAll n t (revisions v.seen) (revisions u.seen)) × (all.seen ≡ u.seen) × IfSome all.doubt (IsOfJob moment js (revisions u.seen)))) grown.since
+          (held_all moment js v.seen layout told u (grown.opened ∙ opened) grown.begins (subst (λ (n : Since). HoldBytes n.files v.seen) (sym grown.since) had) none (left_now clear (jobs_left moment js answers v u runs)) leaves);
       full = full;
       stuck = stuck;
       certain = λ calm. stands_all layout told u none (grown.doubtless calm few) leaves;
@@ -166,11 +199,11 @@ firm_fails change old new done = inr (inr done)
 
 -- ---- what a lone pass knows behind jobs
 
-pub ran_in : (layout : Layout) (young : ℕ) (stuck : Option DiskPlace) (told new : Option Trace) (moment : ℕ) (js : List Job) (answers : List JobAnswer) (youngest : ℕ) (v : View) → new ≡ told → v.opened ≡ length v.seen → HoldBytes v.since.files v.seen → are_harmless v.pass.faults ≡ true
+pub ran_in : (layout : Layout) (young : ℕ) (stuck : Option DiskPlace) (told new : Option Trace) (moment : ℕ) (js : List Job) (answers : List JobAnswer) (youngest : ℕ) (v : View) → new ≡ told → v.opened ≡ length v.seen → HoldBytes v.since.files v.seen → v.left ≡ None → are_harmless v.pass.faults ≡ true
     → (tell_full answers ≡ true → IfSome told (λ t. LeavesNoName (files_now t))) → ((u : View) → KnowsAlone layout young stuck told u → length u.seen ≡ youngest + 1) → ((u : View) → KnowsAlone layout young stuck told u → CrashesLeave layout told u)
     → DoAll (KnowsAlone layout young stuck told) moment js answers v → Ran moment v.since js answers youngest (revisions v.seen) new
-ran_in layout young stuck told new moment js answers youngest v same opened had few full all leaves (u, known, none, runs, stuck_so) =
-    subst (Ran moment v.since js answers youngest (revisions v.seen)) (sym same) (ran moment js answers youngest v u layout told opened had few none full (stuck_so few) runs (all u known) (leaves u known))
+ran_in layout young stuck told new moment js answers youngest v same opened had clear few full all leaves (u, known, none, runs, stuck_so) =
+    subst (Ran moment v.since js answers youngest (revisions v.seen)) (sym same) (ran moment js answers youngest v u layout told opened had clear few none full (stuck_so few) runs (all u known) (leaves u known))
 
 -- ---- a run, told of a count that rose as well
 
@@ -205,13 +238,13 @@ not_read {B} moment before after a b o error fault is opens read rose firm writt
 
 -- over what the opening told
 pub ran_over : (knows : View → Type 0) (moment : ℕ) (js : List Job) (answers : List JobAnswer) (youngest : ℕ) (old new : Option Trace) → IfSome old (λ t. (h : List Revision) (stands : StandsFor (files_now t) h) → LeftoversAgree stands → HasSeenAll knows t stands.opened.min_unpacked_rev stands.opened.next_txn.number h)
-    → ((v : View) → knows v → v.section ≡ None → v.opened ≡ length v.seen → HoldBytes v.since.files v.seen → are_harmless v.pass.faults ≡ true → Ran moment v.since js answers youngest (revisions v.seen) new) → RanOver moment js answers youngest old new
+    → ((v : View) → knows v → v.section ≡ None → v.opened ≡ length v.seen → HoldBytes v.since.files v.seen → v.left ≡ None → are_harmless v.pass.faults ≡ true → Ran moment v.since js answers youngest (revisions v.seen) new) → RanOver moment js answers youngest old new
 ran_over knows moment js answers youngest None new opened does = tt
 ran_over knows moment js answers youngest (Some t) new opened does = λ h stands agreeing.
     let s = opened h stands agreeing in
     let v = s.0 in
     let before : v.opened ≡ length v.seen = s.6 ∙ (ap (λ (l : List Revision). length l) (sym s.4) ∙ length-map v.seen (λ (x : Recorded). x.revision)) in
-    subst (λ g. Ran moment (opened_at t.first t.operations) js answers youngest g new) s.4 (subst (λ n. Ran moment n js answers youngest (revisions v.seen) new) s.5 (does v s.1 s.2 before (subst (λ (n : Since). HoldBytes n.files v.seen) (sym s.5) s.8) (ap (λ p. are_harmless p.faults) s.3)))
+    subst (λ g. Ran moment (opened_at t.first t.operations) js answers youngest g new) s.4 (subst (λ n. Ran moment n js answers youngest (revisions v.seen) new) s.5 (does v s.1 s.2 before (subst (λ (n : Since). HoldBytes n.files v.seen) (sym s.5) s.8) s.9 (ap (λ p. are_harmless p.faults) s.3)))
 
 -- so it has the names below the number in `txn-current`
 pub opened_given : (knows : View → Type 0) (old : Option Trace) (least : ℕ) → IfSome old (λ t. (h : List Revision) (stands : StandsFor (files_now t) h) → LeftoversAgree stands → HasSeenAll knows t stands.opened.min_unpacked_rev stands.opened.next_txn.number h)

@@ -110,6 +110,7 @@ look_stays young v u none l all = (
       given = ap {A = View} (λ z. z.given) l.is;
     };
     doubtless = same_faults v u (ap {A = View} (λ z. z.pass.faults) l.is);
+    left = ap {A = View} (λ z. z.left) l.is;
     least = least ∙ last;
   },
   last,

@@ -1,10 +1,11 @@
 -- What becomes of a job's transaction.
-use Rattle.std.specs.Prelude.{◌≡◌, ◌⊎◌, ◌<◌, ℕ, List, [], length}
+use Rattle.std.specs.Prelude.{◌≡◌, ◌⊎◌, ◌<◌, ◌++◌, ◌∷◌, ℕ, List, [], length, Option, Some}
 use Rattle.std.specs.FinMap.{get}
 use Rattle.fsfs_base.specs.Fields.Dates.{IsDateAt}
 use Rattle.fsfs_base.specs.Fields.RevNums.{last_rev}
 use Rattle.fsfs_tree.specs.Revisions.{Revision, tree_of}
 use Rattle.fsfs_tree.specs.Dated.{last_of}
+use Rattle.fsfs_machine.specs.declared.machine.Coming.{Coming}
 use Rattle.fsfs_machine.specs.declared.machine.Txn.{Txn}
 use Rattle.fsfs_machine.specs.Machine.{revisions, entry_of}
 use Rattle.fsfs_turn.specs.Views.{View}
@@ -16,7 +17,7 @@ use Rattle.fsfs_jobs.specs.Edits.{TakesSteps}
 use Rattle.fsfs_jobs.specs.Properties.{job_properties}
 use Rattle.fsfs_jobs.specs.Serial.{Commits}
 use Rattle.fsfs_jobs.specs.declared.answer.JobAnswer.{JobAnswer}
-use Rattle.fsfs_jobs.specs.declared.answer.JobAnswer.TheVariants.{Stopped}
+use Rattle.fsfs_jobs.specs.declared.answer.JobAnswer.TheVariants.{Committed, Stopped}
 use Rattle.fsfs_job_run.specs.Serial.Jobs.{IfAdded, Fails, Leaves}
 use Rattle.fsfs_job_run.specs.Running.{HasOutsideCause}
 
@@ -25,10 +26,15 @@ pub data CommitsTxn (moment pass : ℕ) (job : CommitJob) (h : List Revision) (x
   ByCommit : (date : List ℕ) (answer : JobAnswer) (now : List Revision) → IfAdded answer (IsDateAt moment date) → Commits h (entry_of pass x (job_properties date job)) answer now → CommitsTxn moment pass job h x answer now
   ByRevs : last_rev < length h → CommitsTxn moment pass job h x (Stopped job.line (Limit RevsFull)) h
 
+-- what is left in doubt is what was, or the revision that the commit was to add
+abbrev pub TxnLeft : ℕ → CommitJob → Txn → View → View → Type 0
+TxnLeft moment job x v u = (u.left ≡ v.left) ⊎ ((c : Coming) × (u.left ≡ Some c) × CommitsTxn moment v.number job (revisions v.seen) x (Committed (length (revisions v.seen))) (revisions v.seen ++ c.revision ∷ []))
+
 -- ENDS: the transaction x was committed, or is purged
 pub record EndsTxn (moment : ℕ) (job : CommitJob) (answer : JobAnswer) (x : Txn) (v u : View) : Type 0 where
   pub done : CommitsTxn moment v.number job (revisions v.seen) x answer (revisions u.seen) ⊎ Fails (jobs.Commit job) answer
   pub leaves : Leaves answer v u
+  pub left : TxnLeft moment job x v u
 
 abbrev pub EndsSo : (View → Type 0) → Type 0 → ℕ → CommitJob → JobAnswer → Txn → View → Type 0
 EndsSo knows rose moment job answer x v = (u : View) × knows u × EndsTxn moment job answer x v u × HasOutsideCause rose u answer

@@ -11,7 +11,8 @@ use Rattle.fsfs_script.specs.declared.job_lines.job.CommitJob.{CommitJob}
 use Rattle.fsfs_script.specs.declared.job_lines.job.Job.{Job}
 use Rattle.fsfs_script.specs.declared.job_lines.job.Job.TheVariants as jobs
 use Rattle.fsfs_cli.specs.declared.faults.fault.Fault.{Fault}
-use Rattle.fsfs_cli.specs.declared.faults.fault.Fault.TheVariants.{Request, Outside}
+use Rattle.fsfs_cli.specs.declared.faults.fault.Fault.TheVariants.{Request, Outside, Limit}
+use Rattle.fsfs_cli.specs.declared.faults.limit_fault.LimitFault.TheVariants.{NamesFull}
 use Rattle.fsfs_cli.specs.declared.faults.request_fault.RequestFault.TheVariants.{NoRev}
 use Rattle.fsfs_cli.specs.declared.faults.outside_fault.OutsideFault.TheVariants as outside
 use Rattle.fsfs_jobs.specs.declared.answer.JobAnswer.{JobAnswer}
@@ -19,7 +20,8 @@ use Rattle.fsfs_jobs.specs.declared.answer.JobAnswer.TheVariants.{Stopped}
 pub use Rattle.fsfs_job_run.specs.Serial.Counts.{StopsOver, IfCounted}
 use Rattle.fsfs_job_run.specs.Serial.Jobs.{RunsJob, RunJobs, StuckBehindDoubt}
 
--- Why the outside is told to have failed: the count rose, or the lock is stuck there. The failures of benches are counted apart.
+-- Why the outside is told to have failed: the count rose, or the lock is stuck there. The failures of benches are counted apart. And why it is told
+-- that no name is left: the pass has met the last number of a name.
 abbrev pub HasOutsideCause : Type 0 → View → JobAnswer → Type 0
 HasOutsideCause rose u (Stopped line (Outside outside.Mount)) = ⊥
 HasOutsideCause rose u (Stopped line (Outside (outside.Disk at))) = rose
@@ -27,6 +29,7 @@ HasOutsideCause rose u (Stopped line (Outside outside.Read)) = ⊥
 HasOutsideCause rose u (Stopped line (Outside outside.Write)) = ⊥
 HasOutsideCause rose u (Stopped line (Outside outside.Bench)) = Unit {0}
 HasOutsideCause rose u (Stopped line (Outside (outside.Stuck at))) = u.pass.stuck ≡ Some at
+HasOutsideCause rose u (Stopped line (Limit NamesFull)) = u.full ≡ true
 HasOutsideCause rose u answer = Unit {0}
 
 -- DOES: behind the job the pass knows what the job did
@@ -77,4 +80,5 @@ pub record Stays (v u : View) : Type 0 where
 pub record HasLooked (v u : View) : Type 0 where
   pub stays : Stays v u
   pub doubtless : BringsNoDoubt v u
+  pub left : u.left ≡ v.left
   pub least : u.pass.least ≡ last_of (revisions v.seen)

@@ -37,7 +37,7 @@ use Rattle.fsfs_job_run.specs.Serial.Jobs.{StuckBehindDoubt, TellNoDoubt, bench_
 use Rattle.fsfs_job_run.specs.Serial.Listed.{LeavesListed}
 use Rattle.fsfs_job_run.specs.Workers.Lines.{disk_faults_in, RoseBy}
 use Rattle.fsfs_job_run.specs.Openings.{OpensAs, DoesNotOpen}
-use Rattle.fsfs_job_run.specs.Histories.{DidScript}
+use Rattle.fsfs_job_run.specs.Histories.{DidScript, IsOfJob}
 
 -- what a disk, the input and the output tell at one moment: the trace; what remains to be read; what was written; and how often the streams failed
 pub record RunScene : Type 0 where
@@ -98,8 +98,8 @@ pub record Ran (moment : ℕ) (since : Since) (js : List Job) (answers : List Jo
   pub are : revisions seen ≡ now
   pub did : DidScript moment seen js answers h now
   pub last : length now ≡ youngest + 1
-  -- these are the bytes that it holds
-  pub held : IfSome told (λ t. (all : HoldsAll since t h now) × (all.seen ≡ seen))
+  -- these are the bytes that it holds, and the revision in doubt is one that a job was to add
+  pub held : IfSome told (λ t. (all : HoldsAll since t h now) × (all.seen ≡ seen) × IfSome all.doubt (IsOfJob moment js now))
   -- A line tells that names are full only where no name is left: behind the run the last number that a name has digits for stands in `txn-current`.
   pub full : tell_full answers ≡ true → IfSome told (λ t. LeavesNoName (files_now t))
   -- the lock is told to be stuck only behind a line that tells of a fault as `current` was renamed or made firm

@@ -74,7 +74,7 @@ pub(crate) fn purged<D: Disk, R>(
     txn: Txn<HeldNodes<D::Bench>>,
 ) -> Repo<D>
     ensures leaves { (v : View) → ⟦<Owned<D> as Turns<R>>⟧.knows repo.turns v → v.section ≡ None → IsIn (⟦<HeldNodes<D::Bench> as Own>⟧.txn txn.own).number.number v.given
-        → (u : View) × ⟦<Owned<D> as Turns<R>>⟧.knows result.turns u × Stays v u × BringsNoDoubt v u × (u.pass.stuck ≡ v.pass.stuck) }
+        → (u : View) × ⟦<Owned<D> as Turns<R>>⟧.knows result.turns u × Stays v u × BringsNoDoubt v u × (u.pass.stuck ≡ v.pass.stuck) × (u.left ≡ v.left) }
     // Whatever is known: its label is dropped, unless a call of the disk failed.
     ensures listed { IsUnlisted (txn_label (pair_of (⟦<HeldNodes<D::Bench> as Own>⟧.txn txn.own))) (Rose (⟦<Owned<D> as Turns<R>>⟧.faults repo.turns) (⟦<Owned<D> as Turns<R>>⟧.faults result.turns)) (⟦<Owned<D> as Turns<R>>⟧.labels repo.turns) (⟦<Owned<D> as Turns<R>>⟧.labels result.turns) }
     ensures mounted { D.mount_path result.turns.disk ≡ D.mount_path repo.turns.disk }

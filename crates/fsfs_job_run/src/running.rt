@@ -42,7 +42,7 @@ fn do_jobs<D: Disk, G: Gate>(
 ) -> (D, Result<JobsDone, AllocError>)
     requires moment { micros ≤ 4102444799999999 }
     // Of a pass that has seen what there was as images began to be spoken of, and met no fault that leaves a revision in doubt.
-    ensures does { (v : View) → ⟦<Owned<D> as Turns<()>>⟧.knows repo.turns v → v.section ≡ None → v.opened ≡ length v.seen → HoldBytes v.since.files v.seen → are_harmless v.pass.faults ≡ true
+    ensures does { (v : View) → ⟦<Owned<D> as Turns<()>>⟧.knows repo.turns v → v.section ≡ None → v.opened ≡ length v.seen → HoldBytes v.since.files v.seen → v.left ≡ None → are_harmless v.pass.faults ≡ true
         → IfOk result.1 (λ done. Ran micros v.since jobs.now done.answers.items done.youngest (revisions v.seen) (D.trace result.0)) }
     ensures each { IfOk result.1 (λ done. length done.answers.items ≡ length jobs.now) }
     ensures none { OnErr result.1 (D.trace result.0 ≡ D.trace repo.turns.disk) }

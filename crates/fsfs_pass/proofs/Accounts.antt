@@ -1,17 +1,18 @@
 -- Steps of one seat leave it true why the lock is as it is.
 use Rattle.std.proofs.Common.{◌≡◌, ◌≢◌, ◌⊎◌, inl, inr, ◌≤◌, ℕ, List, [], ◌∷◌, ◌++◌, true, false, cond, ⊎_elim, refl, sym, ap, subst, ◌∙◌}
-use Rattle.std.specs.Prelude.{Bool, is_some, slice_set}
+use Rattle.std.specs.Prelude.{Bool, Option, Some, None, is_some, slice_set}
 use mathlib.Core.Option.{some, some-injective}
 use mathlib.Core.Logic.{dite}
 use native.Mathlib.Decide.{ℕ_discrete}
 use lib.ListN.{get_elem?}
 use Rattle.atomic_table.proofs.Lists.{at_set, set_else}
 use Rattle.fsfs_base.specs.declared.places.place.DiskPlace.{DiskPlace}
+use Rattle.fsfs_machine.specs.declared.machine.Coming.{Coming}
 use Rattle.fsfs_turn.specs.Alone.{are_harmless, brings_doubt, is_doubtful_at}
 use Rattle.fsfs_turn.specs.Views.{is_held}
 use Rattle.fsfs_pass.specs.declared.seats.seat_view.SeatView.{SeatView}
 use Rattle.fsfs_pass.specs.Seats.{is_left}
-use Rattle.fsfs_pass.specs.Causes.{IsSound, HasLock, Causes}
+use Rattle.fsfs_pass.specs.Causes.{IsSound, HasLock, Causes, Doubts}
 use Rattle.fsfs_pass.proofs.Kinships.{set_there}
 
 -- ---- faults
@@ -36,6 +37,33 @@ harmful_so true never = let e : true ≡ false = never refl in absurd cc
 harmful_so false never = refl
 
 -- ---- a step
+
+-- what a step of one seat leaves in doubt: what there was; or the revision that it left, where there was none
+abbrev pub LeavesSo : SeatView → SeatView → Option Coming → Option Coming → Type 0
+LeavesSo me u was now = ((now ≡ was) × (u.left ≡ me.left)) ⊎ ((x : Coming) × (was ≡ None) × (now ≡ Some x) × (u.left ≡ Some x))
+
+not_both : {P : Type 0} (x : Coming) (o : Option Coming) → o ≡ None → o ≡ Some x → P
+not_both x o nothing it = let no : None ≡ Some x = sym nothing ∙ it in absurd cc
+
+pub doubts_set : (views : List SeatView) (id : ℕ) (me u : SeatView) (was now : Option Coming) → get_elem? views id ≡ some me → is_left me.kin.stage ≡ false → is_left u.kin.stage ≡ false → LeavesSo me u was now → Doubts views was → Doubts (slice_set views id u) now
+doubts_set views id me u was now at stays left (inl (same, kept)) c = record {
+  tied = λ j z e there x is. same ∙ ⊎_elim
+      (λ (here : (j ≡ id) × (u ≡ z)). c.tied id me at stays x (sym kept ∙ ap (λ (y : SeatView). y.left) here.1 ∙ is))
+      (λ (other : (j ≢ id) × (get_elem? views j ≡ some z)). c.tied j z other.1 there x is) (at_set views id j u z e);
+  whose = λ x is.
+      let k = c.whose x (sym same ∙ is) in
+      dite (ℕ_discrete k.0 id)
+      (λ here.
+      let mine : k.1 ≡ me = some-injective k.1 me (sym k.2 ∙ ap (λ j. get_elem? views j) here ∙ at) in
+      (id, u, set_there views id u me at, left, kept ∙ ap (λ (y : SeatView). y.left) (sym mine) ∙ k.4))
+      (λ apart. (k.0, k.1, set_else views id k.0 u apart ∙ k.2, k.3, k.4));
+}
+doubts_set views id me u was now at stays left (inr (x, before, after, its)) c = record {
+  tied = λ j z e there y is. ⊎_elim
+      (λ (here : (j ≡ id) × (u ≡ z)). after ∙ sym its ∙ ap (λ (v : SeatView). v.left) here.1 ∙ is)
+      (λ (other : (j ≢ id) × (get_elem? views j ≡ some z)). not_both y was before (c.tied j z other.1 there y is)) (at_set views id j u z e);
+  whose = λ y is. (id, u, set_there views id u me at, left, its ∙ sym after ∙ is);
+}
 
 -- what a step of one seat does to the lock, and to what its pass knows of it
 pub record Turns (me u : SeatView) (lock lock2 : ℕ) : Type 0 where

@@ -12,7 +12,8 @@ use Rattle.fsfs_layout.specs.declared.layout.Layout.{Layout}
 use Rattle.fsfs_machine.specs.Machine.{World, stuck_place}
 use Rattle.fsfs_machine.proofs.Answering.{seen_of}
 use Rattle.fsfs_turn.specs.Alone.{is_doubtful_at}
-use Rattle.fsfs_turn.specs.Past.{doubt, Safe}
+use Rattle.fsfs_machine.specs.declared.machine.Coming.{Coming}
+use Rattle.fsfs_turn.specs.Past.{doubt, stuck_with, Safe}
 use Rattle.fsfs_turn.specs.Standing.{IsStore, Knows}
 use Rattle.fsfs_turn.specs.Stands.{OwnFilesLast}
 use Rattle.fsfs_turn.specs.Found.{seen_within}
@@ -75,11 +76,15 @@ store_first layout young t first short k = record {
       let none : length first.pass.mine ≡ 0 = ap length k.11 in
       let opened : first.opened ≡ length first.seen = k.10 in omega (arith, count, one, long, young_is, all, none, opened));
   known = (0, first, refl, ap (λ (c : Kin). is_left c.stage) k.5, (let long : w.young + 1 ≡ length w.history = known.1.kept.young known.2.up in let young_is : w.young ≡ young = known.1.young_is in let all : length first.seen ≡ young + 1 = k.7 in omega (arith, long, young_is, all)));
-  lock_is = sym (ap (λ l. lock_word l) (free layout young None t w (view_of first) known.1 known.2 known.3 known.4 known.5 known.6 k.3 refl));
+  lock_is = sym (ap (λ l. lock_word l) (free layout young None t w (view_of first) known.1 known.2 known.3 known.4 known.5 known.6 known.7 k.3 refl));
   causes = record {
     sound = λ j v e stays. one_seat (λ j v. IsSound v) first (λ few. ap (λ o. is_doubtful_at o) k.3) j v e;
     found = λ j v e stays. one_seat (λ j v. is_some v.pass.stuck ≡ true → 2 ≤ 0) first (λ is. let no : false ≡ true = sym (ap (λ o. is_some o) k.13) ∙ is in absurd cc) j v e;
     cause = inl refl;
+  };
+  doubts = record {
+    tied = λ j v e stays. one_seat (λ j v. (x : Coming) → v.left ≡ Some x → stuck_with w.lock ≡ Some x) first (λ x is. known.7 ∙ is) j v e;
+    whose = λ x is. (0, first, refl, ap (λ (c : Kin). is_left c.stage) k.5, sym known.7 ∙ is);
   };
   seats = one_seat (λ j v. Placed first w t j v v.kin.stage) first (subst (λ (c : Kin). Placed first w t 0 first c.stage) (sym k.5) record { number = known.4; sees = known.2; sure = λ e. (let no : false ≡ true = sym k.2 ∙ e in absurd cc); layout = refl; since = refl; opened = refl; met = (t, k.4, met_first) });
   no_more = λ j far. slice_get_past w.passes j (omega (arith, far, known.6));

@@ -21,6 +21,7 @@ use Rattle.fsfs_turn.specs.Alone.{are_harmless, is_doubtful_at}
 use Rattle.fsfs_turn.specs.Learning.{CounterRead, drawn_of}
 use Rattle.fsfs_turn.proofs.Alone.{harmless_before, either_calm}
 use Rattle.fsfs_turn.proofs.Counting.{counter, counter_turns, counter_file}
+use Rattle.fsfs_turn.proofs.Names.{names_full}
 use Rattle.fsfs_disk.specs.Seen.{DiskSeen, IsLater}
 use Rattle.fsfs_pass.specs.declared.seats.seat_view.SeatView.{SeatView}
 use Rattle.fsfs_pass.specs.declared.seats.seat_view.Hand.TheVariants.{Out}
@@ -60,7 +61,7 @@ drawn_turn me d t base same begun least told old is young w store sees safe = �
       lasts_same me.layout (length w.history) (files_now old),
       λ own. own,
     ))
-    (λ many. inr (same ∙ is, drawn v (λ few. absurd (omega (arith, few, many))) (λ _. refl))) (less_or_not at.0 last_name)
+    (λ many. inr (same ∙ is, (true, names_full me.section w.disk me.full (at.0, at.1, many) sees.names, drawn (record v { full = true }) (λ few. absurd (omega (arith, few, many))) (λ _. refl)))) (less_or_not at.0 last_name)
   where
     v : View
     v = view_of me
@@ -74,7 +75,7 @@ drawn_turn me d t base same begun least told old is young w store sees safe = �
     file : (text : List ℕ) × (file_at old (only_name TxnCurrent) ≡ Some text) × IsBase36Line text at.0
     file = counter_file me.layout young (stuck_place w.lock) old w v store sees safe base begun least
 
-    drawn : (u : View) → (at.0 < last_name → CounterRead base at.0 went v u) → (last_name ≤ at.0 → u ≡ v) → DrawnBy base d.trace went v u
+    drawn : (u : View) → (at.0 < last_name → CounterRead base at.0 went v u) → (last_name ≤ at.0 → u ≡ record v { full = true }) → DrawnBy base d.trace went v u
     drawn u turned full = record { trace = old; told_is = same ∙ is; text = file.0; number = at.0; line = file.2; there = file.1; turned = turned; full = full }
 
 pub gives_drawn : (base : ℕ) (began : DiskSeen) (first : SeatView) (slots id : ℕ) (me : Sat) (d was : DiskSeen) → IsSitting me.0 → IsShort d → 0 < slots → me.1 ≡ (0, Some d) ∷ [] → me.0.hand ≡ Out was → IsLater (once d.failed) 0 was d → d.trace ≡ was.trace → (me.0.told ≡ true → (me.0.section ≡ Some Begun) × (base ≤ me.0.pass.least)) → Allows (Rule began first) slots id me 0 (λ _. 0) (λ _. drawn_back base (step slots 0 0 0 none) me 0)

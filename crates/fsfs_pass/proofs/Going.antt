@@ -17,13 +17,13 @@ use Rattle.fsfs_machine.specs.Machine.{World, stuck_place}
 use Rattle.fsfs_machine.proofs.Answering.{seen_of}
 use Rattle.fsfs_turn.specs.Alone.{are_harmless, is_doubtful_at}
 use Rattle.fsfs_turn.specs.Found.{seen_within}
-use Rattle.fsfs_turn.specs.Past.{doubt, Safe}
-use Rattle.fsfs_turn.specs.Views.{View, Sees, is_held}
+use Rattle.fsfs_turn.specs.Past.{doubt, stuck_with, Safe}
+use Rattle.fsfs_turn.specs.Views.{View, KnowsNames, Sees, is_held}
 use Rattle.fsfs_turn.specs.Standing.{IsStore}
 use Rattle.fsfs_turn.specs.Stands.{OwnFilesLast}
 use Rattle.fsfs_turn.specs.declared.since.Since.{Since}
 use Rattle.fsfs_turn.specs.Telling.{TellsSeen}
-use Rattle.fsfs_turn.proofs.TurnEnds.{StaysWith, IsAfter}
+use Rattle.fsfs_turn.proofs.TurnEnds.{StaysWith, IsAfter, stuck_stays}
 use Rattle.fsfs_turn.proofs.Moves.{Moved, call_moved}
 use Rattle.fsfs_disk.specs.Seen.{DiskSeen, IsLater}
 use Rattle.fsfs_pass.specs.declared.seats.seat_view.Hand.TheVariants.{Empty, Out}
@@ -50,14 +50,14 @@ word_stays p before after l = ⊎_elim
 -- ---- the seat that knows this
 
 abbrev pub seat_with : Bool → Option Trace → SeatView → View → SeatView
-seat_with failed left m u = record m { pass = u.pass; seen = u.seen; section = u.section; given = u.given; hand = Empty; met = left; failures = risen failed m.failures }
+seat_with failed left m u = record m { pass = u.pass; seen = u.seen; section = u.section; given = u.given; full = u.full; hand = Empty; met = left; failures = risen failed m.failures }
 
--- one that knows what it knew
-abbrev pub seat_as : Bool → Option Trace → SeatView → SeatView
-seat_as failed left m = record m { hand = Empty; met = left; failures = risen failed m.failures }
+-- one that knows what it knew, and whether a name is left
+abbrev pub seat_as : Bool → Option Trace → Bool → SeatView → SeatView
+seat_as failed left full m = record m { full = full; hand = Empty; met = left; failures = risen failed m.failures }
 
-pub seat_knows : (failed : Bool) (left : Option Trace) (m : SeatView) (u : View) → u.layout ≡ m.layout → u.since ≡ m.since → u.opened ≡ m.opened → u.number ≡ m.number → u.sure ≡ m.sure → u ≡ view_of (seat_with failed left m u)
-seat_knows failed left m u layout since opened number sure = λ i. record { layout = layout i; since = since i; opened = opened i; number = number i; pass = u.pass; seen = u.seen; section = u.section; sure = sure i; given = u.given }
+pub seat_knows : (failed : Bool) (left : Option Trace) (m : SeatView) (u : View) → u.layout ≡ m.layout → u.since ≡ m.since → u.opened ≡ m.opened → u.number ≡ m.number → u.sure ≡ m.sure → u.left ≡ m.left → u ≡ view_of (seat_with failed left m u)
+seat_knows failed left m u layout since opened number sure doubt_is = λ i. record { layout = layout i; since = since i; opened = opened i; number = number i; pass = u.pass; seen = u.seen; section = u.section; sure = sure i; left = doubt_is i; given = u.given; full = u.full }
 
 -- Of each call: the pass is as sure as it was, was told no more, has no more revisions of its own, and found the lock stuck no more than before; who
 -- holds the lock holds it still; and its section is in doubt only behind a fault that leaves a revision so.
@@ -72,7 +72,7 @@ pub record StaysSure (v u : View) : Type 0 where
 
 -- of what the pass knows after a call something else holds too
 pub after_more : (layout : Layout) (young : ℕ) (stuck : Option DiskPlace) (t : Trace) (w : World) (v : View) (P Q : View → Type 0) → ((u : View) → u.seen ≡ w.history → P u → Q u) → IsAfter layout young stuck t w v P → IsAfter layout young stuck t w v Q
-after_more layout young stuck t w v P Q more a = record { world = a.world; view = a.view; store = a.store; sees = a.sees; turned = more a.view a.all a.turned; safe = a.safe; leaves = a.leaves; layout_is = a.layout_is; since_is = a.since_is; opened_is = a.opened_is; number_is = a.number_is; all = a.all }
+after_more layout young stuck t w v P Q more a = record { world = a.world; view = a.view; store = a.store; sees = a.sees; turned = more a.view a.all a.turned; safe = a.safe; leaves = a.leaves; layout_is = a.layout_is; since_is = a.since_is; opened_is = a.opened_is; number_is = a.number_is; left_is = a.left_is; all = a.all }
 
 module _ (first : SeatView) (views : List SeatView) (lock young : ℕ) (t : Trace) (s : Store first views lock young t) (id : ℕ) (me : SeatView) (at : Sits views id me) where
   abbrev w : World
@@ -98,7 +98,7 @@ module _ (first : SeatView) (views : List SeatView) (lock young : ℕ) (t : Trac
     after_call = seat_with failed left (counting k me) a.view
 
     view_is : a.view ≡ view_of after_call
-    view_is = seat_knows failed left (counting k me) a.view a.layout_is a.since_is a.opened_is a.number_is a.turned.0.same
+    view_is = seat_knows failed left (counting k me) a.view a.layout_is a.since_is a.opened_is a.number_is a.turned.0.same a.left_is
 
     moved : Moved me.layout young new w (view_of me) (view_of after_call) a.world.lock
     moved = subst (λ u. Moved me.layout young new w (view_of me) u a.world.lock) view_is (call_moved me.layout young (stuck_place w.lock) new w (view_of me) (λ u. StaysSure (view_of me) u × P u) a)
@@ -129,7 +129,7 @@ module _ (first : SeatView) (views : List SeatView) (lock young : ℕ) (t : Trac
     pub goes_after : Store first (slice_set views id after_call) lock young new
     goes_after = goes_on first views lock young t s id me at after_call a.world.lock lock young new here refl
         (s.lock_is ∙ sym (word_stays me.number w.lock a.world.lock a.leaves.lock)) (λ e. a.turned.0.held (own.sure e)) (subst (λ l. Lasts l (length w.history) (files_now t) (files_now new)) own.layout lasts) owns_here short
-        (meets first views lock young t s id me at after_call a.world.lock young new here left_is) adds turns
+        (meets first views lock young t s id me at after_call a.world.lock young new here left_is) adds turns (inl (ap (λ l. stuck_with l) here.lock_is ∙ stuck_stays me.number w.lock a.world.lock a.leaves.lock, refl))
 
     -- what it has seen stands in the files
     pub seen_after : me.told ≡ true → TellsSeen (seat_store after_call) (view_of after_call)
@@ -152,18 +152,21 @@ module _ (first : SeatView) (views : List SeatView) (lock young : ℕ) (t : Trac
     tells_after = subst P view_is a.turned.1
 
   -- after one that left the store
-  module _ (k : ℕ) (failed : Bool) (left : Option Trace) (left_is : left ≡ Some t) where
+  module _ (k : ℕ) (failed : Bool) (left : Option Trace) (left_is : left ≡ Some t) (full : Bool) (names : KnowsNames full me.section w.disk) where
     abbrev as_it_was : SeatView
-    as_it_was = seat_as failed left (counting k me)
+    as_it_was = seat_as failed left full (counting k me)
+
+    sees_still : Sees w (view_of as_it_was)
+    sees_still = let e = own.sees in record { pass = e.pass; seen = e.seen; section = e.section; up = e.up; sure = e.sure; whole = e.whole; given = e.given; opened = e.opened; shown = e.shown; names = names }
 
     met_same : Met first.layout w t as_it_was t
     met_same = met_now first.layout young (stuck_place w.lock) t w as_it_was s.store (seen_within w (view_of me) own.sees) (seen_of (length w.history) w.floor w.passes me.number me.pass s.store.kept.seen own.sees.pass).least
 
     pub still : Store first (slice_set views id as_it_was) lock young t
-    still = restored first views lock young t id me as_it_was at s (record { number = own.number; sees = own.sees; sure = own.sure; layout = own.layout; since = own.since; opened = own.opened; met = (t, left_is, met_same) }) refl (omega arith) (quiet_turn me as_it_was lock refl refl refl)
+    still = restored first views lock young t id me as_it_was at s (record { number = own.number; sees = sees_still; sure = own.sure; layout = own.layout; since = own.since; opened = own.opened; met = (t, left_is, met_same) }) refl (omega arith) (quiet_turn me as_it_was lock refl refl refl) refl
 
     pub seen_still : me.told ≡ true → TellsSeen (seat_store as_it_was) (view_of as_it_was)
-    seen_still told = tells_seen w t t as_it_was (subst (λ l. Met l w t as_it_was t) (sym own.layout) met_same) told left_is own.sees
+    seen_still told = tells_seen w t t as_it_was (subst (λ l. Met l w t as_it_was t) (sym own.layout) met_same) told left_is sees_still
 
     pub later_still : me.told ≡ true → Later (seat_store me) (seat_store as_it_was)
     later_still told = later_now w t own.met.0 me as_it_was met_own told own.met.1 left_is refl (omega arith)
@@ -183,10 +186,11 @@ short_met None short = tt
 short_met (Some t) short = short
 
 -- What a call of the disk comes to at the table, whatever state the table holds, where the disk tells: a step of the machine, or none, and
--- nothing has changed.
+-- nothing has changed but
+-- that it may know that no name is left.
 abbrev pub Turn : SeatView → DiskSeen → Option Trace → (View → Type 0) → Type 0
 Turn me d t P = me.told ≡ true → (old : Trace) → t ≡ Some old → (young : ℕ) (w : World) → IsStore me.layout young (stuck_place w.lock) old w → Sees w (view_of me) → Safe me.layout me.since old me.opened w.floor w.history (doubt w.lock)
-    → ((new : Trace) × (d.trace ≡ Some new) × IsAfter me.layout young (stuck_place w.lock) new w (view_of me) (λ u. StaysSure (view_of me) u × P u) × Lasts me.layout (length w.history) (files_now old) (files_now new) × OwnStays me.layout me.since old new) ⊎ ((d.trace ≡ Some old) × P (view_of me))
+    → ((new : Trace) × (d.trace ≡ Some new) × IsAfter me.layout young (stuck_place w.lock) new w (view_of me) (λ u. StaysSure (view_of me) u × P u) × Lasts me.layout (length w.history) (files_now old) (files_now new) × OwnStays me.layout me.since old new) ⊎ ((d.trace ≡ Some old) × ((full : Bool) × KnowsNames full me.section w.disk × P (record (view_of me) { full = full })))
 
 pub one_trace : (a b : Trace) → Some a ≡ Some b → a ≡ b
 one_trace a b e = cc
@@ -229,9 +233,9 @@ module _ (began : DiskSeen) (first : SeatView) (slots id : ℕ) (me : Sat) (d : 
   by_trace : (o : Option Trace) → was.trace ≡ o → Goes
   by_trace None is =
       let untold : me.0.told ≡ false = told_is ∙ ap (λ o. is_some o) is in
-      goes_so (seat_as d.failed d.trace (counting k me.0)) refl refl refl refl refl refl refl
+      goes_so (seat_as d.failed d.trace me.0.full (counting k me.0)) refl refl refl refl refl refl refl
       (λ told. let e : true ≡ false = sym told ∙ untold in absurd cc)
-      (later_untold me.0 (seat_as d.failed d.trace (counting k me.0)) untold (none_of me.0.met (met_is ∙ untold)) refl)
+      (later_untold me.0 (seat_as d.failed d.trace me.0.full (counting k me.0)) untold (none_of me.0.met (met_is ∙ untold)) refl)
       (λ told. let e : true ≡ false = sym told ∙ untold in absurd cc)
       (λ new told. let e : true ≡ false = ap (λ o. is_some o) (sym told) ∙ same ∙ ap (λ o. is_some o) is in absurd cc)
   by_trace (Some old) is =
@@ -245,12 +249,13 @@ module _ (began : DiskSeen) (first : SeatView) (slots id : ℕ) (me : Sat) (d : 
       (λ _. tells_after first s.views r.lock r.young old held id me.0 (at, sits) k d.failed d.trace x.0 x.1 P x.2 x.3 x.4 (short_at x.0 x.1))
       (λ new now. subst (λ (o : Trace). Store first (slice_set s.views id (seat_with d.failed d.trace (counting k me.0) x.2.view)) r.lock r.young o) (one_trace x.0 new (sym x.1 ∙ now))
       (goes_after first s.views r.lock r.young old held id me.0 (at, sits) k d.failed d.trace x.0 x.1 P x.2 x.3 x.4 (short_at x.0 x.1))))
-      (λ (x : (d.trace ≡ Some old) × P (view_of me.0)). goes_so (seat_as d.failed d.trace (counting k me.0)) refl refl refl refl refl refl refl
-      (seen_still first s.views r.lock r.young old held id me.0 (at, sits) k d.failed d.trace x.0)
-      (later_still first s.views r.lock r.young old held id me.0 (at, sits) k d.failed d.trace x.0 told)
-      (λ _. x.1)
-      (λ new now. subst (λ (o : Trace). Store first (slice_set s.views id (seat_as d.failed d.trace (counting k me.0))) r.lock r.young o) (one_trace old new (sym x.0 ∙ now))
-      (still first s.views r.lock r.young old held id me.0 (at, sits) k d.failed d.trace x.0)))
+      (λ (x : (d.trace ≡ Some old) × ((full : Bool) × KnowsNames full me.0.section held.world.disk × P (record (view_of me.0) { full = full }))).
+      goes_so (seat_as d.failed d.trace x.1.0 (counting k me.0)) refl refl refl refl refl refl refl
+      (seen_still first s.views r.lock r.young old held id me.0 (at, sits) k d.failed d.trace x.0 x.1.0 x.1.1)
+      (later_still first s.views r.lock r.young old held id me.0 (at, sits) k d.failed d.trace x.0 x.1.0 x.1.1 told)
+      (λ _. x.1.2)
+      (λ new now. subst (λ (o : Trace). Store first (slice_set s.views id (seat_as d.failed d.trace x.1.0 (counting k me.0))) r.lock r.young o) (one_trace old new (sym x.0 ∙ now))
+      (still first s.views r.lock r.young old held id me.0 (at, sits) k d.failed d.trace x.0 x.1.0 x.1.1)))
       (turn told old is r.young held.world (stands first s.views r.lock r.young old held id me.0 (at, sits)) (seat_sees first s.views r.lock r.young old held id me.0 (at, sits)) (stands_safe first s.views r.lock r.young old held id me.0 (at, sits)))
 
   pub goes_now : Goes

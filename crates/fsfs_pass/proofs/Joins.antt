@@ -1,5 +1,5 @@
 -- A join is the machine's: the first pass takes over what the second knows.
-use Rattle.std.proofs.Common.{◌≡◌, ◌≢◌, ◌⊎◌, inl, inr, ◌<◌, ◌≤◌, ◌+◌, ◌==◌, ℕ, suc, zero, List, [], ◌∷◌, ◌++◌, length, true, false, cond, ⊎_elim, refl, sym, ap, subst, ◌∙◌, arith, take, length-take}
+use Rattle.std.proofs.Common.{◌≡◌, ◌≢◌, ◌⊎◌, inl, inr, ◌<◌, ◌≤◌, ◌+◌, ◌==◌, ℕ, suc, zero, List, [], ◌∷◌, ◌++◌, ◌||◌, length, Bool, true, false, cond, ⊎_elim, refl, sym, ap, subst, ◌∙◌, arith, take, length-take}
 use Rattle.std.specs.Prelude.{◌-◌, Option, Some, None, is_some, slice_get, slice_index, slice_set, nat_le, max, min, not, ◌&&◌, if◌then◌else◌}
 use Rattle.std.proofs.lemmas.List.{map-append, map-set}
 use Rattle.std.proofs.lemmas.Bool.Decides.{nat_tests}
@@ -14,7 +14,7 @@ use Rattle.fsfs_machine.specs.declared.machine.Recorded.{Recorded}
 use Rattle.fsfs_machine.specs.declared.machine.Outcome.TheVariants as outcome
 use Rattle.fsfs_machine.specs.declared.machine.Step.TheVariants as step
 use Rattle.fsfs_base.specs.declared.places.place.DiskPlace.{DiskPlace}
-use Rattle.fsfs_machine.specs.Machine.{either_place, World, did, barred, at_place, is_there, join_with, joined, stuck_place}
+use Rattle.fsfs_machine.specs.Machine.{either_place, World, did, barred, at_place, held_by, is_there, join_with, joined, stuck_place}
 use Rattle.fsfs_machine.specs.Kept.{Kept, IsSeen}
 use Rattle.fsfs_machine.proofs.Answering.{seen_of}
 use Rattle.fsfs_machine.proofs.Steps.{step_keeps}
@@ -33,9 +33,11 @@ use Rattle.fsfs_pass.specs.declared.seats.seat_view.Before.{Before}
 use Rattle.fsfs_pass.specs.declared.seats.seat_view.Stage.TheVariants.{Joining}
 use Rattle.fsfs_pass.specs.declared.seats.seat_view.Hand.{Hand}
 use Rattle.fsfs_pass.specs.declared.seats.seat_view.SeatView.{SeatView}
-use Rattle.fsfs_pass.specs.Seats.{all_parts, view_of, is_left, IsSitting, Sits, last_of, longer, later_met, joined_with, before, as_before, joining_view, settled_view, left_view}
+use Rattle.fsfs_machine.specs.declared.machine.Coming.{Coming}
+use Rattle.fsfs_turn.specs.Past.{stuck_with}
+use Rattle.fsfs_pass.specs.Seats.{all_parts, view_of, is_left, IsSitting, Sits, last_of, longer, later_met, either_left, joined_with, before, as_before, joining_view, settled_view, left_view}
 use Rattle.fsfs_pass.specs.Kinship.{numbers_of, Branch, branch_of, branches, Kinship, grown}
-use Rattle.fsfs_pass.specs.Causes.{IsSound, HasLock, Causes}
+use Rattle.fsfs_pass.specs.Causes.{IsSound, HasLock, Causes, Doubts}
 use Rattle.fsfs_pass.specs.Met.{Met, HasMet}
 use Rattle.fsfs_pass.specs.Rule.{Seated, Knew, Placed, IsJoined, IsSeenBySome, Store, HandIs, failures_in, bench_failures_in, Rule}
 use Rattle.fsfs_pass.specs.Tells.{Sat, TellsIt, GoesOn, settled}
@@ -88,6 +90,10 @@ by_seen P v z less more = elim (nat_le z.pass.seen v.pass.seen) as (λ b. nat_le
   | false ↦ λ e. more (grind (arith, e))
 ] refl
 
+either_true : (a b : Bool) → (a || b) ≡ true → (a ≡ true) ⊎ (b ≡ true)
+either_true true b e = inl refl
+either_true false b e = inr e
+
 -- where the longer line begins with the shorter, it begins with both
 pub both_begin : (v z : SeatView) → Begins (longer v z) (shorter v z) → Begins (longer v z) v.seen × Begins (longer v z) z.seen
 both_begin v z = elim (nat_le z.pass.seen v.pass.seen) as (λ b. Begins (cond b v.seen z.seen) (cond b z.seen v.seen) → Begins (cond b v.seen z.seen) v.seen × Begins (cond b v.seen z.seen) z.seen) [
@@ -96,6 +102,17 @@ both_begin v z = elim (nat_le z.pass.seen v.pass.seen) as (λ b. Begins (cond b 
 ]
 
 -- ---- the state in which the first pass knows what both knew
+
+-- ---- what two left in doubt
+
+either_is : (a b : Option Coming) (x : Coming) → either_left a b ≡ Some x → (a ≡ Some x) ⊎ (b ≡ Some x)
+either_is (Some y) b x is = inl is
+either_is None b x is = inr is
+
+-- that of the second, where that of the first would be the same
+joined_left : (a b d : Option Coming) (x : Coming) → d ≡ Some x → ((y : Coming) → a ≡ Some y → d ≡ Some y) → b ≡ Some x → either_left a b ≡ Some x
+joined_left None b d x is tied its = its
+joined_left (Some y) b d x is tied its = sym (tied y refl) ∙ is
 
 module _ (first : SeatView) (views : List SeatView) (lock young : ℕ) (t : Trace) (s : Store first views lock young t) (id other : ℕ) (me it : SeatView) (at : Sits views id me) (by : Sits views other it) (apart : other ≢ id) (told : me.told ≡ true) (its_told : it.told ≡ true) (outside : it.told ≡ true → it.section ≡ None) where
   abbrev w : World
@@ -165,6 +182,7 @@ module _ (first : SeatView) (views : List SeatView) (lock young : ℕ) (t : Trac
     given = λ k i. ⊎_elim (λ a. sees.given k a) (λ b. knows.given k b) (in_either k me.given it.given i);
     opened = sees.opened;
     shown = by_seen (λ more less. AllShow more) me it (λ le. sees.shown) (λ lt. knows.shown);
+    names = record { full = λ e. ⊎_elim (λ a. sees.names.full a) (λ b. knows.names.full b) (either_true me.full it.full e); drawing = sees.names.drawing };
   }
 
   lines : Begins u.seen (shorter me it)
@@ -173,7 +191,7 @@ module _ (first : SeatView) (views : List SeatView) (lock young : ℕ) (t : Trac
       (λ lt. subst (λ (l : List Recorded). Begins it.seen l) (sym sees.seen) (subst (λ (l : List Recorded). Begins l (take me.pass.seen w.history)) (sym knows.seen) (part_begins w.history me.pass.seen it.pass.seen (omega (arith, lt)))))
 
   join_leaves : Spares me.number w join_on
-  join_leaves = record { passes = λ q far. at_other w.passes me.number q (joined it.pass) far; count = length_at w.passes me.number (joined it.pass); grows = begins_itself w.history; locks = λ q far. refl; still = λ q z far held. (refl, refl); floor = refl; given = λ k i. i }
+  join_leaves = record { passes = λ q far. at_other w.passes me.number q (joined it.pass) far; count = length_at w.passes me.number (joined it.pass); grows = begins_itself w.history; locks = λ q far. refl; still = λ q z far held. (refl, refl); floor = refl; given = λ k i. i; full = λ last. last; disk = λ q z far held. refl }
 
   -- ---- what it has met
 
@@ -244,7 +262,7 @@ module _ (first : SeatView) (views : List SeatView) (lock young : ℕ) (t : Trac
 
   seats_on : (j : ℕ) (z : SeatView) → get_elem? left_on j ≡ some z → Placed first join_on t j z z.kin.stage
   seats_on j z e = ⊎_elim
-      (λ (gone : (j ≡ other) × (left_view ≡ z)). subst (λ (y : ℕ × SeatView). Placed first join_on t y.0 y.1 y.1.kin.stage) (λ i. (sym gone.0 i, gone.1 i)) (it.pass, its_pass))
+      (λ (gone : (j ≡ other) × (left_view ≡ z)). subst (λ (y : ℕ × SeatView). Placed first join_on t y.0 y.1 y.1.kin.stage) (λ i. (sym gone.0 i, gone.1 i)) (it.pass, its_pass, ap (λ n. held_by n w.lock) (sym its.number) ∙ knows.section ∙ outside its_told))
       (λ (stays : (j ≢ other) × (get_elem? (slice_set views id u) j ≡ some z)). ⊎_elim
       (λ (mine : (j ≡ id) × (u ≡ z)). subst (λ (y : ℕ × SeatView). Placed first join_on t y.0 y.1 y.1.kin.stage) (λ i. (sym mine.0 i, mine.1 i)) joining)
       (λ (further : (j ≢ id) × (get_elem? views j ≡ some z)). placed_other first me.number w join_on t t join_leaves s.store.kept s.up (lasts_same first.layout (length w.history) (files_now t)) j z z.kin.stage (λ e. further.0 (e ∙ own.number)) (s.seats j z further.1))
@@ -341,6 +359,35 @@ module _ (first : SeatView) (views : List SeatView) (lock young : ℕ) (t : Trac
           ))
           (λ not_id. (k.0, k.1, still_there k.0 not_other not_id ∙ k.2, k.3, k.4)))
 
+  -- what the two left in doubt the first has
+  doubts_on : Doubts left_on (stuck_with w.lock)
+  doubts_on =
+      let c = s.doubts in
+      let mine = seat_stays me at.1 in
+      let theirs = seat_stays it by.1 in
+      record {
+        tied = λ j z e. ⊎_elim
+            (λ (gone : (j ≡ other) × (left_view ≡ z)). subst (λ (y : SeatView). is_left y.kin.stage ≡ false → (x : Coming) → y.left ≡ Some x → stuck_with w.lock ≡ Some x) gone.1 (λ stays. absurd cc))
+            (λ (stays : (j ≢ other) × (get_elem? (slice_set views id u) j ≡ some z)). ⊎_elim
+            (λ (here : (j ≡ id) × (u ≡ z)). subst (λ (y : SeatView). is_left y.kin.stage ≡ false → (x : Coming) → y.left ≡ Some x → stuck_with w.lock ≡ Some x) here.1
+            (λ _ x is. ⊎_elim (λ a. c.tied id me at.0 mine x a) (λ b. c.tied other it by.0 theirs x b) (either_is me.left it.left x is)))
+            (λ (further : (j ≢ id) × (get_elem? views j ≡ some z)). c.tied j z further.1)
+            (at_set views id j u z stays.1))
+            (at_set (slice_set views id u) other j left_view z e);
+        whose = λ x is.
+            let k = c.whose x is in
+            let there_on : get_elem? left_on id ≡ some u = set_else (slice_set views id u) other id left_view (λ e. apart (sym e)) ∙ set_there views id u me at.0 in
+            dite (ℕ_discrete k.0 other)
+            (λ here.
+            let same : k.1 ≡ it = some-injective k.1 it (sym k.2 ∙ ap (λ j. get_elem? views j) here ∙ by.0) in
+            (id, u, there_on, refl, joined_left me.left it.left (stuck_with w.lock) x is (c.tied id me at.0 mine) (ap (λ (v : SeatView). v.left) (sym same) ∙ k.4)))
+            (λ not_other. dite (ℕ_discrete k.0 id)
+            (λ here.
+            let same : k.1 ≡ me = some-injective k.1 me (sym k.2 ∙ ap (λ j. get_elem? views j) here ∙ at.0) in
+            (id, u, there_on, refl, ap (λ o. either_left o it.left) (ap (λ (v : SeatView). v.left) (sym same) ∙ k.4)))
+            (λ not_id. (k.0, k.1, still_there k.0 not_other not_id ∙ k.2, k.3, k.4)));
+      }
+
   pub join_goes : Store first left_on lock young t
   join_goes = record {
     world = join_on;
@@ -353,6 +400,7 @@ module _ (first : SeatView) (views : List SeatView) (lock young : ℕ) (t : Trac
     known = seen_on;
     lock_is = s.lock_is;
     causes = causes_on;
+    doubts = doubts_on;
     seats = seats_on;
     no_more = λ j far.
         let long : length views ≤ j = as_long views id u j (as_long (slice_set views id u) other left_view j far) in
@@ -446,7 +494,7 @@ module _ (began : DiskSeen) (first : SeatView) where
       same = ap (λ l. (let b : Branch = record { left = l; parts = me.0.kin.parts; numbers = numbers_of me.0.kin.joined } in b)) (sym stays)
 
       after : (t : Trace) → r.disk.trace ≡ Some t → Store first (slice_set s.views id (settled_view r.disk.trace me.0)) r.lock r.young t
-      after t is = let k = r.store t is in replaced first s.views r.lock r.young t k id me.0 (settled_view r.disk.trace me.0) at stays (sits_again t is k) refl same (omega arith) (quiet_turn me.0 (settled_view r.disk.trace me.0) r.lock refl refl refl)
+      after t is = let k = r.store t is in replaced first s.views r.lock r.young t k id me.0 (settled_view r.disk.trace me.0) at stays (sits_again t is k) refl same (omega arith) (quiet_turn me.0 (settled_view r.disk.trace me.0) r.lock refl refl refl) refl
 
       goes_so : (x : Before) (t : Trace) → r.disk.trace ≡ Some t → me.0.told ≡ true → (k : Store first s.views r.lock r.young t) → Seated first k.world t id me.0 → Knew first k.world t me.0 x → GoesOn me.0 (settled_view r.disk.trace me.0) x
       goes_so x t is told k p knew = (

@@ -1,5 +1,5 @@
 -- What one pass does leaves what another knows.
-use Rattle.std.proofs.Common.{◌≡◌, ◌≢◌, ◌⊎◌, ◌<◌, ◌≤◌, ◌+◌, ℕ, suc, zero, List, [], ◌∷◌, length, true, false, ⊎_elim, refl, sym, ap, subst, ◌∙◌, arith, take, length-append}
+use Rattle.std.proofs.Common.{◌≡◌, ◌≢◌, ◌⊎◌, ◌<◌, ◌≤◌, ◌+◌, ℕ, suc, zero, List, [], ◌∷◌, length, true, false, inl, ⊎_elim, refl, sym, ap, subst, ◌∙◌, arith, take, length-append}
 use Rattle.std.specs.Prelude.{Option, Some, None, slice_get, slice_set}
 use Rattle.std.proofs.lemmas.List.{take-append-le, length-set}
 use mathlib.Core.Option.{some, some-injective, some-ne-none}
@@ -16,8 +16,11 @@ use Rattle.fsfs_machine.specs.declared.machine.Lock.{Lock}
 use Rattle.fsfs_machine.specs.Machine.{World, is_up, stuck_place}
 use Rattle.fsfs_machine.specs.Kept.{Kept}
 use Rattle.fsfs_machine.proofs.Answering.{seen_of}
-use Rattle.fsfs_turn.specs.Views.{View, Sees, is_held, coming_at, with_txns}
-use Rattle.fsfs_turn.specs.Past.{doubt, Safe}
+use Rattle.fsfs_machine.specs.declared.contents.FileName.TheVariants.{Counter}
+use Rattle.fsfs_machine.specs.declared.machine.Drawn.{Drawn}
+use Rattle.fsfs_machine.specs.Disk.{found}
+use Rattle.fsfs_turn.specs.Views.{View, Sees, is_held, coming_at, drawing_at, with_txns}
+use Rattle.fsfs_turn.specs.Past.{doubt, stuck_with, Safe}
 use Rattle.fsfs_turn.specs.Found.{seen_within}
 use Rattle.fsfs_turn.specs.Standing.{IsStore}
 use Rattle.fsfs_turn.specs.Stands.{OwnFilesLast}
@@ -34,7 +37,7 @@ use Rattle.fsfs_pass.specs.Kinship.{Branch, branch_of}
 use Rattle.fsfs_pass.specs.Met.{Lasts, Met, HasMet}
 use Rattle.fsfs_pass.specs.Rule.{Seated, Knew, Placed, IsJoined, IsSeenBySome, Store}
 use Rattle.fsfs_pass.proofs.AsMany.{opening_stays}
-use Rattle.fsfs_pass.proofs.Accounts.{Turns, causes_set}
+use Rattle.fsfs_pass.proofs.Accounts.{Turns, LeavesSo, causes_set, doubts_set}
 use Rattle.fsfs_pass.proofs.Kinships.{kin_stays, same_kin, set_there}
 use Rattle.fsfs_pass.proofs.Following.{met_now, met_after}
 
@@ -45,6 +48,10 @@ held_some (Some s) e = (s, refl)
 held_coming : (o : Option Section) (x : Coming) → coming_at o ≡ Some x → is_held o ≡ true
 held_coming None x e = absurd cc
 held_coming (Some s) x e = refl
+
+held_drawing : (o : Option Section) (x : Drawn) → drawing_at o ≡ Some x → is_held o ≡ true
+held_drawing None x e = absurd cc
+held_drawing (Some s) x e = refl
 
 sees_other : (p : ℕ) (w after : World) (z : View) → Spares p w after → Kept (with_txns [] w) → is_up after.lock ≡ true → (z.number ≡ p → ⊥) → (z.sure ≡ true → is_held z.section ≡ true) → Sees w z → Sees after z
 sees_other p w after z l kept up apart sure sees = record {
@@ -57,8 +64,12 @@ sees_other p w after z l kept up apart sure sees = record {
   given = λ k i. l.given k (sees.given k i);
   opened = let long : length after.history ≡ length w.history + length l.grows.0 = ap length l.grows.1 ∙ length-append w.history l.grows.0 in omega (arith, long, sees.opened);
   shown = sees.shown;
+  names = record { full = λ e. l.full (sees.names.full e); drawing = λ x e. let d = sees.names.drawing x e in (ap (λ k. found k Counter) (held_disk (held_drawing z.section x e)) ∙ d.0, d.1) };
 }
   where
+    held_disk : is_held z.section ≡ true → after.disk ≡ w.disk
+    held_disk held = let s = held_some z.section held in l.disk z.number s.0 apart (sees.section ∙ s.1)
+
     unmoved : is_held z.section ≡ true → (after.young ≡ w.young) × (after.history ≡ w.history)
     unmoved held = let s = held_some z.section held in l.still z.number s.0 apart (sees.section ∙ s.1)
 
@@ -98,7 +109,7 @@ module _ (first : SeatView) (p : ℕ) (w after : World) (now new : Trace) (spare
   placed_other j z New apart k = (seat_other j (record z { number = j }) apart k.0, k.1)
   placed_other j z Sitting apart k = seat_other j z apart k
   placed_other j z (Joining a b) apart k = (seat_other j z apart k.0, knew_other z a k.1, knew_other z b k.2)
-  placed_other j z Left apart k = (k.0, spares.passes j apart ∙ k.1)
+  placed_other j z Left apart k = (k.0, spares.passes j apart ∙ k.1, spares.locks j apart ∙ k.2)
 
 -- ---- lists of seats
 
@@ -167,8 +178,8 @@ module _ (first : SeatView) (views : List SeatView) (lock young : ℕ) (t : Trac
       (λ (there : (j ≢ id) × (get_elem? views j ≡ some z)). s.joined j z there.1 i x k) (at_set views id j u z e)
 
   -- the view of one seat was changed, and nothing of the store
-  pub replaced : (u : SeatView) → get_elem? views id ≡ some me → is_left me.kin.stage ≡ false → Placed first s.world t id u u.kin.stage → u.kin.joined ≡ me.kin.joined → branch_of u ≡ branch_of me → length me.seen ≤ length u.seen → Turns me u lock lock → Store first (slice_set views id u) lock young t
-  replaced u at stays own joined same seen turns = record {
+  pub replaced : (u : SeatView) → get_elem? views id ≡ some me → is_left me.kin.stage ≡ false → Placed first s.world t id u u.kin.stage → u.kin.joined ≡ me.kin.joined → branch_of u ≡ branch_of me → length me.seen ≤ length u.seen → Turns me u lock lock → u.left ≡ me.left → Store first (slice_set views id u) lock young t
+  replaced u at stays own joined same seen turns left_is = record {
     world = s.world;
     store = s.store;
     safe = s.safe;
@@ -179,6 +190,7 @@ module _ (first : SeatView) (views : List SeatView) (lock young : ℕ) (t : Trac
     known = still_seen views id me u (length s.world.history) at (ap (λ (b : Branch). b.left) same ∙ stays) seen s.known;
     lock_is = s.lock_is;
     causes = causes_set views id me u lock lock at stays (ap (λ (b : Branch). b.left) same ∙ stays) turns s.causes;
+    doubts = doubts_set views id me u (stuck_with s.world.lock) (stuck_with s.world.lock) at stays (ap (λ (b : Branch). b.left) same ∙ stays) (inl (refl, left_is)) s.doubts;
     seats = λ j z e. ⊎_elim
         (λ (here : (j ≡ id) × (u ≡ z)). subst (λ (y : ℕ × SeatView). Placed first s.world t y.0 y.1 y.1.kin.stage) (λ i. (sym here.0 i, here.1 i)) own)
         (λ (there : (j ≢ id) × (get_elem? views j ≡ some z)). s.seats j z there.1) (at_set views id j u z e);
@@ -209,8 +221,8 @@ module _ (first : SeatView) (views : List SeatView) (lock young : ℕ) (t : Trac
   still_met u l young2 t2 m lasts is seen least = (own.met.0, is ∙ own.met.1, met_after first.layout me.number s.world m.world t t2 own.met.0 me u m.spares lasts seen least own.met.2)
 
   pub goes_on : (u : SeatView) (l : Lock) (lock2 young2 : ℕ) (t2 : Trace) (m : Moved first.layout young2 t2 s.world (view_of me) (view_of u) l) → u.kin ≡ me.kin → lock2 ≡ lock_word l → (u.sure ≡ true → is_held u.section ≡ true)
-      → Lasts first.layout (length s.world.history) (files_now t) (files_now t2) → OwnFilesLast first.layout first.since (Some t2) → HasShortFiles (files_now t2) → HasMet first.layout m.world t2 u → Adds me u young young2 → Turns me u lock lock2 → Store first (slice_set views id u) lock2 young2 t2
-  goes_on u l lock2 young2 t2 m same lock_is sure lasts owns short met adds turns = record {
+      → Lasts first.layout (length s.world.history) (files_now t) (files_now t2) → OwnFilesLast first.layout first.since (Some t2) → HasShortFiles (files_now t2) → HasMet first.layout m.world t2 u → Adds me u young young2 → Turns me u lock lock2 → LeavesSo me u (stuck_with s.world.lock) (stuck_with m.world.lock) → Store first (slice_set views id u) lock2 young2 t2
+  goes_on u l lock2 young2 t2 m same lock_is sure lasts owns short met adds turns leaves = record {
     world = m.world;
     store = subst (λ o. IsStore first.layout young2 o t2 m.world) (sym (ap stuck_place m.lock_is)) m.store;
     safe = subst (λ (y : Since × ℕ). Safe first.layout y.0 t2 y.1 m.world.floor m.world.history (doubt m.world.lock)) (λ i. ((m.since_is ∙ own.since) i, (m.opened_is ∙ own.opened) i)) m.safe;
@@ -223,6 +235,7 @@ module _ (first : SeatView) (views : List SeatView) (lock young : ℕ) (t : Trac
         (λ (all : young2 + 1 ≤ length u.seen). (id, u, set_there views id u me at.0, left, omega (arith, all, now))) adds.known;
     lock_is = lock_is ∙ ap (λ k. lock_word k) (sym m.lock_is);
     causes = causes_set views id me u lock lock2 at.0 (ap (λ st. is_left st) at.1) left turns s.causes;
+    doubts = doubts_set views id me u (stuck_with s.world.lock) (stuck_with m.world.lock) at.0 (ap (λ st. is_left st) at.1) left leaves s.doubts;
     seats = λ j z e. ⊎_elim
         (λ (here : (j ≡ id) × (u ≡ z)). subst (λ (y : ℕ × SeatView). Placed first m.world t2 y.0 y.1 y.1.kin.stage) (λ i. (sym here.0 i, here.1 i)) placed)
         (λ (there : (j ≢ id) × (get_elem? views j ≡ some z)). placed_other first me.number s.world m.world t t2 m.spares s.store.kept m.sees.up lasts j z z.kin.stage (λ e. there.0 (e ∙ own.number)) (s.seats j z there.1)) (at_set views id j u z e);

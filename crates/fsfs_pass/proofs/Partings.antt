@@ -1,5 +1,5 @@
 -- What is known of a pass that is split off, and of one into which another was joined.
-use Rattle.std.proofs.Common.{◌≡◌, ◌<◌, ◌≤◌, ◌++◌, ℕ, Bool, true, false, refl, sym, ap, subst, ◌∙◌, arith}
+use Rattle.std.proofs.Common.{◌≡◌, ◌<◌, ◌≤◌, ◌++◌, ◌||◌, ℕ, Bool, true, false, refl, sym, ap, subst, ◌∙◌, arith}
 use Rattle.std.specs.Prelude.{Option, None, IfSome, is_some, option_map}
 use Rattle.fsfs_disk.specs.Trace.{Trace, files_now}
 use Rattle.fsfs_disk.specs.Benches.{HasShortFiles}
@@ -8,7 +8,7 @@ use Rattle.fsfs_machine.specs.Machine.{joined}
 use Rattle.fsfs_turn.specs.Views.{View, Begins}
 use Rattle.fsfs_turn.specs.Telling.{TellsSeen}
 use Rattle.fsfs_pass.specs.declared.seats.seat_view.SeatView.{SeatView}
-use Rattle.fsfs_pass.specs.Seats.{view_of, halved_view, split_pass, numbered_view, joined_view}
+use Rattle.fsfs_pass.specs.Seats.{view_of, halved_view, split_pass, numbered_view, either_left, joined_view}
 use Rattle.fsfs_pass.specs.Met.{known_last, seat_store}
 use Rattle.fsfs_pass.specs.Tells.{TellsIt}
 use Rattle.fsfs_pass.specs.Passes.{is_sitting, reach_by, pass_store, KnowsIt, split_off, Joins}
@@ -123,11 +123,11 @@ module _ (v z u : SeatView) (is : u ≡ joined_view u.met v z) where
   join_later_too last now told its later = subst (λ b. Later (record (seat_store z) { reach = reach_by b last (known_last z) }) (pass_store now u)) (sym its)
       (subst (λ b. Later (seat_store z) (record (seat_store u) { reach = reach_by b now (known_last u) })) (sym (join_told ∙ told)) later)
 
-  join_view : view_of u ≡ record (view_of v) { pass = joined z.pass v.pass; seen = u.seen; given = v.given ++ z.given }
+  join_view : view_of u ≡ record (view_of v) { pass = joined z.pass v.pass; seen = u.seen; left = either_left v.left z.left; given = v.given ++ z.given; full = v.full || z.full }
   join_view =
       let e = ap {A = SeatView} (λ a. view_of a) is in
       let line = ap {A = SeatView} (λ a. a.seen) is in
-      e ∙ sym (ap (λ l. record (view_of v) { pass = joined z.pass v.pass; seen = l; given = v.given ++ z.given }) line)
+      e ∙ sym (ap (λ l. record (view_of v) { pass = joined z.pass v.pass; seen = l; left = either_left v.left z.left; given = v.given ++ z.given; full = v.full || z.full }) line)
 
   pub join_knows : (first : Option Trace) (last : ℕ) (a b : View) → is_some first ≡ true → v.told ≡ true → view_of v ≡ a → view_of z ≡ b → Begins u.seen v.seen → Begins u.seen z.seen → TellsIt u
       → (c : View) × KnowsIt first last u c × Joins a b c

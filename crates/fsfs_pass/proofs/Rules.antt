@@ -19,18 +19,19 @@ use Rattle.fsfs_machine.specs.declared.machine.Coming.{Coming}
 use Rattle.fsfs_machine.specs.declared.machine.Recorded.{Recorded}
 use Rattle.fsfs_machine.specs.declared.machine.Section.{Section}
 use Rattle.fsfs_machine.specs.declared.machine.Section.TheVariants.{CurrentFirm}
-use Rattle.fsfs_machine.specs.declared.machine.Lock.TheVariants.{Stuck}
-use Rattle.fsfs_machine.specs.Machine.{stuck_place}
-use Rattle.fsfs_machine.specs.Kept.{IsIn, AreOnce}
+use Rattle.fsfs_machine.specs.declared.machine.Lock.{Lock}
+use Rattle.fsfs_machine.specs.declared.machine.Lock.TheVariants.{Free, Held, Stuck, Down, DownDoubtful}
+use Rattle.fsfs_machine.specs.Machine.{held_by, is_up, stuck_place}
+use Rattle.fsfs_machine.specs.Kept.{IsHolder, IsIn, AreOnce}
 use Rattle.fsfs_machine.proofs.Answering.{seen_of}
-use Rattle.fsfs_turn.specs.Past.{doubt, Safe}
+use Rattle.fsfs_turn.specs.Past.{doubt, stuck_with, Safe}
 use Rattle.fsfs_turn.specs.Standing.{IsStore}
 use Rattle.fsfs_turn.specs.Stands.{OwnFilesLast}
 use Rattle.fsfs_turn.specs.declared.since.Since.{Since}
 use Rattle.fsfs_turn.specs.Alone.{are_harmless}
 use Rattle.fsfs_turn.specs.Views.{Begins, is_held, Looked, FoundStuck, Revealed}
 use Rattle.fsfs_turn.proofs.Alone.{same_by_length}
-use Rattle.fsfs_turn.proofs.Stepping.{take_drop}
+use Rattle.fsfs_turn.proofs.Stepping.{take_drop, held_here}
 use Rattle.fsfs_disk.specs.Seen.{DiskSeen, IsLater}
 use Rattle.fsfs_pass.specs.declared.seats.seat_view.Hand.{Hand}
 use Rattle.fsfs_pass.specs.declared.seats.seat_view.Hand.TheVariants.{Empty, Out}
@@ -40,6 +41,8 @@ use Rattle.fsfs_pass.specs.LockWords.{place_at, place_number}
 use Rattle.fsfs_pass.specs.Seats.{all_parts, view_of, look_view, lock_view, stuck_view, outside_view, reveal_view, reveal_in, is_left, IsSitting, Sits}
 use Rattle.fsfs_pass.specs.Causes.{HasLock}
 use Rattle.fsfs_pass.specs.Met.{seat_store}
+use Rattle.fsfs_pass.specs.declared.seats.seat_view.Stage.{Stage}
+use Rattle.fsfs_pass.specs.declared.seats.seat_view.Stage.TheVariants.{New, Sitting, Joining, Left}
 use Rattle.fsfs_pass.specs.Kinship.{numbers_of, branch_of, branches}
 use Rattle.fsfs_pass.specs.Rule.{Seated, Placed, Store, HandIs, failures_in, bench_failures_in, Rule}
 use Rattle.fsfs_pass.specs.Tells.{Sat, TellsIt, looked, locked, CanGive, gave_lock, CanStick, stuck_it, CanReveal, revealed, IsOwn, IsMet, taken, given_back}
@@ -72,14 +75,39 @@ told_some (Some x) e = (x, refl)
 pub seat_stays : (v : SeatView) → IsSitting v → is_left v.kin.stage ≡ false
 seat_stays v sits = ap (λ st. is_left st) sits
 
+-- ---- what is left in doubt
+
+-- two are the same where each is what the other is
+one_left : (d a : Option Coming) → ((x : Coming) → a ≡ Some x → d ≡ Some x) → ((x : Coming) → d ≡ Some x → a ≡ Some x) → d ≡ a
+one_left None None tied whose = refl
+one_left None (Some y) tied whose = tied y refl
+one_left (Some x) a tied whose = sym (whose x refl)
+
+-- a lock that nobody holds leaves in doubt what it is stuck with
+not_held_doubt : (lock : Lock) → is_up lock ≡ true → ((q : ℕ) (s : Section) → lock ≡ Held q s → ⊥) → doubt lock ≡ stuck_with lock
+not_held_doubt Free up not = refl
+not_held_doubt (Held q s) up not = absurd (not q s refl)
+not_held_doubt (Stuck place x) up not = refl
+not_held_doubt Down up not = refl
+not_held_doubt (DownDoubtful x) up not = absurd cc
+
+held_none : (lock : Lock) (q : ℕ) (s : Section) → held_by q lock ≡ None → held_by q lock ≡ Some s → ⊥
+held_none lock q s nobody it = let no : None ≡ Some s = sym nobody ∙ it in absurd cc
+
+-- a number in the list is that of one of them
+number_at : (xs : List (ℕ × List ℕ)) (q : ℕ) → IsIn q (numbers_of xs) → (i : ℕ) × (x : ℕ × List ℕ) × (get_elem? xs i ≡ some x) × (x.0 ≡ q)
+number_at [] q i = absurd i
+number_at (x ∷ xs) q (inl same) = (0, x, refl, same)
+number_at (x ∷ xs) q (inr more) = let k = number_at xs q more in (suc k.0, k.1, k.2, k.3)
+
 -- the view of one seat was changed, and nothing of the store
-pub restored : (first : SeatView) (views : List SeatView) (lock young : ℕ) (t : Trace) (id : ℕ) (me u : SeatView) → Sits views id me → (s : Store first views lock young t) → Seated first s.world t id u → u.kin ≡ me.kin → length me.seen ≤ length u.seen → Turns me u lock lock → Store first (slice_set views id u) lock young t
-restored first views lock young t id me u at s own same seen turns = replaced first views lock young t s id me u at.0 (seat_stays me at.1)
-    (subst (λ st. Placed first s.world t id u st) (sym (ap (λ (c : Kin). c.stage) same ∙ at.1)) own) (ap (λ (c : Kin). c.joined) same) (same_kin u me same) seen turns
+pub restored : (first : SeatView) (views : List SeatView) (lock young : ℕ) (t : Trace) (id : ℕ) (me u : SeatView) → Sits views id me → (s : Store first views lock young t) → Seated first s.world t id u → u.kin ≡ me.kin → length me.seen ≤ length u.seen → Turns me u lock lock → u.left ≡ me.left → Store first (slice_set views id u) lock young t
+restored first views lock young t id me u at s own same seen turns left_is = replaced first views lock young t s id me u at.0 (seat_stays me at.1)
+    (subst (λ st. Placed first s.world t id u st) (sym (ap (λ (c : Kin). c.stage) same ∙ at.1)) own) (ap (λ (c : Kin). c.joined) same) (same_kin u me same) seen turns left_is
 
 -- only what is known of the disk was changed
 rehand : (first : SeatView) (views : List SeatView) (lock young : ℕ) (t : Trace) (id : ℕ) (me : SeatView) (h : Hand) → Sits views id me → Store first views lock young t → Store first (slice_set views id (record me { hand = h })) lock young t
-rehand first views lock young t id me h at s = restored first views lock young t id me (record me { hand = h }) at s (reseated first s.world t id me (record me { hand = h }) refl refl (seated first views lock young t s id me at)) refl (omega arith) (quiet_turn me (record me { hand = h }) lock refl refl refl)
+rehand first views lock young t id me h at s = restored first views lock young t id me (record me { hand = h }) at s (reseated first s.world t id me (record me { hand = h }) refl refl (seated first views lock young t s id me at)) refl (omega arith) (quiet_turn me (record me { hand = h }) lock refl refl refl) refl
 
 -- a seat stays as it was
 unseated : (first : SeatView) (views : List SeatView) (lock young : ℕ) (t : Trace) (id : ℕ) (me : SeatView) → get_elem? views id ≡ some me → Store first views lock young t → Store first (slice_set views id me) lock young t
@@ -371,6 +399,12 @@ module _ (began : DiskSeen) (first : SeatView) where
               ap (λ l. doubt l) (word_free k.world.lock k.up (sym k.lock_is ∙ free)),
               none_of me.0.pass.stuck (harmful_so (is_some me.0.pass.stuck) (λ is. absurd (let stuck = k.causes.found id me.0 at (seat_stays me.0 sits) is in omega (arith, stuck, free)))),
             );
+        left = λ all outside. not_held_doubt k.world.lock k.up (nobody_holds all outside) ∙ one_left (stuck_with k.world.lock) me.0.left (k.doubts.tied id me.0 at (seat_stays me.0 sits))
+            (λ x is.
+            let c = k.doubts.whose x is in
+            let here : c.0 ≡ id = only_one (branches s.views) k.kin id (branch_of me.0) (map_there s.views id me.0 at) all c.0 (branch_of c.1) (map_there s.views c.0 c.1 c.2) c.3 in
+            let same : c.1 ≡ me.0 = some-injective c.1 me.0 (sym c.2 ∙ ap (λ n. get_elem? s.views n) here ∙ at) in
+            ap (λ (v : SeatView). v.left) (sym same) ∙ c.4);
         safe = subst (λ (y : Layout × (Since × ℕ)). Safe y.0 y.1.0 t y.1.1 k.world.floor k.world.history (doubt k.world.lock)) (λ i. (sym o.layout i, (sym o.since i, sym o.opened i))) k.safe;
         own = subst (λ (y : Layout × Since). OwnFilesLast y.0 y.1 (Some t)) (λ i. (sym o.layout i, sym o.since i)) k.own;
       }
@@ -389,12 +423,34 @@ module _ (began : DiskSeen) (first : SeatView) where
           its_once : AreOnce (numbers_of me.0.kin.joined)
           its_once = k.kin.once id (branch_of me.0) (map_there s.views id me.0 at)
 
+          left_holds : (v : SeatView) → is_left v.kin.stage ≡ true → (j : ℕ) → Placed first k.world t j v v.kin.stage → held_by j k.world.lock ≡ None
+          left_holds v gone j placed = by_stage v.kin.stage gone placed
+            where
+              by_stage : (st : Stage) → is_left st ≡ true → Placed first k.world t j v st → held_by j k.world.lock ≡ None
+              by_stage New e p = absurd cc
+              by_stage Sitting e p = absurd cc
+              by_stage (Joining a b) e p = absurd cc
+              by_stage Left e p = p.2
+
           no_more : me.0.kin.parts ≡ all_parts → (q : ℕ) → q < length k.world.passes → (q ≡ me.0.number) ⊎ IsIn q (numbers_of me.0.kin.joined)
           no_more all q less =
               let many : length k.world.passes ≤ length s.views = none_past k.world.passes (length s.views) (k.no_more (length s.views) (omega arith)) in
               let seat = there_at s.views q (omega (arith, less, many)) in
               ⊎_elim (λ e. inl (e ∙ sym o.number)) (λ i. inr i)
               (all_others_left (branches s.views) k.kin id (branch_of me.0) (map_there s.views id me.0 at) all q (branch_of seat.0) (map_there s.views q seat.0 seat.1))
+
+          -- nobody holds the lock but a pass that sits
+          nobody_holds : me.0.kin.parts ≡ all_parts → me.0.section ≡ None → (q : ℕ) (z : Section) → k.world.lock ≡ Held q z → ⊥
+          nobody_holds all outside q z is =
+              let holder : IsHolder (length k.world.passes) (Held q z) = subst (λ l. IsHolder (length k.world.passes) l) is k.store.kept.holder in
+              let here : held_by q k.world.lock ≡ Some z = ap (λ l. held_by q l) is ∙ held_here q z in
+              ⊎_elim
+              (λ (mine : q ≡ me.0.number). let nobody : held_by q k.world.lock ≡ None = ap (λ n. held_by n k.world.lock) mine ∙ o.sees.section ∙ outside in held_none k.world.lock q z nobody here)
+              (λ (gone : IsIn q (numbers_of me.0.kin.joined)).
+              let j = number_at me.0.kin.joined q gone in
+              let x = k.joined id me.0 at j.0 j.1 j.2 in
+              let nobody : held_by j.1.0 k.world.lock ≡ None = left_holds x.seat x.left j.1.0 (k.seats j.1.0 x.seat x.at) in
+              held_none k.world.lock q z (ap (λ n. held_by n k.world.lock) (sym j.3) ∙ nobody) here) (no_more all q holder.0)
 
   -- the same by a disk that is equal
   pub takes_of : (k : DiskSeen) → began ≡ k → (slots id : ℕ) (me : Sat) → IsSitting me.0 → Allows (Rule began first) slots id me 0 (λ n. either (eqb n 0) 1 n) (taken k (step slots 0 0 1 none) me)

@@ -17,6 +17,7 @@ use Rattle.fsfs_machine.specs.Machine.{World, did, split_off, held_by, stuck_pla
 use Rattle.fsfs_machine.specs.Kept.{Kept, IsHolder}
 use Rattle.fsfs_machine.proofs.Steps.{step_keeps}
 use Rattle.fsfs_turn.specs.Views.{Sees, with_txns}
+use Rattle.fsfs_turn.proofs.Names.{names_stay}
 use Rattle.fsfs_turn.proofs.Stepping.{kept_bare}
 use Rattle.fsfs_turn.proofs.Moves.{held_other}
 use Rattle.fsfs_turn.specs.Found.{seen_within}
@@ -29,14 +30,16 @@ use Rattle.fsfs_pass.specs.declared.seats.seat_view.Stage.TheVariants.{New, Sitt
 use Rattle.fsfs_pass.specs.declared.seats.seat_view.SeatView.{SeatView}
 use Rattle.fsfs_pass.specs.Seats.{all_parts, view_of, is_left, IsSitting, Sits, as_before, halved_view, split_pass, numbered_view}
 use Rattle.fsfs_pass.specs.Kinship.{numbers_of, Branch, branch_of, branches, Kinship}
-use Rattle.fsfs_pass.specs.Causes.{IsSound, HasLock, Causes}
+use Rattle.fsfs_machine.specs.declared.machine.Coming.{Coming}
+use Rattle.fsfs_turn.specs.Past.{stuck_with}
+use Rattle.fsfs_pass.specs.Causes.{IsSound, HasLock, Causes, Doubts}
 use Rattle.fsfs_pass.specs.Met.{Met, HasMet, seat_store}
 use Rattle.fsfs_pass.specs.Rule.{Seated, Knew, Placed, IsJoined, IsSeenBySome, Store, HandIs, failures_in, bench_failures_in, Rule}
 use Rattle.fsfs_pass.specs.Tells.{Sat, TellsIt, numbered}
 use Rattle.fsfs_pass.proofs.Following.{met_now, last_grows, later_now, later_untold}
 use Rattle.fsfs_pass.proofs.Kinships.{at_end, set_there, map_there, parts_most, kin_split}
 use Rattle.fsfs_pass.proofs.Failures.{failed, bench_failed, sum_split, later_as}
-use Rattle.fsfs_pass.proofs.Accounts.{quiet_turn, causes_set}
+use Rattle.fsfs_pass.proofs.Accounts.{quiet_turn, causes_set, doubts_set}
 use Rattle.fsfs_pass.proofs.Others.{still_seen, reseated, at_less, there_at, none_past, left_apart, seated, replaced}
 use Rattle.fsfs_pass.proofs.Stores as stores
 use Rattle.fsfs_pass.proofs.Rules.{short_told, seat_stays, goes, trace_of}
@@ -86,7 +89,7 @@ pub pass_at : (first : SeatView) (w : World) (now : Trace) (j : ℕ) (z : SeatVi
 pass_at first w now j z New k = (z.pass, k.0.sees.pass)
 pass_at first w now j z Sitting k = (z.pass, ap (λ n. slice_get w.passes n) (sym k.number) ∙ k.sees.pass)
 pass_at first w now j z (Joining a b) k = (z.pass, ap (λ n. slice_get w.passes n) (sym k.0.number) ∙ k.0.sees.pass)
-pass_at first w now j z Left k = k
+pass_at first w now j z Left k = (k.0, k.1)
 
 module _ (first : SeatView) (views : List SeatView) (lock young : ℕ) (t : Trace) (s : Store first views lock young t) (id : ℕ) (me : SeatView) (at : Sits views id me) where
   abbrev w : World
@@ -126,7 +129,7 @@ module _ (first : SeatView) (views : List SeatView) (lock young : ℕ) (t : Trac
   seat_on : (j : ℕ) (z : SeatView) → Seated first w t j z → Seated first split_on t j z
   seat_on j z k = record {
     number = k.number;
-    sees = (let e = k.sees in record { pass = get_longer w.passes child z.pass z.number e.pass; seen = e.seen; section = e.section; up = e.up; sure = e.sure; whole = e.whole; given = e.given; opened = e.opened; shown = e.shown });
+    sees = (let e = k.sees in record { pass = get_longer w.passes child z.pass z.number e.pass; seen = e.seen; section = e.section; up = e.up; sure = e.sure; whole = e.whole; given = e.given; opened = e.opened; shown = e.shown; names = e.names });
     sure = k.sure;
     layout = k.layout;
     since = k.since;
@@ -141,7 +144,7 @@ module _ (first : SeatView) (views : List SeatView) (lock young : ℕ) (t : Trac
   placed_on j z New k = (seat_on j (record z { number = j }) k.0, k.1)
   placed_on j z Sitting k = seat_on j z k
   placed_on j z (Joining a b) k = (seat_on j z k.0, knew_on z a k.1, knew_on z b k.2)
-  placed_on j z Left k = (k.0, get_longer w.passes child k.0 j k.1)
+  placed_on j z Left k = (k.0, get_longer w.passes child k.0 j k.1, k.2)
 
   abbrev next : SeatView
   next = record (split_pass me) { number = length views }
@@ -157,6 +160,7 @@ module _ (first : SeatView) (views : List SeatView) (lock young : ℕ) (t : Trac
     given = sees.given;
     opened = sees.opened;
     shown = sees.shown;
+    names = names_stay me.full me.section None w.disk w.disk refl refl sees.names;
   }
 
   new_met : HasMet first.layout split_on t next
@@ -205,6 +209,17 @@ module _ (first : SeatView) (views : List SeatView) (lock young : ℕ) (t : Trac
             (causes_set views id me (halved_view me) lock lock at.0 left left (quiet_turn me (halved_view me) lock refl refl refl) c).cause;
       }
 
+  doubts_on : Doubts views_on (stuck_with w.lock)
+  doubts_on =
+      let c = s.doubts in
+      let left = seat_stays me at.1 in
+      record {
+        tied = λ j z e. cases_of views id me (λ j z. is_left z.kin.stage ≡ false → (x : Coming) → z.left ≡ Some x → stuck_with w.lock ≡ Some x) j z e (c.tied id me at.0) (λ old. c.tied j z old) (λ stays x is. absurd cc);
+        whose = λ x is.
+            let k = (doubts_set views id me (halved_view me) (stuck_with w.lock) (stuck_with w.lock) at.0 left left (inl (refl, refl)) c).whose x is in
+            (k.0, k.1, at_longer halved_on (split_pass me ∷ []) k.0 k.1 k.2, k.3, k.4);
+      }
+
   pub split_goes : 1 < me.kin.parts → Store first views_on lock young t
   split_goes enough = record {
     world = split_on;
@@ -217,6 +232,7 @@ module _ (first : SeatView) (views : List SeatView) (lock young : ℕ) (t : Trac
     known = seen_on;
     lock_is = s.lock_is;
     causes = causes_on;
+    doubts = doubts_on;
     seats = λ j z e. cases_of views id me (λ j z. Placed first split_on t j z z.kin.stage) j z e halved (λ old. placed_on j z z.kin.stage (s.seats j z old)) new_seat;
     no_more = λ j far. slice_get_past (w.passes ++ child ∷ []) j (let a = one_longer halved_on (split_pass me) in let b = one_longer w.passes child in omega (arith, far, a, b, as_many, as_before_it));
     kin = kin_on enough;
@@ -284,7 +300,7 @@ module _ (began : DiskSeen) (first : SeatView) where
       same = ap (λ l. (let b : Branch = record { left = l; parts = me.0.kin.parts; numbers = numbers_of me.0.kin.joined } in b)) (sym stays)
 
       after : (t : Trace) → r.disk.trace ≡ Some t → Store first (slice_set s.views id (numbered_view id r.disk.trace me.0)) r.lock r.young t
-      after t is = let k = r.store t is in replaced first s.views r.lock r.young t k id me.0 (numbered_view id r.disk.trace me.0) at stays (has_number t is k) refl same (omega arith) (quiet_turn me.0 (numbered_view id r.disk.trace me.0) r.lock refl refl refl)
+      after t is = let k = r.store t is in replaced first s.views r.lock r.young t k id me.0 (numbered_view id r.disk.trace me.0) at stays (has_number t is k) refl same (omega arith) (quiet_turn me.0 (numbered_view id r.disk.trace me.0) r.lock refl refl refl) refl
 
       by_told : (b : Bool) → me.0.told ≡ b → Later (seat_store me.0) (seat_store (numbered_view id r.disk.trace me.0))
       by_told true told =

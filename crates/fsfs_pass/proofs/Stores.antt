@@ -1,6 +1,6 @@
 -- The steps that leave the disk as it is, at the table.
 use Rattle.std.proofs.Common.{◌≡◌, ◌≤◌, ◌+◌, ◌-◌, ℕ, List, [], ◌∷◌, ◌++◌, length, true, inl, inr, ⊎_elim, sym, ap, subst, ◌∙◌, refl, arith, length-append}
-use Rattle.std.specs.Prelude.{Some, slice_set, if◌then◌else◌}
+use Rattle.std.specs.Prelude.{None, Some, slice_set, if◌then◌else◌}
 use Rattle.fsfs_fetch.specs.Views.{Later}
 use Rattle.fsfs_disk.specs.Trace.{Trace, files_now}
 use Rattle.fsfs_base.specs.declared.places.place.DiskPlace.{DiskPlace}
@@ -12,18 +12,18 @@ use Rattle.fsfs_machine.specs.declared.machine.Lock.TheVariants.{Free, Held, Stu
 use Rattle.fsfs_machine.specs.declared.machine.Step.TheVariants as step
 use Rattle.fsfs_machine.specs.Machine.{stuck_place, recorded}
 use Rattle.fsfs_turn.specs.Alone.{are_harmless, is_doubtful_at}
-use Rattle.fsfs_turn.specs.Past.{doubt, Safe}
-use Rattle.fsfs_turn.specs.Views.{View, Sees, is_held, coming_at, Looked, LockTaken, FoundStuck, MayGive, LockGiven, Revealed}
+use Rattle.fsfs_turn.specs.Past.{doubt, stuck_with, Safe}
+use Rattle.fsfs_turn.specs.Views.{View, Sees, is_held, left_by, coming_at, Looked, LockTaken, FoundStuck, MayGive, LockGiven, Revealed}
 use Rattle.fsfs_turn.specs.Telling.{TellsSeen}
 use Rattle.fsfs_turn.proofs.Moves.{Moved}
-use Rattle.fsfs_turn.proofs.Locking.{look_comes, take_comes, find_comes, held_in, give_comes, stick_comes, reveal_comes}
+use Rattle.fsfs_turn.proofs.Locking.{quiet_left, look_comes, take_comes, find_comes, held_in, give_comes, stick_comes, reveal_comes}
 use Rattle.fsfs_pass.specs.declared.seats.seat_view.SeatView.{SeatView}
 use Rattle.fsfs_pass.specs.LockWords.{lock_word, place_number}
 use Rattle.fsfs_pass.specs.Seats.{is_left, view_of, look_view, lock_view, stuck_view, outside_view, reveal_view, Sits}
 use Rattle.fsfs_pass.specs.Met.{Lasts, Met, known_last, seat_store}
 use Rattle.fsfs_pass.specs.Rule.{Store}
 use Rattle.fsfs_pass.proofs.Following.{lasts_same, tells_seen, later_now}
-use Rattle.fsfs_pass.proofs.Accounts.{Turns, quiet_turn, harmful_so}
+use Rattle.fsfs_pass.proofs.Accounts.{Turns, LeavesSo, quiet_turn, harmful_so}
 use Rattle.fsfs_pass.proofs.Locks.{place_above}
 use Rattle.fsfs_pass.proofs.Others.{Adds, seated, seat_sees, seat_safe, meets, still_met, goes_on}
 
@@ -42,18 +42,18 @@ module _ (first : SeatView) (views : List SeatView) (lock young : ℕ) (t : Trac
   Comes u lock2 young2 Tells = Tells (view_of me) (view_of u) × Store first (slice_set views id u) lock2 young2 t
 
   -- where the seat meets the trace as it is
-  meeting : (u : SeatView) (l : Lock) (lock2 young2 : ℕ) (Tells : View → View → Type 0) → u.kin ≡ me.kin → u.met ≡ Some t → lock2 ≡ lock_word l → (u.sure ≡ true → is_held u.section ≡ true) → Adds me u young young2 → Turns me u lock lock2
+  meeting : (u : SeatView) (l : Lock) (lock2 young2 : ℕ) (Tells : View → View → Type 0) → u.kin ≡ me.kin → u.met ≡ Some t → lock2 ≡ lock_word l → (u.sure ≡ true → is_held u.section ≡ true) → Adds me u young young2 → Turns me u lock lock2 → LeavesSo me u (stuck_with s.world.lock) (stuck_with l)
       → Tells (view_of me) (view_of u) × Moved first.layout young2 t s.world (view_of me) (view_of u) l → Comes u lock2 young2 Tells
-  meeting u l lock2 young2 Tells kin met lock_is sure adds turns step =
-      (step.0, goes_on first views lock young t s id me at u l lock2 young2 t step.1 kin lock_is sure unchanged s.own s.short (meets first views lock young t s id me at u l young2 t step.1 met) adds turns)
+  meeting u l lock2 young2 Tells kin met lock_is sure adds turns leaves step =
+      (step.0, goes_on first views lock young t s id me at u l lock2 young2 t step.1 kin lock_is sure unchanged s.own s.short (meets first views lock young t s id me at u l young2 t step.1 met) adds turns (subst (λ o. LeavesSo me u (stuck_with s.world.lock) o) (sym (ap (λ k. stuck_with k) step.1.lock_is)) leaves))
 
   -- where it doesn't
-  aside : (u : SeatView) (l : Lock) (lock2 : ℕ) (Tells : View → View → Type 0) → u.kin ≡ me.kin → u.met ≡ me.met → length u.seen ≡ length me.seen → u.pass.least ≤ me.pass.least → length u.pass.mine ≡ length me.pass.mine → lock2 ≡ lock_word l → (u.sure ≡ true → is_held u.section ≡ true) → Turns me u lock lock2
+  aside : (u : SeatView) (l : Lock) (lock2 : ℕ) (Tells : View → View → Type 0) → u.kin ≡ me.kin → u.met ≡ me.met → length u.seen ≡ length me.seen → u.pass.least ≤ me.pass.least → length u.pass.mine ≡ length me.pass.mine → lock2 ≡ lock_word l → (u.sure ≡ true → is_held u.section ≡ true) → Turns me u lock lock2 → LeavesSo me u (stuck_with s.world.lock) (stuck_with l)
       → Tells (view_of me) (view_of u) × Moved first.layout young t s.world (view_of me) (view_of u) l → Comes u lock2 young Tells
-  aside u l lock2 Tells kin met seen least mine lock_is sure turns step = (
+  aside u l lock2 Tells kin met seen least mine lock_is sure turns leaves step = (
     step.0,
     goes_on first views lock young t s id me at u l lock2 young t step.1 kin lock_is sure unchanged s.own s.short (still_met first views lock young t s id me at u l young t step.1 unchanged met (omega (arith, seen)) least)
-        record { seen = omega (arith, seen); own = omega (arith, mine); known = inl refl } turns,
+        record { seen = omega (arith, seen); own = omega (arith, mine); known = inl refl } turns (subst (λ o. LeavesSo me u (stuck_with s.world.lock) o) (sym (ap (λ k. stuck_with k) step.1.lock_is)) leaves),
   )
 
   -- ---- the lock
@@ -61,6 +61,10 @@ module _ (first : SeatView) (views : List SeatView) (lock young : ℕ) (t : Trac
   -- it is held where the pass is in a section
   held_word : (inside : Section) → me.section ≡ Some inside → lock ≡ 1
   held_word inside is = s.lock_is ∙ ap (λ l. lock_word l) (held_in first.layout young (stuck_place s.world.lock) t s.world (view_of me) s.store sees safe inside is)
+
+  -- nor is the lock stuck then
+  held_leaves : (inside : Section) → me.section ≡ Some inside → stuck_with s.world.lock ≡ None
+  held_leaves inside is = ap (λ l. stuck_with l) (held_in first.layout young (stuck_place s.world.lock) t s.world (view_of me) s.store sees safe inside is)
 
   takes_turn : s.world.lock ≡ Free → Turns me (lock_view me) lock 1
   takes_turn free =
@@ -91,23 +95,23 @@ module _ (first : SeatView) (views : List SeatView) (lock young : ℕ) (t : Trac
   reveals_turn x = record { sound = λ so few. refl; found = λ f. f; stuck = λ le. le; cause = inr (inr (refl, λ has. ⊎_elim (λ h. inl (h.0, refl)) (λ h. inr h) has)) }
 
   pub looks : Comes (look_view young (Some t) me) lock young (λ v u. Looked young v u)
-  looks = meeting (look_view young (Some t) me) s.world.lock lock young (λ v u. Looked young v u) refl refl s.lock_is (λ e. e) record { seen = omega arith; own = refl; known = inl refl } (quiet_turn me (look_view young (Some t) me) lock refl refl refl)
+  looks = meeting (look_view young (Some t) me) s.world.lock lock young (λ v u. Looked young v u) refl refl s.lock_is (λ e. e) record { seen = omega arith; own = refl; known = inl refl } (quiet_turn me (look_view young (Some t) me) lock refl refl refl) (inl (refl, refl))
       (look_comes first.layout young (stuck_place s.world.lock) t s.world (view_of me) s.store sees safe)
 
   pub takes : s.world.lock ≡ Free → Comes (lock_view me) 1 young (λ v u. LockTaken v u)
-  takes free = aside (lock_view me) (Held me.number Begun) 1 (λ v u. LockTaken v u) refl refl refl (omega arith) refl refl (λ e. refl) (takes_turn free)
+  takes free = aside (lock_view me) (Held me.number Begun) 1 (λ v u. LockTaken v u) refl refl refl (omega arith) refl refl (λ e. refl) (takes_turn free) (inl (sym (ap (λ k. stuck_with k) free), refl))
       (take_comes first.layout young (stuck_place s.world.lock) t s.world (view_of me) s.store sees safe free)
 
   pub finds : (place : DiskPlace) (x : Coming) → s.world.lock ≡ Stuck place x → Comes (stuck_view place me) lock young (λ v u. FoundStuck place v u)
-  finds place x is = aside (stuck_view place me) s.world.lock lock (λ v u. FoundStuck place v u) refl refl refl (omega arith) refl s.lock_is (seated first views lock young t s id me at).sure (finds_turn place x is)
+  finds place x is = aside (stuck_view place me) s.world.lock lock (λ v u. FoundStuck place v u) refl refl refl (omega arith) refl s.lock_is (seated first views lock young t s id me at).sure (finds_turn place x is) (inl (refl, refl))
       (find_comes first.layout young (stuck_place s.world.lock) t s.world (view_of me) s.store sees safe place x is)
 
   pub gives : MayGive (view_of me) → Comes (outside_view me) 0 young (λ v u. LockGiven (step.GiveLock v.number) v u)
-  gives may = aside (outside_view me) Free 0 (λ v u. LockGiven (step.GiveLock v.number) v u) refl refl refl (omega arith) refl refl (λ e. absurd cc) (gives_turn may)
+  gives may = aside (outside_view me) Free 0 (λ v u. LockGiven (step.GiveLock v.number) v u) refl refl refl (omega arith) refl refl (λ e. absurd cc) (gives_turn may) (inl (sym (held_leaves may.inside may.is), ap (λ o. left_by o me.left) may.is ∙ quiet_left may.inside me.left may.quiet))
       (give_comes first.layout young (stuck_place s.world.lock) t s.world (view_of me) s.store sees safe may.inside may.is may.quiet)
 
   pub sticks : (place : DiskPlace) (x : Coming) → me.section ≡ Some (Doubtful place x) → Comes (outside_view me) (place_number place) young (λ v u. LockGiven (step.StickLock v.number) v u)
-  sticks place x inside = aside (outside_view me) (Stuck place x) (place_number place) (λ v u. LockGiven (step.StickLock v.number) v u) refl refl refl (omega arith) refl refl (λ e. absurd cc) (sticks_turn place x inside)
+  sticks place x inside = aside (outside_view me) (Stuck place x) (place_number place) (λ v u. LockGiven (step.StickLock v.number) v u) refl refl refl (omega arith) refl refl (λ e. absurd cc) (sticks_turn place x inside) (inr (x, held_leaves (Doubtful place x) inside, refl, ap (λ o. left_by o me.left) inside))
       (stick_comes first.layout young (stuck_place s.world.lock) t s.world (view_of me) s.store sees safe place x inside)
 
   reveal_adds : (x : Coming) (rev : ℕ) → me.section ≡ Some (CurrentFirm x) → rev ≡ length me.seen → Adds me (reveal_view x (Some t) me) young rev
@@ -121,7 +125,7 @@ module _ (first : SeatView) (views : List SeatView) (lock young : ℕ) (t : Trac
 
   pub reveals : (x : Coming) (rev : ℕ) → me.section ≡ Some (CurrentFirm x) → rev ≡ length me.seen → Comes (reveal_view x (Some t) me) lock rev (λ v u. Revealed x v u)
   reveals x rev inside rev_is = meeting (reveal_view x (Some t) me) (Held me.number Over) lock rev (λ v u. Revealed x v u) refl refl
-      (s.lock_is ∙ ap (λ l. lock_word l) (held_in first.layout young (stuck_place s.world.lock) t s.world (view_of me) s.store sees safe (CurrentFirm x) inside)) (λ e. absurd cc) (reveal_adds x rev inside rev_is) (reveals_turn x)
+      (s.lock_is ∙ ap (λ l. lock_word l) (held_in first.layout young (stuck_place s.world.lock) t s.world (view_of me) s.store sees safe (CurrentFirm x) inside)) (λ e. absurd cc) (reveal_adds x rev inside rev_is) (reveals_turn x) (inl (sym (held_leaves (CurrentFirm x) inside), refl))
       (reveal_comes first.layout young (stuck_place s.world.lock) t s.world (view_of me) s.store sees safe x inside rev rev_is)
 
   -- ---- what its seat tells

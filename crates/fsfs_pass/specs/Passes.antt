@@ -1,5 +1,5 @@
 -- What a pass at the table knows, and what it tells one who reads.
-use Rattle.std.specs.Prelude.{◌≡◌, ◌++◌, ℕ, List, [], Bool, true, false, Option, None, is_some, if◌then◌else◌}
+use Rattle.std.specs.Prelude.{◌≡◌, ◌++◌, ◌||◌, ℕ, List, [], Bool, true, false, Option, None, is_some, if◌then◌else◌}
 use Rattle.atomic_table.specs.Seated.{TableId}
 use Rattle.fsfs_layout.specs.declared.layout.Layout.{Layout}
 use Rattle.fsfs_fetch.specs.Views.{View as StoreView, Reach, Grows}
@@ -12,7 +12,7 @@ use Rattle.fsfs_pass.specs.declared.seats.seat_view.Kin.{Kin}
 use Rattle.fsfs_pass.specs.declared.seats.seat_view.SeatView.{SeatView}
 use Rattle.fsfs_pass.specs.declared.seats.seat_view.Stage.{Stage}
 use Rattle.fsfs_pass.specs.declared.seats.seat_view.Stage.TheVariants.{Sitting}
-use Rattle.fsfs_pass.specs.Seats.{view_of}
+use Rattle.fsfs_pass.specs.Seats.{view_of, either_left}
 use Rattle.fsfs_pass.specs.Met.{known_last, seat_store}
 
 -- the seat has its number, and nothing is left to be told of a joining
@@ -51,11 +51,11 @@ pub record KnowsIt (first : Option Trace) (last : ℕ) (s : SeatView) (v : View)
 
 -- the pass that is split off, under this number: it knows as much, but of no revisions, faults or section of its own
 abbrev pub split_off : ℕ → View → View
-split_off n v = record v { number = n; pass = record v.pass { mine = []; faults = [] }; section = None; sure = false }
+split_off n v = record v { number = n; pass = record v.pass { mine = []; faults = [] }; section = None; sure = false; left = None }
 
 -- Of two passes the first knows what both knew: the longer of the two lines that they saw, the later number that either was told, the
--- greater floor, and the faults and the names given of both.
+-- greater floor, and the faults and the names given of both; and that no name is left where one did.
 pub record Joins (v u z : View) : Type 0 where
-  pub is : z ≡ record v { pass = joined u.pass v.pass; seen = z.seen; given = v.given ++ u.given }
+  pub is : z ≡ record v { pass = joined u.pass v.pass; seen = z.seen; left = either_left v.left u.left; given = v.given ++ u.given; full = v.full || u.full }
   pub one : Begins z.seen v.seen
   pub other : Begins z.seen u.seen

@@ -8,9 +8,9 @@ use Rattle.fsfs_base.specs.Fields.RevNums.{last_rev}
 use Rattle.fsfs_disk.specs.Benches.{HasShortFiles}
 use Rattle.fsfs_disk.specs.Trace.{Trace, files_now}
 use Rattle.fsfs_machine.specs.declared.machine.Pass.{Pass}
-use Rattle.fsfs_machine.specs.Machine.{World, is_up, stuck_place}
+use Rattle.fsfs_machine.specs.Machine.{World, held_by, is_up, stuck_place}
 use Rattle.fsfs_turn.specs.Views.{Sees, Begins, is_held}
-use Rattle.fsfs_turn.specs.Past.{doubt, Safe}
+use Rattle.fsfs_turn.specs.Past.{doubt, stuck_with, Safe}
 use Rattle.fsfs_turn.specs.Standing.{IsStore}
 use Rattle.fsfs_turn.specs.Stands.{OwnFilesLast}
 use Rattle.fsfs_disk.specs.Seen.{DiskSeen, IsLater}
@@ -23,7 +23,7 @@ use Rattle.fsfs_pass.specs.declared.seats.seat_view.SeatView.{SeatView}
 use Rattle.fsfs_pass.specs.LockWords.{lock_word}
 use Rattle.fsfs_pass.specs.Seats.{all_parts, view_of, is_left, as_before, IsSitting}
 use Rattle.fsfs_pass.specs.Kinship.{branches, Kinship}
-use Rattle.fsfs_pass.specs.Causes.{Causes}
+use Rattle.fsfs_pass.specs.Causes.{Causes, Doubts}
 use Rattle.fsfs_pass.specs.Met.{HasMet}
 
 -- seat j is the pass of that number; images are spoken of from the opening on, which the first seat's view tells
@@ -46,12 +46,12 @@ pub record Knew (first : SeatView) (w : World) (now : Trace) (v : SeatView) (b :
   pub line : Begins v.seen b.seen
   pub met : HasMet first.layout w now (as_before v b)
 
--- The same by how far the seat is. One that was split off doesn't know its number yet, but that of the one from which it was.
+-- The same by how far the seat is. One that has left holds no lock. One that was split off doesn't know its number yet, but that of the one from which it was.
 abbrev pub Placed : SeatView → World → Trace → ℕ → SeatView → Stage → Type 0
 Placed first w now j v New = Seated first w now j (record v { number = j }) × (v.number < j)
 Placed first w now j v Sitting = Seated first w now j v
 Placed first w now j v (Joining a b) = Seated first w now j v × Knew first w now v a × Knew first w now v b
-Placed first w now j v Left = (x : Pass) × (slice_get w.passes j ≡ Some x)
+Placed first w now j v Left = (x : Pass) × (slice_get w.passes j ≡ Some x) × (held_by j w.lock ≡ None)
 
 -- a pass that was joined into another: its seat has left, so it does nothing any more, and these are all its own revisions
 pub record IsJoined (views : List SeatView) (w : World) (x : ℕ × List ℕ) : Type 0 where
@@ -82,6 +82,7 @@ pub record Store (first : SeatView) (views : List SeatView) (lock young : ℕ) (
   pub known : IsSeenBySome views (length world.history)
   pub lock_is : lock ≡ lock_word world.lock
   pub causes : Causes views lock
+  pub doubts : Doubts views (stuck_with world.lock)
   -- each seat is a pass, and no other is there
   pub seats : (j : ℕ) (v : SeatView) → get_elem? views j ≡ some v → Placed first world t j v v.kin.stage
   pub no_more : (j : ℕ) → length views ≤ j → slice_get world.passes j ≡ None

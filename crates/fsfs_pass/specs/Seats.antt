@@ -1,5 +1,5 @@
 -- What a seat at the table knows, as what a pass knows.
-use Rattle.std.specs.Prelude.{◌≡◌, ◌+◌, ◌-◌, ◌/◌, ◌^◌, ◌++◌, ℕ, List, [], ◌∷◌, length, nat_le, Bool, true, false, Option, Some, None, if◌then◌else◌}
+use Rattle.std.specs.Prelude.{◌≡◌, ◌+◌, ◌-◌, ◌/◌, ◌^◌, ◌++◌, ◌||◌, ℕ, List, [], ◌∷◌, length, nat_le, Bool, true, false, Option, Some, None, if◌then◌else◌}
 use mathlib.Core.Option.{some}
 use lib.ListN.{get_elem?}
 use Rattle.std.specs.FinMap.{empty}
@@ -10,7 +10,7 @@ use Rattle.fsfs_machine.specs.declared.machine.Coming.{Coming}
 use Rattle.fsfs_machine.specs.declared.machine.Section.{Section}
 use Rattle.fsfs_machine.specs.declared.machine.Section.TheVariants.{Begun, CurrentFirm, Over}
 use Rattle.fsfs_machine.specs.Machine.{first_pass, reveals, with_next, joined}
-use Rattle.fsfs_turn.specs.Views.{View, is_held}
+use Rattle.fsfs_turn.specs.Views.{View, is_held, left_by}
 use Rattle.fsfs_layout.specs.declared.folders.Folders.TheVariants.{OneFolder}
 use Rattle.fsfs_layout.specs.declared.format.Format.TheVariants.{Four}
 use Rattle.fsfs_pass.specs.declared.seats.seat_view.Before.{Before}
@@ -21,7 +21,7 @@ use Rattle.fsfs_pass.specs.declared.seats.seat_view.Stage.TheVariants.{New, Sitt
 use Rattle.fsfs_pass.specs.declared.seats.seat_view.SeatView.{SeatView}
 
 abbrev pub view_of : SeatView → View
-view_of v = record { layout = v.layout; since = v.since; opened = v.opened; number = v.number; pass = v.pass; seen = v.seen; section = v.section; sure = v.sure; given = v.given }
+view_of v = record { layout = v.layout; since = v.since; opened = v.opened; number = v.number; pass = v.pass; seen = v.seen; section = v.section; sure = v.sure; left = v.left; given = v.given; full = v.full }
 
 -- it was told the youngest number, and has met this trace
 abbrev pub look_view : ℕ → Option Trace → SeatView → SeatView
@@ -37,7 +37,7 @@ stuck_view place v = record v { pass = record v.pass { stuck = Some place } }
 
 -- it is in no section any more
 abbrev pub outside_view : SeatView → SeatView
-outside_view v = record v { section = None; sure = false }
+outside_view v = record v { section = None; sure = false; left = left_by v.section v.left }
 
 -- its revision is in the history, and it has met this trace
 abbrev pub reveal_view : Coming → Option Trace → SeatView → SeatView
@@ -75,7 +75,7 @@ halved_view v = record v { kin = record v.kin { parts = v.kin.parts - v.kin.part
 
 -- the pass that is split off: it has seen as much, and did nothing itself
 abbrev pub split_pass : SeatView → SeatView
-split_pass v = record v { pass = record v.pass { mine = []; faults = [] }; section = None; sure = false; hand = Empty; failures = 0; bench_failures = 0; kin = record { stage = New; parts = v.kin.parts / 2; joined = [] } }
+split_pass v = record v { pass = record v.pass { mine = []; faults = [] }; section = None; sure = false; left = None; hand = Empty; failures = 0; bench_failures = 0; kin = record { stage = New; parts = v.kin.parts / 2; joined = [] } }
 
 -- it was told its number, and has met this trace
 abbrev pub numbered_view : ℕ → Option Trace → SeatView → SeatView
@@ -99,12 +99,19 @@ later_met v z = if nat_le (last_of z) (last_of v) then v.met else z.met
 abbrev pub joined_with : SeatView → List (ℕ × List ℕ)
 joined_with z = (z.number, z.pass.mine) ∷ z.kin.joined
 
+-- of what two left in doubt that of the first, where it left something so
+abbrev pub either_left : Option Coming → Option Coming → Option Coming
+either_left (Some x) left = Some x
+either_left None left = left
+
 -- the first pass knows what both knew, and has met this trace
 abbrev pub joined_view : Option Trace → SeatView → SeatView → SeatView
 joined_view met v z = record v {
   pass = joined z.pass v.pass;
   seen = longer v z;
+  left = either_left v.left z.left;
   given = v.given ++ z.given;
+  full = v.full || z.full;
   met = met;
   failures = v.failures + z.failures;
   bench_failures = v.bench_failures + z.bench_failures;
@@ -136,7 +143,9 @@ left_view = record {
   seen = [];
   section = None;
   sure = false;
+  left = None;
   given = [];
+  full = false;
   told = false;
   hand = Empty;
   met = None;

@@ -103,6 +103,8 @@ pub record IsMet (v : SeatView) (t : Trace) : Type 0 where
   pub added : v.kin.parts ≡ all_parts → (r : ℕ) → v.opened ≤ r → r < length world.history → IsIn r (all_own v)
   -- nor is a revision in doubt, or the lock stuck, but by a fault of one of these
   pub calm : v.kin.parts ≡ all_parts → v.section ≡ None → are_harmless v.pass.faults ≡ true → (doubt world.lock ≡ None) × (v.pass.stuck ≡ None)
+  -- and in no section the revision in doubt is the one that it left so
+  pub left : v.kin.parts ≡ all_parts → v.section ≡ None → doubt world.lock ≡ v.left
   pub safe : Safe v.layout v.since t v.opened world.floor world.history (doubt world.lock)
   pub own : OwnFilesLast v.layout v.since (Some t)
 

@@ -120,6 +120,7 @@ module _ (name : TxnName) (root : NodeRev) (held : Option Files) (v u : View) (h
     number = ap {A = View} (λ z. z.number) h.is;
     layout = ap {A = View} (λ z. z.layout) h.is;
     since = ap {A = View} (λ z. z.since) h.is;
+    left = ap {A = View} (λ z. z.left) h.is;
     opened = ap {A = View} (λ z. z.opened) h.is;
     mine = ap {A = View} (λ z. z.pass.mine) h.is;
     least = h.least;
@@ -127,6 +128,7 @@ module _ (name : TxnName) (root : NodeRev) (held : Option Files) (v u : View) (h
     more = name.number.number ∷ [];
     given = ap {A = View} (λ z. z.given) h.is;
     still = λ stuck. ap {A = View} (λ z. is_some z.pass.stuck) h.is ∙ stuck;
+    full = λ full. ap {A = View} (λ z. z.full) h.is ∙ full;
     outside = ap {A = View} (λ z. z.section) h.is;
     doubtless = h.doubtless;
     steps = h.steps;

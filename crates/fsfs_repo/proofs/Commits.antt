@@ -1,5 +1,5 @@
 -- What the commit of a pass comes to.
-use Rattle.std.proofs.Common.{◌≡◌, ◌<◌, ◌≤◌, ℕ, List, Bool, false, refl, sym, subst, ◌∙◌, arith}
+use Rattle.std.proofs.Common.{◌≡◌, ◌<◌, ◌≤◌, ℕ, List, Bool, false, inl, refl, sym, subst, ◌∙◌, arith}
 use Rattle.std.proofs.lemmas.Result.{IfOk-weaker, IfErr-weaker}
 use Rattle.std.specs.Prelude.{Option, None, Result, Ok, Err, IfOk, IfErr, is_some}
 use Rattle.std.specs.FinMap.{get}
@@ -23,7 +23,7 @@ use Rattle.fsfs_begin.specs.Purged.{Purges, HasNotPurged}
 use Rattle.fsfs_begin.specs.declared.purge_fault.PurgeFault.{PurgeFault}
 use Rattle.fsfs_begin.specs.declared.purge_fault.PurgeFault.TheVariants as purges
 use Rattle.fsfs_commit.specs.Works.{CanCommit}
-use Rattle.fsfs_commit.specs.Replies.{Cause, Committed, Moved, Refused, RoseIfDisk, UnlessDoubt}
+use Rattle.fsfs_commit.specs.Replies.{Cause, Committed, FaultLeft, Moved, Refused, RoseIfDisk, UnlessDoubt, Wrote}
 use Rattle.fsfs_commit.specs.declared.committing.CommitFault.{CommitFault}
 use Rattle.fsfs_commit.specs.declared.committing.CommitFault.TheVariants as faults
 use Rattle.fsfs_commit.proofs.Turning.{none_more, committed_as}
@@ -39,7 +39,7 @@ use Rattle.fsfs_commit.specs.declared.transaction.txn_draft.Left.TheVariants.{Tx
 use Rattle.fsfs_repo.specs.declared.txns.answers.CommitAnswer.{CommitAnswer}
 use Rattle.fsfs_repo.specs.declared.txns.answers.CommitAnswer.TheVariants as answers
 use Rattle.fsfs_repo.specs.Txns.Commits.{Ends, IsDropped, IsNoMore, Meets}
-use Rattle.fsfs_repo.specs.Txns.Fates.{Fated, IfStopped, UnlessDoubtful, of_fault, of_refusal}
+use Rattle.fsfs_repo.specs.Txns.Fates.{Fated, FateLeft, IfStopped, UnlessDoubtful, of_fault, of_refusal}
 
 -- ---- the purge
 
@@ -67,7 +67,7 @@ can_commit v name base settled x p is given dated = record {
 
 pub unmoved : (v : View) → Moved v v
 unmoved v = record {
-  drifted = record { number = refl; layout = refl; since = refl; opened = refl; mine = refl; least = omega arith; given = refl; still = λ stuck. stuck; grows = none_more v.seen v.seen refl; course = End v };
+  drifted = record { number = refl; layout = refl; since = refl; opened = refl; mine = refl; least = omega arith; given = refl; still = λ stuck. stuck; full = λ full. full; grows = none_more v.seen v.seen refl; course = End v };
   section = refl;
 }
 
@@ -118,6 +118,24 @@ certain_so (faults.Stuck at) P p = p
 certain_so (faults.Refused refusal) P p = refused_certain refusal P p
 certain_so (faults.DiskFault call) P p = p
 
+-- ---- what is left in doubt
+
+refused_left : (refusal : CommitRefusal) (p : List (List ℕ × List ℕ)) (v : View) (x : Txn) (u : View) → u.left ≡ v.left → FateLeft (of_refusal refusal) p v x u
+refused_left (refusals.Clash head path) p v x u same = same
+refused_left refusals.Spent p v x u same = same
+refused_left refusals.Memory p v x u same = same
+refused_left refusals.DiskFault p v x u same = inl same
+refused_left refusals.BenchFault p v x u same = same
+refused_left (refusals.Wrong wrong) p v x u same = same
+refused_left (refusals.PastLimit limit) p v x u same = same
+refused_left refusals.Lacking p v x u same = same
+
+pub left_by_fate : (fault : CommitFault CommitRefusal) (p : List (List ℕ × List ℕ)) (v : View) (x : Txn) (u : View) → FaultLeft fault (Wrote p v u x) v u → FateLeft (of_fault fault) p v x u
+left_by_fate faults.RevsFull p v x u same = same
+left_by_fate (faults.Stuck at) p v x u same = same
+left_by_fate (faults.Refused refusal) p v x u same = refused_left refusal p v x u same
+left_by_fate (faults.DiskFault call) p v x u w = w
+
 -- ---- the counts
 
 refused_stops : (refusal : CommitRefusal) (P : Type 0) → (IsDiskFault refusal → P) → IfStopped (of_refusal refusal) P
@@ -150,20 +168,20 @@ module _ (K : View → Type 0) (M : View → Txn → Type 0) (v : View) (x : Txn
   added_so p q r same w = IfOk-weaker r _ _ (λ rev a. (a.0, a.1, a.2, committed_as rev p q v a.0 x a.1 same a.4)) w
 
   -- of what is left of the draft
-  pub left_so : {X : Type 0} (N : View → Txn → Type 0) (r : Result X (CommitFault CommitRefusal)) → ((u : View) (y : Txn) → M u y → N u y)
-      → IfErr r (λ fault. (u : View) × (y : Txn) × K u × M u y × Refused Refuses fault v u x y) → IfErr r (λ fault. (u : View) × (y : Txn) × K u × Refused Refuses fault v u x y × N u y)
-  left_so N r f w = IfErr-weaker r _ _ (λ fault a. (a.0, a.1, a.2, a.4, f a.0 a.1 a.3)) w
+  pub left_so : {X : Type 0} (p q : List (List ℕ × List ℕ)) (N : View → Txn → Type 0) (r : Result X (CommitFault CommitRefusal)) → q ≡ p → ((u : View) (y : Txn) → M u y → N u y)
+      → IfErr r (λ fault. (u : View) × (y : Txn) × K u × M u y × Refused Refuses q fault v u x y) → IfErr r (λ fault. (u : View) × (y : Txn) × K u × Refused Refuses p fault v u x y × N u y)
+  left_so p q N r same f w = IfErr-weaker r _ _ (λ fault a. (a.0, a.1, a.2, subst (λ z. Refused Refuses z fault v a.0 x a.1) same a.4, f a.0 a.1 a.3)) w
 
   -- what is known behind it, whatever it answers: the pass is in no section, and knows the name to be given still
-  pub known_then : (p : List (List ℕ × List ℕ)) (n : ℕ) (r : Result ℕ (CommitFault CommitRefusal)) → v.section ≡ None → IsIn x.name v.given → x.name ≡ n
-      → IfOk r (λ rev. (u : View) × (y : Txn) × K u × M u y × Committed rev p v u x y) → IfErr r (λ fault. (u : View) × (y : Txn) × K u × M u y × Refused Refuses fault v u x y)
+  pub known_then : (p q : List (List ℕ × List ℕ)) (n : ℕ) (r : Result ℕ (CommitFault CommitRefusal)) → v.section ≡ None → IsIn x.name v.given → x.name ≡ n
+      → IfOk r (λ rev. (u : View) × (y : Txn) × K u × M u y × Committed rev p v u x y) → IfErr r (λ fault. (u : View) × (y : Txn) × K u × M u y × Refused Refuses q fault v u x y)
       → (u : View) × K u × (u.section ≡ None) × IsIn n u.given
-  known_then p n (Ok rev) none given named ok err = (ok.0, ok.2, ok.4.outside, given_still v ok.0 x.name n ok.4.given given named)
-  known_then p n (Err fault) none given named ok err = (err.0, err.2, err.4.moved.section ∙ none, given_still v err.0 x.name n err.4.moved.drifted.given given named)
+  known_then p q n (Ok rev) none given named ok err = (ok.0, ok.2, ok.4.outside, given_still v ok.0 x.name n ok.4.given given named)
+  known_then p q n (Err fault) none given named ok err = (err.0, err.2, err.4.moved.section ∙ none, given_still v err.0 x.name n err.4.moved.drifted.given given named)
 
 pub meets_so : {X : Type 0} (knows : View → Type 0) (back : List Recorded → Txn → X → Type 0) (micros : ℕ) (old dated : List (List ℕ × List ℕ)) (v : View) (x : Txn) (answer : CommitAnswer X)
     → IsDatedAt micros old dated → Ends knows back dated v x answer → Meets knows back micros old v x answer
 meets_so knows back micros old dated v x (answers.Committed rev purged) is ends = (dated, is, ends)
 meets_so knows back micros old dated v x (answers.Barred bar txn) is ends = ends
-meets_so knows back micros old dated v x (answers.DiskFault at) is ends = ends
+meets_so knows back micros old dated v x (answers.DiskFault at) is ends = (dated, is, ends)
 meets_so knows back micros old dated v x answers.BenchFault is ends = ends

@@ -16,6 +16,7 @@ survives layout young stuck (Some t) v known =
     record {
       doubt = l.doubt;
       follows = l.follows;
+      left = l.left;
       moments = l.moments;
       own = known.2;
       whole = λ m image r x at. (seen_is_whole layout young stuck t v known.0 m image).0 r x at;

@@ -1,5 +1,5 @@
 -- A state of the machine says what the images of its disk stand for.
-use Rattle.std.proofs.Common.{◌≡◌, ◌<◌, ◌≤◌, ◌++◌, ℕ, List, [], length, ⊎_elim, refl, sym, ap, subst, ◌∙◌, arith, drop}
+use Rattle.std.proofs.Common.{◌≡◌, ◌<◌, ◌≤◌, ◌++◌, ℕ, List, [], length, true, ⊎_elim, refl, sym, ap, subst, ◌∙◌, arith, drop}
 use Rattle.std.specs.Prelude.{Option, Some, None, IfSome, slice_get}
 use Rattle.std.proofs.lemmas.Option.{slice_get_within}
 use Rattle.fsfs_base.specs.Files.{Files}
@@ -7,13 +7,22 @@ use Rattle.fsfs_stands.specs.Files.{StandsFor}
 use Rattle.fsfs_disk.specs.Trace.{Trace}
 use Rattle.fsfs_disk.specs.Trace as real
 use Rattle.fsfs_disk.proofs.CrashLemmas.{image_now}
-use Rattle.fsfs_images.proofs.Showing.{image_read}
+use Rattle.std.specs.FinMap.{get}
+use Rattle.fsfs_begin.specs.Steps.{LeavesNoName}
+use Rattle.fsfs_layout.specs.FileNames.{only_name}
+use Rattle.fsfs_layout.specs.Small.{IsBase36Line}
+use Rattle.fsfs_layout.specs.declared.only_file.OnlyFile.TheVariants.{TxnCurrent}
+use Rattle.fsfs_machine.specs.declared.contents.Contents.TheVariants.{Number}
+use Rattle.fsfs_machine.specs.declared.contents.FileName.TheVariants.{Counter}
+use Rattle.fsfs_machine.specs.Disk.{found}
+use Rattle.fsfs_images.specs.RealNames.{machine_name}
+use Rattle.fsfs_images.proofs.Showing.{image_read, now_read}
 use Rattle.fsfs_machine.specs.declared.machine.Recorded.{Recorded}
 use Rattle.fsfs_machine.specs.declared.machine.Coming.{Coming}
 use Rattle.fsfs_machine.specs.Machine.{World, stuck_place, recorded, revisions}
 use Rattle.fsfs_machine.specs.Kept.{Follows}
 use Rattle.fsfs_machine.proofs.Growing.{got_before}
-use Rattle.fsfs_turn.specs.Found.{get_taken, seen_within}
+use Rattle.fsfs_turn.specs.Found.{at_found, get_taken, seen_within, text_there}
 use Rattle.fsfs_turn.specs.Past.{doubt, IsPart, WasLeft}
 use Rattle.fsfs_turn.specs.Standing.{no_others, IsStore}
 use Rattle.fsfs_turn.specs.Stands.{HasOwnFiles}
@@ -66,6 +75,12 @@ module _ (v : SeatView) (t : Trace) (met : IsMet v t) where
   all_now : (m : Files) → real.IsImage t.first t.operations m → HasPart (length w.history) m
   all_now m i = has_past (length w.history) m (left_now m i) (met.own m (image_now v.since.operations t.first t.operations m i)).0
 
+  no_name : v.full ≡ true → LeavesNoName (real.files_now t)
+  no_name full =
+      let last = sees.names.full full in
+      let at = at_found Counter (get (real.files_now t) (machine_name v.layout Counter)) (found w.disk Counter) (Number last.0) last.1 (now_read v.layout w.floor no_others t.first t.operations w.disk store.trace Counter tt) in
+      record { number = last.0; line = text_there (real.files_now t) (only_name TxnCurrent) at.0 IsBase36Line last.0 at.1 at.2; last = last.2 }
+
   pub leaves : Leaves v t
   leaves = record {
     history = w.history;
@@ -84,9 +99,11 @@ module _ (v : SeatView) (t : Trace) (met : IsMet v t) where
         let g = all_now m i in
         let n = g.3.names in
         record { text = n.text; there = n.there; number = n.number; line = n.line; from = omega (arith, n.last, g.2, seen_within w (view_of v) sees) };
+    full = no_name;
     once = met.apart;
     all = met.all;
     added = met.added;
+    left = met.left;
     calm = met.calm;
   }
 

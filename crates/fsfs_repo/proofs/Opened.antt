@@ -33,14 +33,14 @@ if_ok_map P Q (Err e) f p = tt
 
 -- where the disk tells, the seat's view of what is known
 abbrev seat_of : Trace → View → SeatView
-seat_of t v = record { layout = v.layout; since = v.since; opened = v.opened; number = v.number; pass = v.pass; seen = v.seen; section = v.section; sure = false; given = v.given; told = true; hand = Empty; met = Some t; failures = 0; bench_failures = 0; kin = alone }
+seat_of t v = record { layout = v.layout; since = v.since; opened = v.opened; number = v.number; pass = v.pass; seen = v.seen; section = v.section; sure = false; left = v.left; given = v.given; full = v.full; told = true; hand = Empty; met = Some t; failures = 0; bench_failures = 0; kin = alone }
 
 abbrev untold : Layout → SeatView
-untold layout = record { layout = layout; since = record { operations = 0; files = empty }; opened = 0; number = 0; pass = first_pass 0 0; seen = []; section = None; sure = false; given = []; told = false; hand = Empty; met = None; failures = 0; bench_failures = 0; kin = alone }
+untold layout = record { layout = layout; since = record { operations = 0; files = empty }; opened = 0; number = 0; pass = first_pass 0 0; seen = []; section = None; sure = false; left = None; given = []; full = false; told = false; hand = Empty; met = None; failures = 0; bench_failures = 0; kin = alone }
 
 -- who isn't sure knows no more
 unsure : (layout : Layout) (young : ℕ) (t : Trace) (v : View) → Knows layout young None (Some t) v → Knows layout young None (Some t) (record v { sure = false })
-unsure layout young t v k = (k.0, k.1, (let s = k.2 in record { pass = s.pass; seen = s.seen; section = s.section; up = s.up; sure = λ e. absurd cc; whole = s.whole; given = s.given; opened = s.opened; shown = s.shown }), k.3, k.4, k.5, k.6)
+unsure layout young t v k = (k.0, k.1, (let s = k.2 in record { pass = s.pass; seen = s.seen; section = s.section; up = s.up; sure = λ e. absurd cc; whole = s.whole; given = s.given; opened = s.opened; shown = s.shown; names = s.names }), k.3, k.4, k.5, k.6, k.7)
 
 -- a view of the first seat, of a store that was just opened
 abbrev IsBegun : Layout → ℕ → Option Trace → Option Trace → SeatView → Type 0
@@ -65,7 +65,7 @@ begun layout young stuck (Some t) now firm stands known =
       (
         subst (λ o. IsFirst layout young o (seat_of new k.0)) (sym firm)
             (refl, refl, refl, k.2, refl, refl, unsure layout young new k.0 (subst (λ o. Knows layout young o (Some new) k.0) unstuck all.0), all.1.all, all.2, refl, opened, mine, faults, found, refl),
-        record { told = refl; outside = k.2; since = k.5; opened = opened; stands = subst (λ l. StandsFor (files_now t) l) (sym k.4) stands.1; bytes = k.8; mine = mine; faults = faults; stuck = found },
+        record { told = refl; outside = k.2; since = k.5; opened = opened; stands = subst (λ l. StandsFor (files_now t) l) (sym k.4) stands.1; bytes = k.8; mine = mine; faults = faults; stuck = found; left = k.9 },
       ),
     )
 
@@ -88,7 +88,7 @@ first_laid layout young (Some t) v k = k.6.3
 
 -- behind a look the pass has seen what it had
 sees_on : (t : Trace) (young : ℕ) (met : Option Trace) (v : SeatView) → SeesAll t v → SeesAll t (look_view young met v)
-sees_on t young met v s = record { told = s.told; outside = s.outside; since = s.since; opened = s.opened; stands = s.stands; bytes = s.bytes; mine = s.mine; faults = s.faults; stuck = s.stuck }
+sees_on t young met v s = record { told = s.told; outside = s.outside; since = s.since; opened = s.opened; stands = s.stands; bytes = s.bytes; mine = s.mine; faults = s.faults; stuck = s.stuck; left = s.left }
 
 pub all_seen : {X E : Type 0} (r : Result X E) (me : X → SeatView) (young : X → ℕ) (before was : Option Trace) (v : SeatView) → was ≡ before → SeesAllOf was v → IfOk r (λ x. me x ≡ look_view (young x) (me x).met v) → IfSome before (λ t. IfOk r (λ x. SeesAll t (me x)))
 all_seen r me young None was v same sees is = tt

@@ -33,6 +33,7 @@ use Rattle.fsfs_turn.specs.Bytes.{BytesShow}
 use Rattle.fsfs_turn.specs.Views.{View, Sees, with_txns, rev_name, IsTxnOver, MayAdopt, coming_of, adopting_view, Adopted}
 use Rattle.fsfs_turn.specs.Past.{doubt_in, doubt, IsPart, HasCounter, Safe}
 use Rattle.fsfs_turn.specs.Standing.{no_others, IsStore}
+use Rattle.fsfs_turn.proofs.Names.{found_apart, names_stay, none_drawn}
 use Rattle.fsfs_turn.proofs.TurnEnds.{section_leaves, IsAfter, Comes}
 use Rattle.fsfs_turn.proofs.Stepping.{kept_bare, at_itself, held_here, lock_is}
 use Rattle.fsfs_turn.proofs.Due.{junk, le, torn_put}
@@ -128,11 +129,13 @@ module _ (layout : Layout) (young : ℕ) (stuck : Option DiskPlace) (old : Trace
     };
     all = all;
     safe = safe_then;
-    leaves = section_leaves w (after_it went) v.number (learns (length w.history) (Commit PutRev) went) Begun (either went (RevPut x) Over) went refl refl refl refl lock refl refl;
+    leaves = section_leaves w (after_it went) v.number (learns (length w.history) (Commit PutRev) went) Begun (either went (RevPut x) Over) went refl refl refl refl lock refl refl
+        (λ last. (last.0, found_apart (Put (Rev (length w.history)) (file_of (recorded x))) went w.disk refl ∙ last.1, last.2));
     layout_is = refl;
     since_is = refl;
     opened_is = refl;
     number_is = refl;
+    left_is = refl;
   }
     where
       now : IsStore layout young stuck new (after_it went)
@@ -157,6 +160,8 @@ module _ (layout : Layout) (young : ℕ) (stuck : Option DiskPlace) (old : Trace
         given = sees.given;
         opened = sees.opened;
         shown = sees.shown;
+        names = names_stay v.full v.section (Some (either went (RevPut x) Over)) w.disk (disk_after went (Put (Rev (length w.history)) (file_of (recorded x))) w.disk) (none_drawn went (RevPut x) Over refl refl)
+            (found_apart (Put (Rev (length w.history)) (file_of (recorded x))) went w.disk refl) sees.names;
       }
 
   safe_here : Safe layout v.since old v.opened w.floor w.history None

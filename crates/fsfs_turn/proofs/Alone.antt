@@ -346,7 +346,7 @@ module _ (layout : Layout) (young : ℕ) (stuck : Option DiskPlace) (old new : O
     there = c.there;
     read = c.read;
     turned = λ few. let w = c.turned few in (w.0, w.1, counted w.1 w.0 w.2 w.4, w.3, w.4);
-    full = λ many. same_alone (c.full many);
+    full = λ many. leaves (record v { full = true }) (c.full many) refl refl refl refl refl refl (λ s. s);
   }
     where
       counted : (went : Went) (u : View) → Knows layout young stuck new u → CounterRead base c.number went v u → KnowsAlone layout young stuck new u

@@ -103,7 +103,7 @@ module _ (first : Files) (labels : List Label) (before : List Operation) (date :
   world = created ((date_name, date) ∷ []) first_bytes
 
   view : View
-  view = record { layout = new.layout; since = opened_at first before; opened = 1; number = 0; pass = first_pass 1 0; seen = new_revision date ∷ []; section = None; sure = false; given = [] }
+  view = record { layout = new.layout; since = opened_at first before; opened = 1; number = 0; pass = first_pass 1 0; seen = new_revision date ∷ []; section = None; sure = false; left = None; given = []; full = false }
 
   store : IsStore new.layout 0 None (record { first = first; labels = labels; operations = Done real.FirmNames ∷ before }) world
   unfolding world disk
@@ -111,7 +111,7 @@ module _ (first : Files) (labels : List Label) (before : List Operation) (date :
 
   sees : Sees world view
   unfolding world view
-  sees = record { pass = refl; seen = refl; section = refl; up = refl; sure = λ e. absurd cc; whole = λ z e. absurd cc; given = λ k i. absurd i; opened = omega arith; shown = all_show }
+  sees = record { pass = refl; seen = refl; section = refl; up = refl; sure = λ e. absurd cc; whole = λ z e. absurd cc; given = λ k i. absurd i; opened = omega arith; shown = all_show; names = record { full = λ e. absurd cc; drawing = λ z e. absurd cc } }
 
   safe : Safe new.layout (opened_at first before) (record { first = first; labels = labels; operations = Done real.FirmNames ∷ before }) 1 0 (new_revision date ∷ []) None
   unfolding disk
@@ -139,7 +139,7 @@ module _ (first : Files) (labels : List Label) (before : List Operation) (date :
 
   pub new_is_known : (v : View) × KnowsAlone new.layout 0 None (Some (record { first = first; labels = labels; operations = Done real.FirmNames ∷ before })) v × (v.section ≡ None) × (v.pass ≡ first_pass 1 0) × (v.seen ≡ new_revision date ∷ []) × (v.since ≡ opened_at first before)
   unfolding view world
-  new_is_known = (view, ((world, store, sees, refl, refl, safe, refl), record { all = refl; own = refl; free = λ harmless. refl; sound = λ harmless. refl; found = λ harmless. refl }, own_from_opening new.layout first before own), refl, refl, refl, refl)
+  new_is_known = (view, ((world, store, sees, refl, refl, safe, refl, refl), record { all = refl; own = refl; free = λ harmless. refl; sound = λ harmless. refl; found = λ harmless. refl }, own_from_opening new.layout first before own), refl, refl, refl, refl)
 
 pub new_store_is_known : NewStoreIsKnown
 new_store_is_known first labels before date new = new_is_known first labels before date new

@@ -13,6 +13,7 @@ use Rattle.fsfs_machine.specs.declared.contents.Contents.TheVariants.{Number}
 use Rattle.fsfs_base.specs.declared.places.place.DiskPlace.{DiskPlace}
 use Rattle.fsfs_base.specs.declared.places.place.DiskPlace.TheVariants.{Begin}
 use Rattle.fsfs_base.specs.declared.places.place.BeginPlace.TheVariants as begin
+use Rattle.fsfs_machine.specs.declared.machine.Drawn.{Drawn}
 use Rattle.fsfs_machine.specs.declared.machine.Section.TheVariants.{Begun, CountRead, Over}
 use Rattle.fsfs_machine.specs.declared.machine.Lock.TheVariants.{Held}
 use Rattle.fsfs_machine.specs.declared.machine.Went.{Went}
@@ -28,9 +29,10 @@ use Rattle.fsfs_images.specs.RealNames.{machine_name}
 use Rattle.fsfs_images.proofs.Showing.{now_read}
 use Rattle.fsfs_turn.specs.Bytes.{BytesShow}
 use Rattle.fsfs_turn.specs.Past.{doubt_in, doubt, Safe}
-use Rattle.fsfs_turn.specs.Views.{View, Sees, with_txns, Answers}
+use Rattle.fsfs_turn.specs.Views.{View, KnowsNames, Sees, with_txns, Answers}
 use Rattle.fsfs_turn.specs.Learning.{drawn_of, CounterRead, ReadsCounter}
 use Rattle.fsfs_turn.specs.Standing.{no_others, IsStore}
+use Rattle.fsfs_turn.proofs.Names.{names_full, names_stay}
 use Rattle.fsfs_turn.proofs.TurnEnds.{section_leaves, IsAfter, Comes}
 use Rattle.fsfs_turn.proofs.Stepping.{kept_bare, at_itself, held_here, lock_is, take_drop}
 use Rattle.fsfs_turn.proofs.Due.{at_found}
@@ -109,13 +111,20 @@ module _ (layout : Layout) (young : ℕ) (stuck : Option DiskPlace) (t : Trace) 
     };
     all = refl;
     safe = safe_then;
-    leaves = section_leaves w (world went) v.number (learns (length w.history) (Begin begin.Read) went) Begun (either went (CountRead (drawn_of base counter.0)) Over) went refl refl refl refl lock refl refl;
+    leaves = section_leaves w (world went) v.number (learns (length w.history) (Begin begin.Read) went) Begun (either went (CountRead (drawn_of base counter.0)) Over) went refl refl refl refl lock refl refl (λ last. last);
     layout_is = refl;
     since_is = refl;
     opened_is = refl;
     number_is = refl;
+    left_is = refl;
   }
     where
+      names_then : (how : Went) → KnowsNames v.full (Some (either how (CountRead (drawn_of base counter.0)) Over)) w.disk
+      names_then Fine = record { full = sees.names.full; drawing = λ y e. let same : drawn_of base counter.0 ≡ y = cc in subst (λ (z : Drawn). (found w.disk Counter ≡ Some (Number z.name)) × (z.name < last_name)) same (counter.1, few) }
+      names_then Before = names_stay v.full v.section (Some Over) w.disk w.disk refl refl sees.names
+      names_then After = names_stay v.full v.section (Some Over) w.disk w.disk refl refl sees.names
+      names_then (Torn any) = names_stay v.full v.section (Some Over) w.disk w.disk refl refl sees.names
+
       kept : Kept (with_txns [] (world went))
       kept = kept_bare (world went) (step_keeps (with_txns [] w) (step.Draw v.number base went) (did (world went) (answer went)) (happens few went) store.kept).kept
 
@@ -130,6 +139,7 @@ module _ (layout : Layout) (young : ℕ) (stuck : Option DiskPlace) (t : Trace) 
         given = sees.given;
         opened = sees.opened;
         shown = store.shown;
+        names = names_then went;
       }
 
       now : IsStore layout young stuck t (world went)
@@ -137,6 +147,21 @@ module _ (layout : Layout) (young : ℕ) (stuck : Option DiskPlace) (t : Trace) 
 
       safe_then : Safe layout v.since t v.opened w.floor w.history (doubt (Held v.number (either went (CountRead (drawn_of base counter.0)) Over)))
       safe_then = subst (λ d. Safe layout v.since t v.opened w.floor w.history d) (doubtless went) (subst (λ l. Safe layout v.since t v.opened w.floor w.history (doubt l)) lock safe)
+
+  -- the last number stands there, which the pass knows from then on
+  pub full_sees : last_name ≤ counter.0 → Sees w (record v { full = true })
+  full_sees many = record {
+    pass = sees.pass;
+    seen = sees.seen;
+    section = sees.section;
+    up = sees.up;
+    sure = sees.sure;
+    whole = sees.whole;
+    given = sees.given;
+    opened = sees.opened;
+    shown = sees.shown;
+    names = names_full v.section w.disk v.full (counter.0, counter.1, many) sees.names;
+  }
 
   pub counter_comes : {X E : Type 0} (told : Option Trace) → told ≡ Some t → counter.0 < last_name → (result : Result X E) → Comes layout young stuck told w v result (λ went u. CounterRead base counter.0 went v u)
   counter_comes told same few (Ok o) = (t, Fine, same, refl, counter_turns few Fine)
@@ -148,7 +173,7 @@ module _ (layout : Layout) (young : ℕ) (stuck : Option DiskPlace) (t : Trace) 
 
   -- what is read there is its line
   pub counter_reads : {E : Type 0} (knows : View → Type 0) (told : Option Trace) → told ≡ Some t → (name old new : List ℕ) → name ≡ only_name only.TxnCurrent → (result : Result (Option ℕ) E) → IfOk result (IsRead (file_at t name) 0 old new)
-      → (counter.0 < last_name → (u : View) × (went : Went) × knows u × Answers result went × CounterRead base counter.0 went v u) → knows v → ReadsCounter knows (option_map files_now told) base result old new v
+      → (counter.0 < last_name → (u : View) × (went : Went) × knows u × Answers result went × CounterRead base counter.0 went v u) → (last_name ≤ counter.0 → knows (record v { full = true })) → ReadsCounter knows (option_map files_now told) base result old new v
   counter_reads knows told same name old new named result read turned known = record {
     text = counter_file.0;
     number = counter.0;
@@ -158,7 +183,7 @@ module _ (layout : Layout) (young : ℕ) (stuck : Option DiskPlace) (t : Trace) 
     there = counter_file.1;
     read = read_it result read;
     turned = turned;
-    full = λ many. known;
+    full = known;
   }
     where
       file_is : file_at t name ≡ Some counter_file.0

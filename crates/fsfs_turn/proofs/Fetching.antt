@@ -73,6 +73,7 @@ module _ (layout : Layout) (young : ℕ) (stuck : Option DiskPlace) (t : Trace) 
     given = sees.given;
     opened = sees.opened;
     shown = store.shown;
+    names = sees.names;
   }
 
   now : (went : Went) → IsStore layout young stuck t (world went)
@@ -104,11 +105,12 @@ module _ (layout : Layout) (young : ℕ) (stuck : Option DiskPlace) (t : Trace) 
     turned = read_turn went;
     all = refl;
     safe = safe;
-    leaves = pass_leaves w (world went) v.number (learns (length w.history) Read went) refl refl refl refl refl refl;
+    leaves = pass_leaves w (world went) v.number (learns (length w.history) Read went) refl refl refl refl refl refl refl;
     layout_is = refl;
     since_is = refl;
     opened_is = refl;
     number_is = refl;
+    left_is = refl;
   }
 
   -- a range was read, or the size asked for

@@ -9,7 +9,7 @@ use Rattle.fsfs_machine.specs.declared.machine.Coming.{Coming}
 use Rattle.fsfs_base.specs.declared.places.place.DiskPlace.{DiskPlace}
 use Rattle.fsfs_machine.specs.declared.machine.Pass.{Pass}
 use Rattle.fsfs_machine.specs.declared.machine.Section.{Section}
-use Rattle.fsfs_machine.specs.declared.machine.Section.TheVariants.{Begun, CurrentFirm, Doubtful, Over}
+use Rattle.fsfs_machine.specs.declared.machine.Section.TheVariants.{Begun, CountRead, CountPut, CountRenamed, RevPut, PropsPut, RevFirm, CurrentPut, CurrentRenamed, CurrentFirm, Doubtful, Over}
 use Rattle.fsfs_machine.specs.declared.machine.Lock.{Lock}
 use Rattle.fsfs_machine.specs.declared.machine.Lock.TheVariants.{Free, Held, Stuck, Down, DownDoubtful}
 use Rattle.fsfs_machine.specs.declared.machine.Outcome.{Outcome}
@@ -22,11 +22,12 @@ use Rattle.fsfs_machine.proofs.Answering.{seen_of}
 use Rattle.fsfs_machine.proofs.Steps.{step_keeps}
 use Rattle.fsfs_machine.proofs.Whose.{length_at}
 use Rattle.fsfs_turn.specs.Bytes.{BytesShow, AllShow}
-use Rattle.fsfs_turn.specs.Views.{View, Turned, coming_at, is_held, Sees, with_txns, Looked, LockTaken, FoundStuck, outside, LockGiven, revealed_view, Revealed}
-use Rattle.fsfs_turn.specs.Past.{doubt, Safe}
+use Rattle.fsfs_turn.specs.Views.{View, Turned, coming_at, is_held, Sees, with_txns, Looked, LockTaken, FoundStuck, left_by, outside, LockGiven, revealed_view, Revealed}
+use Rattle.fsfs_turn.specs.Past.{doubt, stuck_with, Safe}
 pub use Rattle.fsfs_turn.specs.Found.{seen_within}
 use Rattle.fsfs_turn.specs.Standing.{IsStore, Knows}
 use Rattle.fsfs_turn.proofs.Moments.{begins_itself, quiet_doubt, safe_more, part_revealed}
+use Rattle.fsfs_turn.proofs.Names.{names_stay}
 use Rattle.fsfs_turn.proofs.Moves.{Spares, Moved, held_other, known_moved}
 use Rattle.fsfs_turn.proofs.TurnEnds.{at_other}
 use Rattle.fsfs_turn.proofs.Stepping.{kept_bare, at_itself, held_here, lock_is}
@@ -79,12 +80,12 @@ module _ (layout : Layout) (young : ℕ) (stuck : Option DiskPlace) (t : Trace) 
   abbrev now : List Pass → Lock → World
   now passes lock = record (with_txns [] w) { passes = passes; lock = lock }
 
-  abbrev knowing : Pass → Option Section → Bool → View
-  knowing pass section sure = record v { pass = pass; section = section; sure = sure }
+  abbrev knowing : Pass → Option Section → Bool → Option Coming → View
+  knowing pass section sure left = record v { pass = pass; section = section; sure = sure; left = left }
 
-  moved_by : (s : Step) (o : Outcome) (passes : List Pass) (lock : Lock) (pass : Pass) (section : Option Section) (sure : Bool) → Happens (with_txns [] w) s (did (now passes lock) o) → Sees (now passes lock) (knowing pass section sure)
-      → IfSome (coming lock) (λ x. BytesShow (with_next w.history x)) → Safe layout v.since t v.opened w.floor w.history (doubt lock) → Spares v.number w (now passes lock) → Moved layout young t w v (knowing pass section sure) lock
-  moved_by s o passes lock pass section sure happens seen next safe spares = record {
+  moved_by : (s : Step) (o : Outcome) (passes : List Pass) (lock : Lock) (pass : Pass) (section : Option Section) (sure : Bool) (left : Option Coming) → Happens (with_txns [] w) s (did (now passes lock) o) → Sees (now passes lock) (knowing pass section sure left)
+      → IfSome (coming lock) (λ x. BytesShow (with_next w.history x)) → Safe layout v.since t v.opened w.floor w.history (doubt lock) → Spares v.number w (now passes lock) → Moved layout young t w v (knowing pass section sure left) lock
+  moved_by s o passes lock pass section sure left happens seen next safe spares = record {
     world = now passes lock;
     store = record { trace = store.trace; whole = store.whole; kept = kept_by s o (now passes lock) happens; shown = store.shown; coming = next; young_is = store.young_is; stuck_is = refl };
     lock_is = refl;
@@ -99,11 +100,11 @@ module _ (layout : Layout) (young : ℕ) (stuck : Option DiskPlace) (t : Trace) 
 
   -- it changes what its pass knows
   pass_spares : (f : Pass → Pass) → Spares v.number w (now (at_place w.passes v.number f) w.lock)
-  pass_spares f = record { passes = λ q apart. at_other w.passes v.number q f apart; count = length_at w.passes v.number f; grows = begins_itself w.history; locks = λ q apart. refl; still = λ q s apart held. (refl, refl); floor = refl; given = λ k i. i }
+  pass_spares f = record { passes = λ q apart. at_other w.passes v.number q f apart; count = length_at w.passes v.number f; grows = begins_itself w.history; locks = λ q apart. refl; still = λ q s apart held. (refl, refl); floor = refl; given = λ k i. i; full = λ last. last; disk = λ q s apart held. refl }
 
   -- it moves the lock
   lock_spares : (lock : Lock) → ((q : ℕ) → (q ≡ v.number → ⊥) → held_by q lock ≡ held_by q w.lock) → Spares v.number w (now w.passes lock)
-  lock_spares lock locks = record { passes = λ q apart. refl; count = refl; grows = begins_itself w.history; locks = locks; still = λ q s apart held. (refl, refl); floor = refl; given = λ k i. i }
+  lock_spares lock locks = record { passes = λ q apart. refl; count = refl; grows = begins_itself w.history; locks = locks; still = λ q s apart held. (refl, refl); floor = refl; given = λ k i. i; full = λ last. last; disk = λ q s apart held. refl }
 
   -- ---- a look
 
@@ -124,6 +125,7 @@ module _ (layout : Layout) (young : ℕ) (stuck : Option DiskPlace) (t : Trace) 
     given = sees.given;
     opened = sees.opened;
     shown = sees.shown;
+    names = sees.names;
   }
 
   pub look_comes : Looked young v (looked_view young v) × Moved layout young t w v (looked_view young v) w.lock
@@ -134,7 +136,7 @@ module _ (layout : Layout) (young : ℕ) (stuck : Option DiskPlace) (t : Trace) 
       least = let up : w.young + 1 ≡ length w.history = store.kept.young sees.up in omega (arith, up, store.young_is, (seen_of (length w.history) w.floor w.passes v.number v.pass store.kept.seen sees.pass).least);
       seen = let up : w.young + 1 ≡ length w.history = store.kept.young sees.up in omega (arith, up, store.young_is, seen_within w v sees);
     },
-    moved_by (step.Look v.number) (outcome.Youngest w.young) (at_place w.passes v.number tells) w.lock (record v.pass { least = young }) v.section (is_held v.section) look_happens look_sees store.coming safe (pass_spares tells),
+    moved_by (step.Look v.number) (outcome.Youngest w.young) (at_place w.passes v.number tells) w.lock (record v.pass { least = young }) v.section (is_held v.section) v.left look_happens look_sees store.coming safe (pass_spares tells),
   )
 
   -- ---- the lock is taken, or found stuck
@@ -143,12 +145,12 @@ module _ (layout : Layout) (young : ℕ) (stuck : Option DiskPlace) (t : Trace) 
   taken_at lock is = sym (ap (λ b. cond b (taken (with_txns [] w) v.number w.lock) (barred (with_txns [] w))) there ∙ ap (λ l. taken (with_txns [] w) v.number l) is)
 
   take_sees : Sees (now w.passes (Held v.number Begun)) (locked_view v)
-  take_sees = record { pass = sees.pass; seen = sees.seen; section = held_here v.number Begun; up = refl; sure = λ e. absurd cc; whole = λ x e. absurd cc; given = sees.given; opened = sees.opened; shown = sees.shown }
+  take_sees = record { pass = sees.pass; seen = sees.seen; section = held_here v.number Begun; up = refl; sure = λ e. absurd cc; whole = λ x e. absurd cc; given = sees.given; opened = sees.opened; shown = sees.shown; names = names_stay v.full v.section (Some Begun) w.disk w.disk refl refl sees.names }
 
   pub take_comes : w.lock ≡ Free → LockTaken v (locked_view v) × Moved layout young t w v (locked_view v) (Held v.number Begun)
   take_comes free = (
     record { turned = turned_by (step.TakeLock v.number) outcome.Done (now w.passes (Held v.number Begun)) (locked_view v) (taken_at Free free) take_sees; is = refl },
-    moved_by (step.TakeLock v.number) outcome.Done w.passes (Held v.number Begun) v.pass (Some Begun) false (taken_at Free free) take_sees tt (safe_as Free free)
+    moved_by (step.TakeLock v.number) outcome.Done w.passes (Held v.number Begun) v.pass (Some Begun) false v.left (taken_at Free free) take_sees tt (safe_as Free free)
         (lock_spares (Held v.number Begun) (λ q apart. held_other v.number q Begun apart ∙ sym (ap (λ l. held_by q l) free))),
   )
 
@@ -156,12 +158,12 @@ module _ (layout : Layout) (young : ℕ) (stuck : Option DiskPlace) (t : Trace) 
   learns_of place x = record x { stuck = Some place }
 
   find_sees : (place : DiskPlace) → Sees (now (at_place w.passes v.number (learns_of place)) w.lock) (stuck_view place v)
-  find_sees place = record { pass = at_itself w.passes v.number (learns_of place) v.pass sees.pass; seen = sees.seen; section = sees.section; up = sees.up; sure = sees.sure; whole = sees.whole; given = sees.given; opened = sees.opened; shown = sees.shown }
+  find_sees place = record { pass = at_itself w.passes v.number (learns_of place) v.pass sees.pass; seen = sees.seen; section = sees.section; up = sees.up; sure = sees.sure; whole = sees.whole; given = sees.given; opened = sees.opened; shown = sees.shown; names = sees.names }
 
   pub find_comes : (place : DiskPlace) (x : Coming) → w.lock ≡ Stuck place x → FoundStuck place v (stuck_view place v) × Moved layout young t w v (stuck_view place v) w.lock
   find_comes place x is = (
     record { turned = turned_by (step.TakeLock v.number) (outcome.Stuck place) (now (at_place w.passes v.number (learns_of place)) w.lock) (stuck_view place v) (taken_at (Stuck place x) is) (find_sees place); is = refl },
-    moved_by (step.TakeLock v.number) (outcome.Stuck place) (at_place w.passes v.number (learns_of place)) w.lock (learns_of place v.pass) v.section v.sure (taken_at (Stuck place x) is) (find_sees place) store.coming safe (pass_spares (learns_of place)),
+    moved_by (step.TakeLock v.number) (outcome.Stuck place) (at_place w.passes v.number (learns_of place)) w.lock (learns_of place v.pass) v.section v.sure v.left (taken_at (Stuck place x) is) (find_sees place) store.coming safe (pass_spares (learns_of place)),
   )
 
   -- ---- it is given, or left stuck
@@ -174,7 +176,7 @@ module _ (layout : Layout) (young : ℕ) (stuck : Option DiskPlace) (t : Trace) 
   others_none s is q apart = ap (λ l. held_by q l) (held_in s is) ∙ held_other v.number q s apart
 
   outside_sees : (lock : Lock) → held_by v.number lock ≡ None → is_up lock ≡ true → Sees (now w.passes lock) (outside v)
-  outside_sees lock none up = record { pass = sees.pass; seen = sees.seen; section = none; up = up; sure = λ e. absurd cc; whole = λ x e. absurd cc; given = sees.given; opened = sees.opened; shown = sees.shown }
+  outside_sees lock none up = record { pass = sees.pass; seen = sees.seen; section = none; up = up; sure = λ e. absurd cc; whole = λ x e. absurd cc; given = sees.given; opened = sees.opened; shown = sees.shown; names = names_stay v.full v.section None w.disk w.disk refl refl sees.names }
 
   give_happens : (s : Section) → v.section ≡ Some s → is_quiet s ≡ true → did (now w.passes Free) outcome.Done ≡ inside (with_txns [] w) (let_go (with_txns [] w)) (held_by v.number w.lock)
   give_happens s is quiet = sym (ap (λ o. inside (with_txns [] w) (let_go (with_txns [] w)) o) (sees.section ∙ is) ∙ ap (λ b. cond b (did (now w.passes Free) outcome.Done) (barred (with_txns [] w))) quiet)
@@ -182,7 +184,7 @@ module _ (layout : Layout) (young : ℕ) (stuck : Option DiskPlace) (t : Trace) 
   pub give_comes : (s : Section) → v.section ≡ Some s → is_quiet s ≡ true → LockGiven (step.GiveLock v.number) v (outside v) × Moved layout young t w v (outside v) Free
   give_comes s is quiet = (
     record { turned = turned_by (step.GiveLock v.number) outcome.Done (now w.passes Free) (outside v) (give_happens s is quiet) (outside_sees Free refl refl); is = refl },
-    moved_by (step.GiveLock v.number) outcome.Done w.passes Free v.pass None false (give_happens s is quiet) (outside_sees Free refl refl) tt
+    moved_by (step.GiveLock v.number) outcome.Done w.passes Free v.pass None false (left_by v.section v.left) (give_happens s is quiet) (outside_sees Free refl refl) tt
         (subst (λ d. Safe layout v.since t v.opened w.floor w.history d) (quiet_doubt s quiet) (safe_as (Held v.number s) (held_in s is)))
         (lock_spares Free (λ q apart. sym (others_none s is q apart))),
   )
@@ -197,7 +199,7 @@ module _ (layout : Layout) (young : ℕ) (stuck : Option DiskPlace) (t : Trace) 
   pub stick_comes : (place : DiskPlace) (x : Coming) → v.section ≡ Some (Doubtful place x) → LockGiven (step.StickLock v.number) v (outside v) × Moved layout young t w v (outside v) (Stuck place x)
   stick_comes place x is = (
     record { turned = turned_by (step.StickLock v.number) outcome.Done (now w.passes (Stuck place x)) (outside v) (stick_happens place x is) (outside_sees (Stuck place x) refl refl); is = refl },
-    moved_by (step.StickLock v.number) outcome.Done w.passes (Stuck place x) v.pass None false (stick_happens place x is) (outside_sees (Stuck place x) refl refl) (next_shows (Doubtful place x) x is refl)
+    moved_by (step.StickLock v.number) outcome.Done w.passes (Stuck place x) v.pass None false (left_by v.section v.left) (stick_happens place x is) (outside_sees (Stuck place x) refl refl) (next_shows (Doubtful place x) x is refl)
         (safe_as (Held v.number (Doubtful place x)) (held_in (Doubtful place x) is))
         (lock_spares (Stuck place x) (λ q apart. sym (others_none (Doubtful place x) is q apart))),
   )
@@ -231,6 +233,7 @@ module _ (layout : Layout) (young : ℕ) (stuck : Option DiskPlace) (t : Trace) 
       given = sees.given;
       opened = let e : length (with_next w.history x) ≡ length w.history + 1 = grind (arith, length-append) in omega (arith, e, sees.opened);
       shown = subst (λ h. AllShow (with_next h x)) (sym all) all_show;
+      names = names_stay v.full v.section (Some Over) w.disk w.disk refl refl sees.names;
     }
 
     reveal_spares : Spares v.number w shown_on
@@ -242,6 +245,8 @@ module _ (layout : Layout) (young : ℕ) (stuck : Option DiskPlace) (t : Trace) 
       still = λ q s apart held. let none : held_by q w.lock ≡ None = others_none (CurrentFirm x) is q apart in absurd cc;
       floor = refl;
       given = λ k i. i;
+      full = λ last. last;
+      disk = λ q s apart held. refl;
     }
 
     pub reveal_comes : (rev : ℕ) → rev ≡ length v.seen → Revealed x v (revealed_view x v) × Moved layout rev t w v (revealed_view x v) (Held v.number Over)
@@ -263,9 +268,45 @@ module _ (layout : Layout) (young : ℕ) (stuck : Option DiskPlace) (t : Trace) 
 
 -- ---- of an owned store
 
-module _ (layout : Layout) (young : ℕ) (stuck : Option DiskPlace) (t : Trace) (w : World) (v : View) (store : IsStore layout young stuck t w) (sees : Sees w v) (layout_is : v.layout ≡ layout) (number_is : v.number ≡ 0) (safe : Safe layout v.since t v.opened w.floor w.history (doubt w.lock)) (alone : length w.passes ≡ 1) where
-  known_so : (youngest : ℕ) (at : Option DiskPlace) (u : View) (lock : Lock) (P : View → Type 0) → stuck_place lock ≡ at → P u × Moved layout youngest t w v u lock → (z : View) × Knows layout youngest at (Some t) z × P z
-  known_so youngest at u lock P at_is comes = (u, known_moved layout youngest at t w v u lock layout_is number_is alone at_is comes.1, comes.0)
+-- a section that may be left leaves no revision in doubt
+pub quiet_left : (s : Section) (left : Option Coming) → is_quiet s ≡ true → left_by (Some s) left ≡ left
+quiet_left (Doubtful place x) left quiet = absurd cc
+quiet_left Begun left quiet = refl
+quiet_left (CountRead x) left quiet = refl
+quiet_left (CountPut x) left quiet = refl
+quiet_left (CountRenamed x) left quiet = refl
+quiet_left (RevPut x) left quiet = refl
+quiet_left (PropsPut x) left quiet = refl
+quiet_left (RevFirm x) left quiet = refl
+quiet_left (CurrentPut x) left quiet = refl
+quiet_left (CurrentRenamed x) left quiet = refl
+quiet_left (CurrentFirm x) left quiet = refl
+quiet_left Over left quiet = refl
+
+module _ (layout : Layout) (young : ℕ) (stuck : Option DiskPlace) (t : Trace) (w : World) (v : View) (store : IsStore layout young stuck t w) (sees : Sees w v) (layout_is : v.layout ≡ layout) (number_is : v.number ≡ 0) (safe : Safe layout v.since t v.opened w.floor w.history (doubt w.lock)) (alone : length w.passes ≡ 1)
+    (left_so : stuck_with w.lock ≡ v.left) where
+  known_so : (youngest : ℕ) (at : Option DiskPlace) (u : View) (lock : Lock) (P : View → Type 0) → stuck_place lock ≡ at → stuck_with lock ≡ u.left → P u × Moved layout youngest t w v u lock → (z : View) × Knows layout youngest at (Some t) z × P z
+  known_so youngest at u lock P at_is left_is comes = (u, known_moved layout youngest at t w v u lock layout_is number_is alone at_is left_is comes.1, comes.0)
+
+  -- nobody holds the lock where its pass is in no section
+  not_held : v.section ≡ None → (q : ℕ) (s : Section) → w.lock ≡ Held q s → ⊥
+  not_held none q s is =
+      let holder : IsHolder (length w.passes) (Held q s) = subst (λ l. IsHolder (length w.passes) l) is store.kept.holder in
+      let zero_is : q ≡ 0 = omega (arith, holder.0, alone) in
+      let here : held_by v.number (Held q s) ≡ Some s = ap (λ n. held_by n (Held q s)) number_is ∙ ap (λ n. held_by 0 (Held n s)) zero_is ∙ held_here 0 s in
+      let not : held_by v.number (Held q s) ≡ None = ap (λ l. held_by v.number l) (sym is) ∙ sees.section ∙ none in
+      cc
+
+  -- then the revision in doubt is the one that it left so
+  pub doubt_left : v.section ≡ None → doubt w.lock ≡ v.left
+  doubt_left none = by_lock w.lock refl ∙ left_so
+    where
+      by_lock : (lock : Lock) → w.lock ≡ lock → doubt w.lock ≡ stuck_with w.lock
+      by_lock Free is = ap (λ l. doubt l) is ∙ sym (ap (λ l. stuck_with l) is)
+      by_lock (Held q s) is = absurd (not_held none q s is)
+      by_lock (Stuck place x) is = ap (λ l. doubt l) is ∙ sym (ap (λ l. stuck_with l) is)
+      by_lock Down is = ap (λ l. doubt l) is ∙ sym (ap (λ l. stuck_with l) is)
+      by_lock (DownDoubtful x) is = let e : false ≡ true = ap is_up (sym is) ∙ sees.up in absurd cc
 
   -- a lock that nobody holds and that isn't stuck is free
   pub free : v.section ≡ None → stuck ≡ None → w.lock ≡ Free
@@ -273,12 +314,7 @@ module _ (layout : Layout) (young : ℕ) (stuck : Option DiskPlace) (t : Trace) 
     where
       by_lock : (lock : Lock) → w.lock ≡ lock → w.lock ≡ Free
       by_lock Free is = is
-      by_lock (Held q s) is =
-          let holder : IsHolder (length w.passes) (Held q s) = subst (λ l. IsHolder (length w.passes) l) is store.kept.holder in
-          let zero_is : q ≡ 0 = omega (arith, holder.0, alone) in
-          let here : held_by v.number (Held q s) ≡ Some s = ap (λ n. held_by n (Held q s)) number_is ∙ ap (λ n. held_by 0 (Held n s)) zero_is ∙ held_here 0 s in
-          let not : held_by v.number (Held q s) ≡ None = ap (λ l. held_by v.number l) (sym is) ∙ sees.section ∙ none in
-          absurd cc
+      by_lock (Held q s) is = absurd (not_held none q s is)
       by_lock (Stuck place x) is = let e : Some place ≡ None = ap stuck_place (sym is) ∙ store.stuck_is ∙ not_stuck in absurd cc
       by_lock Down is = let e : false ≡ true = ap is_up (sym is) ∙ sees.up in absurd cc
       by_lock (DownDoubtful x) is = let e : false ≡ true = ap is_up (sym is) ∙ sees.up in absurd cc
@@ -298,20 +334,24 @@ module _ (layout : Layout) (young : ℕ) (stuck : Option DiskPlace) (t : Trace) 
   unstuck : (s : Section) → v.section ≡ Some s → None ≡ stuck
   unstuck s is = sym (ap stuck_place (held_in layout young stuck t w v store sees safe s is)) ∙ store.stuck_is
 
+  -- nor did it leave a revision in doubt
+  none_left : (s : Section) → v.section ≡ Some s → None ≡ v.left
+  none_left s is = sym (ap (λ l. stuck_with l) (held_in layout young stuck t w v store sees safe s is)) ∙ left_so
+
   pub looks : (u : View) × Knows layout young stuck (Some t) u × Looked young v u
-  looks = known_so young stuck (looked_view young v) w.lock (λ u. Looked young v u) store.stuck_is (look_comes layout young stuck t w v store sees safe)
+  looks = known_so young stuck (looked_view young v) w.lock (λ u. Looked young v u) store.stuck_is left_so (look_comes layout young stuck t w v store sees safe)
 
   pub takes : v.section ≡ None → stuck ≡ None → (u : View) × Knows layout young stuck (Some t) u × LockTaken v u
-  takes none not_stuck = known_so young stuck (locked_view v) (Held v.number Begun) (λ u. LockTaken v u) (sym not_stuck) (take_comes layout young stuck t w v store sees safe (free none not_stuck))
+  takes none not_stuck = known_so young stuck (locked_view v) (Held v.number Begun) (λ u. LockTaken v u) (sym not_stuck) (sym (ap (λ l. stuck_with l) (free none not_stuck)) ∙ left_so) (take_comes layout young stuck t w v store sees safe (free none not_stuck))
 
   pub finds_stuck : (place : DiskPlace) → stuck ≡ Some place → (u : View) × Knows layout young stuck (Some t) u × FoundStuck place v u
-  finds_stuck place is_stuck = let at = stuck_lock place is_stuck in known_so young stuck (stuck_view place v) w.lock (λ u. FoundStuck place v u) store.stuck_is (find_comes layout young stuck t w v store sees safe place at.0 at.1)
+  finds_stuck place is_stuck = let at = stuck_lock place is_stuck in known_so young stuck (stuck_view place v) w.lock (λ u. FoundStuck place v u) store.stuck_is left_so (find_comes layout young stuck t w v store sees safe place at.0 at.1)
 
   pub gives_lock : (s : Section) → v.section ≡ Some s → is_quiet s ≡ true → (u : View) × Knows layout young stuck (Some t) u × LockGiven (step.GiveLock v.number) v u
-  gives_lock s is quiet = known_so young stuck (outside v) Free (λ u. LockGiven (step.GiveLock v.number) v u) (unstuck s is) (give_comes layout young stuck t w v store sees safe s is quiet)
+  gives_lock s is quiet = known_so young stuck (outside v) Free (λ u. LockGiven (step.GiveLock v.number) v u) (unstuck s is) (none_left s is ∙ sym (ap (λ o. left_by o v.left) is ∙ quiet_left s v.left quiet)) (give_comes layout young stuck t w v store sees safe s is quiet)
 
   pub sticks : (place : DiskPlace) (x : Coming) → v.section ≡ Some (Doubtful place x) → (u : View) × Knows layout young (Some place) (Some t) u × LockGiven (step.StickLock v.number) v u
-  sticks place x is = known_so young (Some place) (outside v) (Stuck place x) (λ u. LockGiven (step.StickLock v.number) v u) refl (stick_comes layout young stuck t w v store sees safe place x is)
+  sticks place x is = known_so young (Some place) (outside v) (Stuck place x) (λ u. LockGiven (step.StickLock v.number) v u) refl (sym (ap (λ o. left_by o v.left) is)) (stick_comes layout young stuck t w v store sees safe place x is)
 
   pub reveals_it : (x : Coming) (rev : ℕ) → v.section ≡ Some (CurrentFirm x) → rev ≡ length v.seen → (u : View) × Knows layout rev stuck (Some t) u × Revealed x v u
-  reveals_it x rev is rev_is = known_so rev stuck (revealed_view x v) (Held v.number Over) (λ u. Revealed x v u) (unstuck (CurrentFirm x) is) (reveal_comes layout young stuck t w v store sees safe x is rev rev_is)
+  reveals_it x rev is rev_is = known_so rev stuck (revealed_view x v) (Held v.number Over) (λ u. Revealed x v u) (unstuck (CurrentFirm x) is) (none_left (CurrentFirm x) is) (reveal_comes layout young stuck t w v store sees safe x is rev rev_is)

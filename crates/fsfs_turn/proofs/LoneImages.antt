@@ -15,7 +15,7 @@ use Rattle.fsfs_turn.specs.Views.{View}
 use Rattle.fsfs_turn.specs.Whole.{HasHistory}
 use Rattle.fsfs_turn.specs.Alone.{KnowsAlone, LoneImages, LoneImagesStand, NothingInDoubt}
 use Rattle.fsfs_turn.proofs.Stepping.{take_drop}
-use Rattle.fsfs_turn.proofs.Locking.{free}
+use Rattle.fsfs_turn.proofs.Locking.{free, doubt_left}
 use Rattle.fsfs_turn.proofs.Wholeness.{has_history, part_shown, if_doubtful}
 use Rattle.fsfs_turn.proofs.OwnFiles.{own_now}
 use Rattle.fsfs_turn.proofs.Standings.{files_stand, part_stands}
@@ -41,7 +41,7 @@ module _ (layout : Layout) (young : ℕ) (stuck : Option DiskPlace) (t : Trace) 
   follows = subst (λ h. IfSome (doubt known.0.0.lock) (Follows h)) all_seen (if_doubtful (Follows known.0.0.history) known.0.0.lock known.0.1.kept.next)
 
   quiet : v.section ≡ None → stuck ≡ None → doubt known.0.0.lock ≡ None
-  quiet outside unstuck = ap (λ l. doubt l) (free layout young stuck t known.0.0 v known.0.1 known.0.2 known.0.3 known.0.4 known.0.5 known.0.6 outside unstuck)
+  quiet outside unstuck = ap (λ l. doubt l) (free layout young stuck t known.0.0 v known.0.1 known.0.2 known.0.3 known.0.4 known.0.5 known.0.6 known.0.7 outside unstuck)
 
   -- the same of each moment since the opening, in the middle of a call too
   moment_stands : (m : Files) → ImageSince v.since.operations t.first t.operations m → (g : List Recorded) × IsPart v.seen (doubt known.0.0.lock) g × (v.opened ≤ length g) × HasHistory layout m g × StandsFor m (revisions g)
@@ -65,7 +65,7 @@ module _ (layout : Layout) (young : ℕ) (stuck : Option DiskPlace) (t : Trace) 
       let p = part_stands layout young stuck t v known.0 ((own_now layout v.since t known.2).0) m image in (p.0, subst (λ h. IsPart h (doubt known.0.0.lock) p.0) all_seen p.1, omega (arith, p.2, long), p.3, p.4)
 
   pub lone_images : LoneImages layout stuck t v
-  lone_images = record { doubt = doubt known.0.0.lock; follows = follows; moments = moment_stands; now = image_stands; certain = quiet }
+  lone_images = record { doubt = doubt known.0.0.lock; follows = follows; moments = moment_stands; now = image_stands; certain = quiet; left = doubt_left layout young stuck t known.0.0 v known.0.1 known.0.2 known.0.3 known.0.4 known.0.5 known.0.6 known.0.7 }
 
 pub lone_images_stand : LoneImagesStand
 lone_images_stand layout young stuck t v known = lone_images layout young stuck t v known

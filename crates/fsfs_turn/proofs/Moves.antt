@@ -1,5 +1,5 @@
 -- What a step comes to: the state after it, of which its pass knows more, and in which the others find what they knew.
-use Rattle.std.proofs.Common.{◌≡◌, ◌==◌, ℕ, length, true, false, cond, ⊎_elim, refl, sym, ap, ◌∙◌, arith}
+use Rattle.std.proofs.Common.{◌≡◌, ◌⊎◌, ◌==◌, ℕ, length, true, false, cond, inl, inr, ⊎_elim, refl, sym, ap, ◌∙◌, arith}
 use Rattle.std.specs.Prelude.{Option, Some, None, slice_get}
 use Rattle.fsfs_layout.specs.declared.layout.Layout.{Layout}
 use Rattle.fsfs_disk.specs.Trace.{Trace}
@@ -9,8 +9,8 @@ use Rattle.fsfs_machine.specs.declared.machine.Lock.{Lock}
 use Rattle.fsfs_machine.specs.declared.machine.Lock.TheVariants.{Held}
 use Rattle.fsfs_machine.specs.Machine.{World, held_by, stuck_place}
 use Rattle.fsfs_machine.specs.Kept.{IsIn}
-use Rattle.fsfs_turn.specs.Views.{View, Sees, Begins}
-use Rattle.fsfs_turn.specs.Past.{doubt, Safe}
+use Rattle.fsfs_turn.specs.Views.{View, IsFull, Sees, Begins}
+use Rattle.fsfs_turn.specs.Past.{doubt, stuck_with, Safe}
 use Rattle.fsfs_turn.specs.Standing.{IsStore, Knows}
 use Rattle.fsfs_turn.proofs.Moments.{begins_itself}
 use Rattle.fsfs_turn.proofs.TurnEnds.{StaysWith, Leaves, IsAfter}
@@ -26,6 +26,10 @@ pub record Spares (p : ℕ) (w after : World) : Type 0 where
   pub still : (q : ℕ) (s : Section) → (q ≡ p → ⊥) → held_by q w.lock ≡ Some s → (after.young ≡ w.young) × (after.history ≡ w.history)
   pub floor : after.floor ≡ w.floor
   pub given : (k : ℕ) → IsIn k w.given → IsIn k after.given
+  -- where no name was left none is
+  pub full : IsFull w.disk → IsFull after.disk
+  -- while another holds the lock the machine's files stay
+  pub disk : (q : ℕ) (s : Section) → (q ≡ p → ⊥) → held_by q w.lock ≡ Some s → after.disk ≡ w.disk
 
 -- The state after a step by which the pass that knew v knows u, and the lock is this: the store with this trace is in it.
 pub record Moved (layout : Layout) (young : ℕ) (t : Trace) (w : World) (v u : View) (lock : Lock) : Type 0 where
@@ -55,6 +59,10 @@ locks_stay p q before after stays apart = ⊎_elim
     (λ (both : (s : Section) × (t : Section) × (before ≡ Held p s) × (after ≡ Held p t)).
     (ap (λ l. held_by q l) both.3 ∙ held_other p q both.1 apart) ∙ sym (ap (λ l. held_by q l) both.2 ∙ held_other p q both.0 apart)) stays
 
+disk_stays : (p q : ℕ) (w after : World) (s : Section) → (after.disk ≡ w.disk) ⊎ ((t : Section) × (w.lock ≡ Held p t)) → (q ≡ p → ⊥) → held_by q w.lock ≡ Some s → after.disk ≡ w.disk
+disk_stays p q w after s (inl same) apart held = same
+disk_stays p q w after s (inr holds) apart held = let none : held_by q w.lock ≡ None = ap (λ l. held_by q l) holds.1 ∙ held_other p q holds.0 apart in absurd cc
+
 call_spares : (p : ℕ) (w after : World) → Leaves p w after → Spares p w after
 call_spares p w after l = record {
   passes = l.passes;
@@ -64,6 +72,8 @@ call_spares p w after l = record {
   still = λ q s apart held. (l.young, l.history);
   floor = l.floor;
   given = l.given;
+  full = l.full;
+  disk = λ q s apart held. disk_stays p q w after s l.disk apart held;
 }
 
 pub call_moved : (layout : Layout) (young : ℕ) (stuck : Option DiskPlace) (t : Trace) (w : World) (v : View) (P : View → Type 0) (a : IsAfter layout young stuck t w v P) → Moved layout young t w v a.view a.world.lock
@@ -83,8 +93,8 @@ call_moved layout young stuck t w v P a = record {
 -- ---- one pass
 
 -- where there is one pass, that is what it knows
-pub known_moved : (layout : Layout) (young : ℕ) (stuck : Option DiskPlace) (t : Trace) (w : World) (v u : View) (lock : Lock) → v.layout ≡ layout → v.number ≡ 0 → length w.passes ≡ 1 → stuck_place lock ≡ stuck
+pub known_moved : (layout : Layout) (young : ℕ) (stuck : Option DiskPlace) (t : Trace) (w : World) (v u : View) (lock : Lock) → v.layout ≡ layout → v.number ≡ 0 → length w.passes ≡ 1 → stuck_place lock ≡ stuck → stuck_with lock ≡ u.left
     → Moved layout young t w v u lock → Knows layout young stuck (Some t) u
-known_moved layout young stuck t w v u lock layout_is number_is alone stuck_is m =
+known_moved layout young stuck t w v u lock layout_is number_is alone stuck_is left_is m =
     let s = m.store in
-    (m.world, record { trace = s.trace; whole = s.whole; kept = s.kept; shown = s.shown; coming = s.coming; young_is = s.young_is; stuck_is = s.stuck_is ∙ stuck_is }, m.sees, m.layout_is ∙ layout_is, m.number_is ∙ number_is, m.safe, m.spares.count ∙ alone)
+    (m.world, record { trace = s.trace; whole = s.whole; kept = s.kept; shown = s.shown; coming = s.coming; young_is = s.young_is; stuck_is = s.stuck_is ∙ stuck_is }, m.sees, m.layout_is ∙ layout_is, m.number_is ∙ number_is, m.safe, m.spares.count ∙ alone, ap (λ l. stuck_with l) m.lock_is ∙ left_is)

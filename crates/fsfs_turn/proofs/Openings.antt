@@ -331,7 +331,7 @@ module _ (first : Files) (labels : List Label) (before : List Operation) (h : Li
   }
 
   abbrev view : View
-  view = record { layout = layout; since = opened_at first before; opened = length g; number = 0; pass = first_pass (length g) f; seen = g; section = None; sure = false; given = given_before s.opened.next_txn.number }
+  view = record { layout = layout; since = opened_at first before; opened = length g; number = 0; pass = first_pass (length g) f; seen = g; section = None; sure = false; left = None; given = given_before s.opened.next_txn.number; full = false }
 
   abbrev trace : Trace
   trace = record { first = first; labels = labels; operations = Done real.FirmNames ∷ before }
@@ -340,7 +340,7 @@ module _ (first : Files) (labels : List Label) (before : List Operation) (h : Li
   store = record { trace = Opening before disk read; whole = whole; kept = kept_bare world kept; shown = all_show; coming = tt; young_is = refl; stuck_is = refl }
 
   sees : Sees world view
-  sees = record { pass = refl; seen = sym (take_all (length g) g (omega arith)); section = refl; up = refl; sure = λ e. absurd cc; whole = λ z e. absurd cc; given = λ q i. i; opened = omega arith; shown = all_show }
+  sees = record { pass = refl; seen = sym (take_all (length g) g (omega arith)); section = refl; up = refl; sure = λ e. absurd cc; whole = λ z e. absurd cc; given = λ q i. i; opened = omega arith; shown = all_show; names = record { full = λ e. absurd cc; drawing = λ z e. absurd cc } }
 
   safe : Safe layout (opened_at first before) trace (length g) f g None
   safe z i =
@@ -355,7 +355,7 @@ module _ (first : Files) (labels : List Label) (before : List Operation) (h : Li
       stands = kept.stands
 
   pub is_known : (v : View) × KnowsAlone layout s.opened.youngest None (Some trace) v × (v.section ≡ None) × (v.pass ≡ first_pass (length h) s.opened.min_unpacked_rev) × (revisions v.seen ≡ h) × (v.since ≡ opened_at first before) × (v.given ≡ given_before s.opened.next_txn.number)
-  is_known = (view, ((world, store, sees, refl, refl, safe, refl), record { all = (let c = s.count in omega (arith, long, c)); own = omega arith; free = λ harmless. refl; sound = λ harmless. refl; found = λ harmless. refl }, own_from_opening layout first before (own_opened (files_after first before) h s)), refl, ap (λ n. first_pass n s.opened.min_unpacked_rev) long, revisions_are, refl, refl)
+  is_known = (view, ((world, store, sees, refl, refl, safe, refl, refl), record { all = (let c = s.count in omega (arith, long, c)); own = omega arith; free = λ harmless. refl; sound = λ harmless. refl; found = λ harmless. refl }, own_from_opening layout first before (own_opened (files_after first before) h s)), refl, ap (λ n. first_pass n s.opened.min_unpacked_rev) long, revisions_are, refl, refl)
 
 pub store_is_known : StoreIsKnown
 store_is_known first labels before h s agreeing = is_known first labels before h s agreeing

@@ -20,10 +20,11 @@ use Rattle.fsfs_machine.specs.Kept.{Kept, IsIn, coming_in, coming}
 use Rattle.fsfs_machine.proofs.Steps.{step_keeps}
 use Rattle.fsfs_images.specs.Shown.{IsTraceOf}
 use Rattle.fsfs_turn.specs.Bytes.{BytesShow, AllShow}
-use Rattle.fsfs_turn.specs.Views.{View, Sees, with_txns, given_by, called_view, Called}
+use Rattle.fsfs_turn.specs.Views.{View, KnowsNames, Sees, with_txns, given_by, called_view, Called}
 use Rattle.fsfs_turn.specs.Past.{doubt_in, Safe}
 pub use Rattle.fsfs_turn.specs.Found.{get_taken}
 use Rattle.fsfs_turn.specs.Standing.{no_others, IsStore}
+use Rattle.fsfs_turn.proofs.Names.{full_after, names_after}
 use Rattle.fsfs_turn.proofs.TurnEnds.{section_leaves, IsAfter}
 
 -- no transaction is laid in
@@ -120,11 +121,11 @@ happens_so w p place went s change held is change_is =
 
 -- transactions are no part of what is known
 pub sees_bare : (w : World) (v : View) → Sees w v → Sees (with_txns [] w) v
-sees_bare w v sees = record { pass = sees.pass; seen = sees.seen; section = sees.section; up = sees.up; sure = sees.sure; whole = sees.whole; given = sees.given; opened = sees.opened; shown = sees.shown }
+sees_bare w v sees = record { pass = sees.pass; seen = sees.seen; section = sees.section; up = sees.up; sure = sees.sure; whole = sees.whole; given = sees.given; opened = sees.opened; shown = sees.shown; names = sees.names }
 
-sees_after : (w : World) (v : View) (place : DiskPlace) (went : Went) (s : Section) (change : NameChange) (named : List Drawn) → AllShow w.history → Sees w v
+sees_after : (w : World) (v : View) (place : DiskPlace) (went : Went) (s : Section) (change : NameChange) (named : List Drawn) → AllShow w.history → v.section ≡ Some s → due w s ≡ Some change → Sees w v
     → Sees (called_store w v.number place went s change) (called_view w.history place went s v)
-sees_after w v place went s change named shown sees = record {
+sees_after w v place went s change named shown at due_is sees = record {
   pass = at_itself w.passes v.number (learns (length w.history) place went) v.pass sees.pass;
   seen = sym (take_all (length w.history) w.history (omega arith));
   section = held_here v.number (either went (after s) (spoiled s));
@@ -134,6 +135,7 @@ sees_after w v place went s change named shown sees = record {
   given = λ k i. in_given s went k v.given w.given (sees.given k) i;
   opened = sees.opened;
   shown = shown;
+  names = names_after v.full w s change went due_is (subst (λ o. KnowsNames v.full o w.disk) at sees.names);
 }
 
 pub kept_called : (w : World) (p : ℕ) (place : DiskPlace) (went : Went) (s : Section) (change : NameChange) → Kept (with_txns [] w) → held_by p w.lock ≡ Some s → is_due s place ≡ true → due w s ≡ Some change → Kept (with_txns [] (called_store (with_txns [] w) p place went s change))
@@ -170,11 +172,12 @@ call_turns layout young stuck old new w v place went s change store sees section
   };
   all = refl;
   safe = safe;
-  leaves = section_leaves w world v.number (learns (length w.history) place went) s (either went (after s) (spoiled s)) went refl refl refl refl lock refl refl;
+  leaves = section_leaves w world v.number (learns (length w.history) place went) s (either went (after s) (spoiled s)) went refl refl refl refl lock refl refl (λ last. (full_after v.full w s change went due_is (subst (λ o. KnowsNames v.full o w.disk) section sees.names) last));
   layout_is = refl;
   since_is = refl;
   opened_is = refl;
   number_is = refl;
+  left_is = refl;
 }
   where
     world : World
@@ -193,4 +196,4 @@ call_turns layout young stuck old new w v place went s change store sees section
     kept = kept_called w v.number place went s change store.kept (sees.section ∙ section) is due_is
 
     seen : Sees world view
-    seen = sees_after (with_txns [] w) v place went s change [] store.shown (sees_bare w v sees)
+    seen = sees_after (with_txns [] w) v place went s change [] store.shown section due_is (sees_bare w v sees)

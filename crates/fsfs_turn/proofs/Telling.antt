@@ -50,11 +50,12 @@ module _ (layout : Layout) (young : ℕ) (stuck : Option DiskPlace) (old : Trace
     };
     all = refl;
     safe = safe;
-    leaves = pass_leaves w world v.number (tell (length w.history)) refl refl refl refl refl refl;
+    leaves = pass_leaves w world v.number (tell (length w.history)) refl refl refl refl refl refl refl;
     layout_is = refl;
     since_is = refl;
     opened_is = refl;
     number_is = refl;
+    left_is = refl;
   }
     where
       world : World
@@ -74,4 +75,5 @@ module _ (layout : Layout) (young : ℕ) (stuck : Option DiskPlace) (old : Trace
         given = sees.given;
         opened = sees.opened;
         shown = store.shown;
+        names = sees.names;
       }

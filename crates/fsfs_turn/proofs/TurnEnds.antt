@@ -1,5 +1,5 @@
 -- What a turn comes to: the state after it, in which the pass knows more, and what it leaves of the state for the other passes.
-use Rattle.std.proofs.Common.{◌≡◌, ◌⊎◌, ℕ, suc, zero, List, [], ◌∷◌, length, refl, sym, ap, subst, ◌∙◌, inl, inr}
+use Rattle.std.proofs.Common.{◌≡◌, ◌⊎◌, ℕ, suc, zero, List, [], ◌∷◌, length, refl, sym, ap, subst, ◌∙◌, inl, inr, ⊎_elim}
 use Rattle.std.specs.Prelude.{Option, Some, Result, slice_get}
 use Rattle.fsfs_layout.specs.declared.layout.Layout.{Layout}
 use Rattle.fsfs_disk.specs.Trace.{Trace}
@@ -14,8 +14,8 @@ use Rattle.fsfs_machine.specs.declared.machine.Went.TheVariants.{Fine, Before, A
 use Rattle.fsfs_machine.specs.Machine.{World, at_place}
 use Rattle.fsfs_machine.specs.Kept.{IsIn}
 use Rattle.fsfs_machine.proofs.Whose.{length_at}
-use Rattle.fsfs_turn.specs.Views.{View, Sees, given_by, Answers}
-use Rattle.fsfs_turn.specs.Past.{doubt, Safe}
+use Rattle.fsfs_turn.specs.Views.{IsFull, View, Sees, given_by, Answers}
+use Rattle.fsfs_turn.specs.Past.{doubt, stuck_with, Safe}
 use Rattle.fsfs_turn.specs.Standing.{IsStore, Knows}
 
 -- the others stay at their places
@@ -40,6 +40,9 @@ pub record Leaves (p : ℕ) (w after : World) : Type 0 where
   pub floor : after.floor ≡ w.floor
   pub lock : StaysWith p w.lock after.lock
   pub given : (k : ℕ) → IsIn k w.given → IsIn k after.given
+  -- where no name was left none is, and the number in `txn-current` is as it was, or the pass holds the lock
+  pub full : IsFull w.disk → IsFull after.disk
+  pub disk : (after.disk ≡ w.disk) ⊎ ((s : Section) × (w.lock ≡ Held p s))
 
 -- The state after a turn of the pass that knew v: the store with this trace is in it, and of what the pass knows then P holds.
 pub record IsAfter (layout : Layout) (young : ℕ) (stuck : Option DiskPlace) (t : Trace) (w : World) (v : View) (P : View → Type 0) : Type 0 where
@@ -56,6 +59,7 @@ pub record IsAfter (layout : Layout) (young : ℕ) (stuck : Option DiskPlace) (t
   pub since_is : view.since ≡ v.since
   pub opened_is : view.opened ≡ v.opened
   pub number_is : view.number ≡ v.number
+  pub left_is : view.left ≡ v.left
 
 -- what a call of the disk comes to, by what is told of the disk behind it and by its answer
 abbrev pub Comes : {X E : Type 0} → Layout → ℕ → Option DiskPlace → Option Trace → World → View → Result X E → (Went → View → Type 0) → Type 0
@@ -73,8 +77,8 @@ given_more s went k given i = i
 
 -- after a call of its section
 pub section_leaves : (w after : World) (p : ℕ) (f : Pass → Pass) (s t : Section) (went : Went) → after.passes ≡ at_place w.passes p f → after.history ≡ w.history → after.young ≡ w.young → after.floor ≡ w.floor
-    → w.lock ≡ Held p s → after.lock ≡ Held p t → after.given ≡ given_by s went w.given → Leaves p w after
-section_leaves w after p f s t went passes history young floor held holds given = record {
+    → w.lock ≡ Held p s → after.lock ≡ Held p t → after.given ≡ given_by s went w.given → (IsFull w.disk → IsFull after.disk) → Leaves p w after
+section_leaves w after p f s t went passes history young floor held holds given full = record {
   passes = λ q apart. ap (λ xs. slice_get xs q) passes ∙ at_other w.passes p q f apart;
   count = ap length passes ∙ length_at w.passes p f;
   history = history;
@@ -82,11 +86,13 @@ section_leaves w after p f s t went passes history young floor held holds given 
   floor = floor;
   lock = inr (s, t, held, holds);
   given = λ k i. subst (λ ks. IsIn k ks) (sym given) (given_more s went k w.given i);
+  full = full;
+  disk = inr (s, held);
 }
 
 -- after a call that no section is about
-pub pass_leaves : (w after : World) (p : ℕ) (f : Pass → Pass) → after.passes ≡ at_place w.passes p f → after.history ≡ w.history → after.young ≡ w.young → after.floor ≡ w.floor → after.lock ≡ w.lock → after.given ≡ w.given → Leaves p w after
-pass_leaves w after p f passes history young floor lock given = record {
+pub pass_leaves : (w after : World) (p : ℕ) (f : Pass → Pass) → after.passes ≡ at_place w.passes p f → after.history ≡ w.history → after.young ≡ w.young → after.floor ≡ w.floor → after.lock ≡ w.lock → after.given ≡ w.given → after.disk ≡ w.disk → Leaves p w after
+pass_leaves w after p f passes history young floor lock given disk = record {
   passes = λ q apart. ap (λ xs. slice_get xs q) passes ∙ at_other w.passes p q f apart;
   count = ap length passes ∙ length_at w.passes p f;
   history = history;
@@ -94,18 +100,24 @@ pass_leaves w after p f passes history young floor lock given = record {
   floor = floor;
   lock = inl lock;
   given = λ k i. subst (λ ks. IsIn k ks) (sym given) i;
+  full = λ last. subst IsFull (sym disk) last;
+  disk = inl disk;
 }
 
 -- ---- one pass
 
--- where there is one pass, that is what it knows
-pub known_after : (layout : Layout) (young : ℕ) (stuck : Option DiskPlace) (new : Trace) (told : Option Trace) (w : World) (v : View) (P : View → Type 0) → told ≡ Some new → v.layout ≡ layout → v.number ≡ 0 → length w.passes ≡ 1
-    → IsAfter layout young stuck new w v P → (u : View) × Knows layout young stuck told u × P u
-known_after layout young stuck new told w v P is layout_is number_is alone a =
-    (a.view, subst (λ o. Knows layout young stuck o a.view) (sym is) (a.world, a.store, a.sees, a.layout_is ∙ layout_is, a.number_is ∙ number_is, a.safe, a.leaves.count ∙ alone), a.turned)
+-- a lock that stays with its pass leaves in doubt what it left
+pub stuck_stays : (p : ℕ) (before after : Lock) → StaysWith p before after → stuck_with after ≡ stuck_with before
+stuck_stays p before after stays = ⊎_elim (λ same. ap (λ l. stuck_with l) same) (λ both. ap (λ l. stuck_with l) both.3 ∙ sym (ap (λ l. stuck_with l) both.2)) stays
 
-pub known_comes : {X E : Type 0} (layout : Layout) (young : ℕ) (stuck : Option DiskPlace) (told : Option Trace) (w : World) (v : View) (result : Result X E) (P : Went → View → Type 0) → v.layout ≡ layout → v.number ≡ 0 → length w.passes ≡ 1
+-- where there is one pass, that is what it knows
+pub known_after : (layout : Layout) (young : ℕ) (stuck : Option DiskPlace) (new : Trace) (told : Option Trace) (w : World) (v : View) (P : View → Type 0) → told ≡ Some new → v.layout ≡ layout → v.number ≡ 0 → length w.passes ≡ 1 → stuck_with w.lock ≡ v.left
+    → IsAfter layout young stuck new w v P → (u : View) × Knows layout young stuck told u × P u
+known_after layout young stuck new told w v P is layout_is number_is alone left_so a =
+    (a.view, subst (λ o. Knows layout young stuck o a.view) (sym is) (a.world, a.store, a.sees, a.layout_is ∙ layout_is, a.number_is ∙ number_is, a.safe, a.leaves.count ∙ alone, stuck_stays v.number w.lock a.world.lock a.leaves.lock ∙ left_so ∙ sym a.left_is), a.turned)
+
+pub known_comes : {X E : Type 0} (layout : Layout) (young : ℕ) (stuck : Option DiskPlace) (told : Option Trace) (w : World) (v : View) (result : Result X E) (P : Went → View → Type 0) → v.layout ≡ layout → v.number ≡ 0 → length w.passes ≡ 1 → stuck_with w.lock ≡ v.left
     → Comes layout young stuck told w v result P → (u : View) × (went : Went) × Knows layout young stuck told u × Answers result went × P went u
-known_comes layout young stuck told w v result P layout_is number_is alone c =
-    let k = known_after layout young stuck c.0 told w v (P c.1) c.2 layout_is number_is alone c.4 in
+known_comes layout young stuck told w v result P layout_is number_is alone left_so c =
+    let k = known_after layout young stuck c.0 told w v (P c.1) c.2 layout_is number_is alone left_so c.4 in
     (k.0, c.1, k.1, c.3, k.2)

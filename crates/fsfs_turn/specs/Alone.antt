@@ -75,8 +75,9 @@ pub record LoneImages (layout : Layout) (stuck : Option DiskPlace) (t : Trace) (
   pub follows : IfSome doubt (Follows v.seen)
   pub moments : (m : Files) → ImageSince v.since.operations t.first t.operations m → (g : List Recorded) × IsPart v.seen doubt g × (v.opened ≤ length g) × HasHistory layout m g × StandsFor m (revisions g)
   pub now : (m : Files) → IsImage t.first t.operations m → (g : List Recorded) × IsPart v.seen doubt g × (length v.seen ≤ length g) × HasHistory layout m g × StandsFor m (revisions g)
-  -- none is where the lock isn't stuck and the pass is in no section
+  -- none is where the lock isn't stuck and the pass is in no section; in no section it is the one that the pass left so
   pub certain : v.section ≡ None → stuck ≡ None → doubt ≡ None
+  pub left : v.section ≡ None → doubt ≡ v.left
 
 abbrev pub LoneImagesStand : Type 0
 LoneImagesStand = (layout : Layout) (young : ℕ) (stuck : Option DiskPlace) (t : Trace) (v : View) → KnowsAlone layout young stuck (Some t) v → LoneImages layout stuck t v

@@ -69,7 +69,8 @@ pub record CounterRead (base number : ℕ) (went : Went) (v u : View) : Type 0 w
   -- each name that it knew to be given is below the number
   pub above : AllBelow number v.given
 
--- What stands there, as a begin reads it from the beginning on; of the last number, behind which no name comes, the machine has no reading.
+-- What stands there, as a begin reads it from the beginning on. Of the last number, behind which no name comes, the machine has no reading; the pass
+-- knows then that no name is left.
 pub record ReadsCounter (knows : View → Type 0) (told : Option Files) (base : ℕ) {E : Type 0} (result : Result (Option ℕ) E) (old new : List ℕ) (v : View) : Type 0 where
   pub text : List ℕ
   pub number : ℕ
@@ -79,7 +80,7 @@ pub record ReadsCounter (knows : View → Type 0) (told : Option Files) (base : 
   pub there : get files (only_name TxnCurrent) ≡ Some text
   pub read : IfOk result (IsRead (Some text) 0 old new)
   pub turned : number < last_name → (u : View) × (went : Went) × knows u × Answers result went × CounterRead base number went v u
-  pub full : last_name ≤ number → knows v
+  pub full : last_name ≤ number → knows (record v { full = true })
 
 -- ---- labels
 

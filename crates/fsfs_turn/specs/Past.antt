@@ -31,6 +31,11 @@ doubt (Stuck place x) = Some x
 doubt (DownDoubtful x) = Some x
 doubt lock = None
 
+-- the revision that a stuck lock leaves in doubt
+abbrev pub stuck_with : Lock → Option Coming
+stuck_with (Stuck place x) = Some x
+stuck_with lock = None
+
 -- a first part of the history, or the history with the revision in doubt
 abbrev pub IsPart : List Recorded → Option Coming → List Recorded → Type 0
 IsPart h d g = Begins h g ⊎ ((x : Coming) × (d ≡ Some x) × (g ≡ with_next h x))

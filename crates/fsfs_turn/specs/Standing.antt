@@ -9,7 +9,7 @@ use Rattle.fsfs_machine.specs.Kept.{Kept, coming}
 use Rattle.fsfs_images.specs.Shown.{IsTraceOf}
 use Rattle.fsfs_turn.specs.Bytes.{BytesShow, AllShow}
 use Rattle.fsfs_turn.specs.Views.{View, Sees, with_txns}
-use Rattle.fsfs_turn.specs.Past.{doubt, Safe}
+use Rattle.fsfs_turn.specs.Past.{doubt, stuck_with, Safe}
 
 -- turns change no file beside the machine's
 abbrev pub no_others : List ℕ → Bool
@@ -39,3 +39,5 @@ Knows layout young stuck (Some t) v = (w : World) × IsStore layout young stuck 
     × Safe layout v.since t v.opened w.floor w.history (doubt w.lock)
     -- there is one pass
     × (length w.passes ≡ 1)
+    -- it left the revision in doubt with which the lock is stuck
+    × (stuck_with w.lock ≡ v.left)

@@ -11,6 +11,9 @@ use Rattle.fsfs_layout.specs.declared.repository_file.RepositoryFile.TheVariants
 use Rattle.fsfs_layout.specs.Small.{IsRevLine, IsBase36Line}
 use Rattle.fsfs_layout.specs.Hash.Dump.{IsDump}
 use Rattle.fsfs_disk.specs.Trace as real
+use Rattle.fsfs_machine.specs.declared.contents.Contents.TheVariants.{Number}
+use Rattle.fsfs_machine.specs.declared.contents.FileName.TheVariants.{Counter}
+use Rattle.fsfs_machine.specs.Disk.{Disk, found}
 use Rattle.fsfs_machine.specs.declared.machine.Recorded.{Recorded}
 use Rattle.fsfs_machine.specs.declared.machine.Coming.{Coming}
 use Rattle.fsfs_machine.specs.declared.machine.Drawn.{Drawn}
@@ -20,7 +23,7 @@ use Rattle.fsfs_base.specs.declared.places.place.DiskPlace.TheVariants.{Read, Be
 use Rattle.fsfs_base.specs.declared.places.place.BeginPlace.TheVariants as begin
 use Rattle.fsfs_base.specs.declared.places.place.CommitPlace.TheVariants.{PutRev, PutProps, FirmRev, PutCurrent, RenameCurrent, FirmCurrent}
 use Rattle.fsfs_machine.specs.declared.machine.Section.{Section}
-use Rattle.fsfs_machine.specs.declared.machine.Section.TheVariants.{Begun, CountRead, CountPut, CountRenamed, RevPut, PropsPut, RevFirm, CurrentPut, CurrentRenamed, Over}
+use Rattle.fsfs_machine.specs.declared.machine.Section.TheVariants.{Begun, CountRead, CountPut, CountRenamed, RevPut, PropsPut, RevFirm, CurrentPut, CurrentRenamed, Doubtful, Over}
 use Rattle.fsfs_machine.specs.declared.machine.Pass.{Pass}
 use Rattle.fsfs_machine.specs.declared.machine.Went.{Went}
 use Rattle.fsfs_machine.specs.declared.machine.Went.TheVariants.{Fine}
@@ -28,7 +31,7 @@ use Rattle.fsfs_machine.specs.declared.machine.Outcome.{Outcome}
 use Rattle.fsfs_machine.specs.declared.machine.Outcome.TheVariants as outcome
 use Rattle.fsfs_machine.specs.declared.machine.Step.{Step}
 use Rattle.fsfs_machine.specs.declared.machine.Step.TheVariants as step
-use Rattle.fsfs_machine.specs.Machine.{World, Did, Happens, held_by, is_up, is_fine_in, is_quiet, either, answer, learns, reveals, after, spoiled, entry_of, revisions, with_next}
+use Rattle.fsfs_machine.specs.Machine.{World, Did, Happens, held_by, is_up, is_fine_in, is_quiet, either, answer, learns, reveals, after, spoiled, entry_of, revisions, with_next, last_name}
 use Rattle.fsfs_machine.specs.Kept.{Kept, IsIn, coming_in}
 use Rattle.fsfs_turn.specs.Bytes.{BytesShow, AllShow}
 use Rattle.fsfs_turn.specs.declared.since.Since.{Since}
@@ -51,8 +54,12 @@ pub record View : Type 0 where
   pub section : Option Section
   -- since it took the lock it was told the youngest number, and that is still the youngest
   pub sure : Bool
+  -- the revision that it left in doubt, with the lock stuck
+  pub left : Option Coming
   -- transaction names that it knows to be given
   pub given : List ℕ
+  -- it has met the last number that a name has digits for in `txn-current`
+  pub full : Bool
 
 abbrev pub coming_at : Option Section → Option Coming
 coming_at None = None
@@ -61,6 +68,27 @@ coming_at (Some s) = coming_in s
 abbrev pub is_held : Option Section → Bool
 is_held None = false
 is_held (Some s) = true
+
+-- ---- what it knows of `txn-current`
+
+-- the last number that a name has digits for stands there: no name is left
+abbrev pub IsFull : Disk → Type 0
+IsFull d = (n : ℕ) × (found d Counter ≡ Some (Number n)) × (last_name ≤ n)
+
+-- the name for which a section has read the number there, while the next one hasn't taken its place
+abbrev pub drawing_in : Section → Option Drawn
+drawing_in (CountRead x) = Some x
+drawing_in (CountPut x) = Some x
+drawing_in s = None
+
+abbrev pub drawing_at : Option Section → Option Drawn
+drawing_at None = None
+drawing_at (Some s) = drawing_in s
+
+-- Where no name was left none is, since no step makes the number less. The number that its section has read stands there still.
+pub record KnowsNames (met : Bool) (section : Option Section) (d : Disk) : Type 0 where
+  pub full : met ≡ true → IsFull d
+  pub drawing : (x : Drawn) → drawing_at section ≡ Some x → (found d Counter ≡ Some (Number x.name)) × (x.name < last_name)
 
 -- this is what the pass knows of the store
 pub record Sees (w : World) (v : View) : Type 0 where
@@ -75,6 +103,7 @@ pub record Sees (w : World) (v : View) : Type 0 where
   pub opened : v.opened ≤ length w.history
   -- the bytes beside what it has seen show it, and each first part of it
   pub shown : AllShow v.seen
+  pub names : KnowsNames v.full v.section w.disk
 
 abbrev pub txn_names : List Txn → List ℕ
 txn_names xs = map (λ x. x.name) xs
@@ -196,9 +225,14 @@ pub record MayGive (v : View) : Type 0 where
   pub is : v.section ≡ Some inside
   pub quiet : is_quiet inside ≡ true
 
+-- what is left in doubt behind a section: the revision of one that leaves the lock stuck
+abbrev pub left_by : Option Section → Option Coming → Option Coming
+left_by (Some (Doubtful place x)) left = Some x
+left_by s left = left
+
 -- the pass is in no section any more
 abbrev pub outside : View → View
-outside v = record v { section = None; sure = false }
+outside v = record v { section = None; sure = false; left = left_by v.section v.left }
 
 pub record LockGiven (step : Step) (v u : View) : Type 0 where
   pub turned : Turned [] step outcome.Done v u

@@ -42,19 +42,19 @@ module _ {X : Type 0} (back : List Recorded → Txn → X → Type 0) (r : Commi
       let some : 0 < length m.0.seen = omega (arith, e.seen, no_shorter v.seen m.0.seen m.3.moved.drifted.grows) in
       let there = given_back v m.0 x m.1 n m.3.moved.drifted.given e.given m.3.name (named m.0.seen m.1 m.3.stands) in
       subst (λ (a : JobAnswer). EndsFrom after rose moment k (jobs.Commit job) a v) (sym answer_is)
-      (barred_ends after rose moment k last job name base settled v x e few on within none m.0 m.1 m.3.moved m.3.doubtless m.3.landings (hist m.0 m.2 some) (left m.0 m.2 (m.3.moved.section ∙ none) there some) bar m.4)
+      (barred_ends after rose moment k last job name base settled v x e few on within none m.0 m.1 m.3.moved m.3.doubtless m.3.left m.3.landings (hist m.0 m.2 some) (left m.0 m.2 (m.3.moved.section ∙ none) there some) bar m.4)
 
-  pub disk_by : (knows : View → Type 0) (at : DiskPlace) (answer : JobAnswer) → answer ≡ answers.Stopped job.line (Outside (outside.Disk at)) → r ≡ replies.DiskFault at → IfFailed r rose → Meets knows back moment properties v x r → EndsFrom knows rose moment k (jobs.Commit job) answer v
-  disk_by knows at answer answer_is is failed meets =
+  pub disk_by : (knows : View → Type 0) (at : DiskPlace) (answer : JobAnswer) → answer ≡ answers.Stopped job.line (Outside (outside.Disk at)) → properties ≡ undated_properties job → r ≡ replies.DiskFault at → IfFailed r rose → Meets knows back moment properties v x r → EndsFrom knows rose moment k (jobs.Commit job) answer v
+  disk_by knows at answer answer_is undated is failed meets =
       let m = subst (λ (a : CommitAnswer X). Meets knows back moment properties v x a) is meets in
       subst (λ (a : JobAnswer). EndsFrom knows rose moment k (jobs.Commit job) a v) (sym answer_is)
-      (disk_ends knows rose moment k last job name base settled v x e few on within none at m.0 m.3.1.0 (subst (λ (a : CommitAnswer X). IfFailed a rose) is failed) m.2 m.3.0 m.3.1.1)
+      (disk_ends knows rose moment k last job name base settled v x e few on within none at properties m.0 m.2.0 m.2.4.1.0 undated m.1 (subst (λ (a : CommitAnswer X). IfFailed a rose) is failed) m.2.2 m.2.3 m.2.4.0 m.2.4.1.1)
 
   pub bench_by : (knows : View → Type 0) (answer : JobAnswer) → answer ≡ answers.Stopped job.line (Outside outside.Bench) → r ≡ replies.BenchFault → Meets knows back moment properties v x r → EndsFrom knows rose moment k (jobs.Commit job) answer v
   bench_by knows answer answer_is is meets =
       let m = subst (λ (a : CommitAnswer X). Meets knows back moment properties v x a) is meets in
       subst (λ (a : JobAnswer). EndsFrom knows rose moment k (jobs.Commit job) a v) (sym answer_is)
-      (bench_ends knows rose moment k last job name base settled v x e few on within none m.0 m.2.1.0 m.1 m.2.0 m.2.1.1)
+      (bench_ends knows rose moment k last job name base settled v x e few on within none m.0 m.3.1.0 m.1 m.2 m.3.0 m.3.1.1)
 
 -- where it was handed back, the pass is in no section, and knows its name to be given
 pub back_due : {X : Type 0} (back : List Recorded → Txn → X → Type 0) (r : CommitAnswer X) (moment : ℕ) (properties : List (List ℕ × List ℕ)) (v : View) (x : Txn) (knows : View → Type 0) (bar : CommitBar) (t : X) (n : ℕ) → v.section ≡ None → IsIn x.name v.given

@@ -1,6 +1,7 @@
 -- What two workers need of the first pass of a repository that was just opened, and what they come to.
 use Rattle.std.proofs.Common.{◌≡◌, ℕ, List, [], length, true, false, refl, sym, ap, subst, ◌∙◌}
 use Rattle.std.specs.Prelude.{Option, Some, None, IfSome, is_some}
+use Rattle.fsfs_tree.specs.Dated.{last_of}
 use Rattle.fsfs_tree.specs.Revisions.{Revision}
 use Rattle.fsfs_layout.specs.declared.layout.Layout.{Layout}
 use Rattle.fsfs_disk.specs.Trace.{Trace, FirmNames, Performs}
@@ -14,6 +15,7 @@ use Rattle.fsfs_repo.specs.Known.{HoldBytes}
 use Rattle.fsfs_repo.specs.Shared.FirstPass.{SeesAll}
 use Rattle.fsfs_script.specs.declared.job_lines.job.Job.{Job}
 use Rattle.fsfs_jobs.specs.declared.answer.JobAnswer.{JobAnswer}
+use Rattle.fsfs_job_run.specs.Workers.Beside.{IsOfOne}
 use Rattle.fsfs_job_run.specs.Runs.{HoldsAll}
 use Rattle.fsfs_workers.specs.Ready.{IsReady}
 use Rattle.fsfs_workers.specs.Two.{RanTwo}
@@ -43,8 +45,8 @@ module _ (before told : Option Trace) (v : SeatView) (firm : Performs FirmNames 
     outside = λ knows. (sees knows).1.outside;
   }
 
-  pub has_nothing : v.told ≡ true → (v.opened ≡ length v.seen) × (v.pass.mine ≡ []) × (v.pass.faults ≡ []) × HoldBytes v.since.files v.seen
-  has_nothing knows = let s = (sees knows).1 in (s.opened, s.mine, s.faults, subst (λ (n : Since). HoldBytes n.files v.seen) (sym s.since) s.bytes)
+  pub has_nothing : v.told ≡ true → (v.opened ≡ length v.seen) × (v.pass.mine ≡ []) × (v.pass.faults ≡ []) × HoldBytes v.since.files v.seen × (v.left ≡ None)
+  has_nothing knows = let s = (sees knows).1 in (s.opened, s.mine, s.faults, subst (λ (n : Since). HoldBytes n.files v.seen) (sym s.since) s.bytes, s.left)
 
 -- ---- what became of them
 
@@ -53,7 +55,8 @@ beside moment since later js answers youngest h t same r = record {
   now = r.now;
   lines = r.lines;
   last = r.last;
-  held = subst (λ n. (all : HoldsAll n t h (revisions r.now)) × (all.seen ≡ r.now)) same r.held;
+  held = subst (λ n. (all : HoldsAll n t h (revisions r.now)) × (all.seen ≡ r.now) × IfSome all.doubt (IsOfOne moment (revisions r.now) (last_of h) js)) same r.held;
+  full = r.full;
   stuck = r.stuck;
   certain = r.certain;
 }

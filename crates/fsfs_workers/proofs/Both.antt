@@ -1,19 +1,22 @@
 -- What two workers did, over the seat into which the second one's was joined.
-use Rattle.std.proofs.Common.{◌≡◌, ◌<◌, ◌≤◌, ◌+◌, ◌-◌, ◌/◌, ℕ, zero, suc, List, [], ◌∷◌, ◌++◌, length, Bool, true, false, cond, ap, sym, subst, refl, ◌∙◌, arith}
-use Rattle.std.specs.Prelude.{Option, Some, None, is_some}
+use Rattle.std.proofs.Common.{◌≡◌, ◌⊎◌, ◌<◌, ◌≤◌, ◌+◌, ◌-◌, ◌/◌, ℕ, zero, suc, List, [], ◌∷◌, ◌++◌, ◌||◌, length, Bool, true, false, cond, inl, inr, ⊎_elim, ap, sym, subst, refl, ◌∙◌, arith}
+use Rattle.std.specs.Prelude.{Option, Some, None, is_some, slice_get}
 use Rattle.fsfs_disk.specs.Trace.{Trace}
 use Rattle.fsfs_base.specs.declared.places.place.DiskPlace.{DiskPlace}
+use Rattle.fsfs_tree.specs.Revisions.{Revision}
+use Rattle.fsfs_machine.specs.declared.machine.Coming.{Coming}
 use Rattle.fsfs_machine.specs.declared.machine.Recorded.{Recorded}
 use Rattle.fsfs_machine.specs.Machine.{either_place, revisions}
 use Rattle.fsfs_turn.specs.Alone.{BringsNoDoubt, are_harmless, brings_doubt}
 use Rattle.fsfs_turn.specs.Views.{View, Begins}
 use Rattle.fsfs_pass.specs.declared.seats.seat_view.Kin.{Kin}
 use Rattle.fsfs_pass.specs.declared.seats.seat_view.SeatView.{SeatView}
-use Rattle.fsfs_pass.specs.Seats.{view_of, halved_view, split_pass, numbered_view, joined_view}
+use Rattle.fsfs_pass.specs.Seats.{view_of, either_left, halved_view, split_pass, numbered_view, joined_view}
 use Rattle.fsfs_pass.proofs.Following.{grown_long}
 use Rattle.fsfs_script.specs.declared.job_lines.job.Job.{Job}
 use Rattle.fsfs_jobs.specs.declared.answer.JobAnswer.{JobAnswer}
 use Rattle.fsfs_job_run.specs.Serial.Jobs.{own_of_all, TellNoDoubt, bench_faults_in}
+use Rattle.fsfs_job_run.specs.Workers.Beside.{IsOfOne}
 use Rattle.fsfs_job_run.specs.Workers.Lines.{WorkerLines, dealt, disk_faults_in, RoseBy}
 use Rattle.fsfs_job_run.specs.Workers.Passes.{last_known, IsOnward, WorkJobs, End, More}
 use Rattle.fsfs_job_run.proofs.BesideLemmas.{begins_on, onward, worked}
@@ -23,7 +26,8 @@ use Rattle.fsfs_workers.specs.Two.{BothWorked}
 use Rattle.fsfs_workers.specs.OneWorker.{HasWorked}
 use Rattle.fsfs_workers.proofs.Counting.{faults_in_turn, benches_in_turn}
 use Rattle.fsfs_workers.proofs.InTurnLemmas.{first_share, second_share, shares_are_dealt, shares_are_all, length_in_turn}
-use Rattle.fsfs_workers.proofs.Shares.{share_is_calm, none_stuck}
+use Rattle.fsfs_job_run.proofs.Full.{then_true}
+use Rattle.fsfs_workers.proofs.Shares.{either_full, share_is_calm, none_stuck}
 
 -- ---- what its jobs leave
 
@@ -55,6 +59,16 @@ neither_stuck : (a b : Option DiskPlace) → either_place a b ≡ None → (is_s
 neither_stuck (Some at) b e = let no : Some at ≡ None = e in absurd cc
 neither_stuck None b e = (refl, ap is_some e)
 
+-- a job that was dealt out is one of all
+dealt_in : (n w : ℕ) (js : List Job) (i : ℕ) (job : Job) → slice_get (dealt n w js) i ≡ Some job → (j : ℕ) × (slice_get js j ≡ Some job)
+dealt_in n w [] i job e = (i, e)
+dealt_in n zero (x ∷ js) zero job e = (0, e)
+dealt_in n zero (x ∷ js) (suc i) job e = let r = dealt_in n (n - 1) js i job e in (suc r.0, r.1)
+dealt_in n (suc w) (x ∷ js) i job e = let r = dealt_in n w js i job e in (suc r.0, r.1)
+
+of_share : (moment : ℕ) (h : List Revision) (k w : ℕ) (js : List Job) (next : Revision) → IsOfOne moment h k (dealt 2 w js) next → IsOfOne moment h k js next
+of_share moment h k w js next o = let at = dealt_in 2 w js o.at o.job o.is in record { at = at.0; job = o.job; is = at.1; was = o.was }
+
 pub both_worked : (moment : ℕ) (js : List Job) (answers : List JobAnswer) (v one two : SeatView) (n : ℕ) (met last : Option Trace) → length answers ≡ length js
     → WorkJobs moment (dealt 2 0 js) (dealt 2 0 answers) (view_of (halved_view v)) (view_of one)
     → WorkJobs moment (dealt 2 1 js) (dealt 2 1 answers) (view_of (numbered_view n met (split_pass v))) (view_of two)
@@ -79,9 +93,27 @@ both_worked moment js answers v one two n met last each a b first_kin second_kin
       doubtless = λ calm few. both_harmless one.pass.faults two.pass.faults
           (without_doubt moment (dealt 2 0 js) (dealt 2 0 answers) (view_of (halved_view v)) (view_of one) a (share_is_calm 2 0 answers calm) few)
           (without_doubt moment (dealt 2 1 js) (dealt 2 1 answers) (view_of (numbered_view n met (split_pass v))) (view_of two) b (share_is_calm 2 1 answers calm) refl);
+      left = λ clear. of_both clear first.left second.left;
+      full = λ told. ⊎_elim (λ one_told. ap (λ (b : Bool). b || two.full) (first.names one_told)) (λ two_told. then_true one.full two.full (second.names two_told)) (either_full answers told);
       found = λ none. let free = neither_stuck one.pass.stuck two.pass.stuck none in none_stuck answers (first.stuck free.0) (second.stuck free.1);
     }
   where
+    on_first : (h : List Recorded) → IsOnward (view_of (joined_view last one two)) h → IsOnward (view_of one) h
+    on_first h on = onward h (view_of one) (view_of (joined_view last one two)) first_seen (knows_less (view_of (joined_view last one two)) (view_of one) first_seen (omega arith)) on
+
+    on_second : (h : List Recorded) → IsOnward (view_of (joined_view last one two)) h → IsOnward (view_of two) h
+    on_second h on = onward h (view_of two) (view_of (joined_view last one two)) second_seen (knows_less (view_of (joined_view last one two)) (view_of two) second_seen (omega arith)) on
+
+    -- what is left in doubt is what one of them left so
+    of_both : v.left ≡ None
+        → (one.left ≡ v.left) ⊎ ((c : Coming) × (one.left ≡ Some c) × ((h : List Recorded) → IsOnward (view_of one) h → IsOfOne moment (revisions h) (last_known (view_of v)) (dealt 2 0 js) c.revision))
+        → (two.left ≡ None) ⊎ ((c : Coming) × (two.left ≡ Some c) × ((h : List Recorded) → IsOnward (view_of two) h → IsOfOne moment (revisions h) (last_known (view_of v)) (dealt 2 1 js) c.revision))
+        → (either_left one.left two.left ≡ None) ⊎ ((c : Coming) × (either_left one.left two.left ≡ Some c) × ((h : List Recorded) → IsOnward (view_of (joined_view last one two)) h → IsOfOne moment (revisions h) (last_known (view_of v)) js c.revision))
+    of_both clear (inr (c, is, of)) second = inr (c, ap (λ (o : Option Coming). either_left o two.left) is, λ h on. of_share moment (revisions h) (last_known (view_of v)) 0 js c.revision (of h (on_first h on)))
+    of_both clear (inl same) (inl none) = inl (ap (λ (o : Option Coming). either_left o two.left) (same ∙ clear) ∙ none)
+    of_both clear (inl same) (inr (c, is, of)) =
+        inr (c, ap (λ (o : Option Coming). either_left o two.left) (same ∙ clear) ∙ is, λ h on. of_share moment (revisions h) (last_known (view_of v)) 1 js c.revision (of h (on_second h on)))
+
     lines : (h : List Recorded) → IsOnward (view_of (joined_view last one two)) h → (w : ℕ) → w < 2 → WorkerLines moment h (last_known (view_of v)) (dealt 2 w js) (dealt 2 w answers)
     lines h on zero less =
         (worked moment (dealt 2 0 js) (dealt 2 0 answers) (view_of (halved_view v)) (view_of one) a).lines h

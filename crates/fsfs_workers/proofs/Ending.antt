@@ -1,9 +1,9 @@
 -- The end of a job's transaction, beside others.
-use Rattle.std.proofs.Common.{◌≡◌, ◌≤◌, ◌+◌, ℕ, List, [], ◌∷◌, Bool, false, length, length-append, take, refl, sym, ap, subst, ◌∙◌, inl, arith}
+use Rattle.std.proofs.Common.{◌≡◌, ◌≤◌, ◌+◌, ℕ, List, [], ◌∷◌, Bool, false, length, length-append, take, refl, sym, ap, subst, ◌∙◌, inl, inr, arith}
 use Rattle.std.specs.BTreeMap.{insert_entry}
 use Rattle.std.specs.Cmp.Lexicographic.{slice_cmp}
 use Rattle.std.specs.Ordering.{nat_cmp}
-use Rattle.std.specs.Prelude.{None}
+use Rattle.std.specs.Prelude.{Option, Some, None}
 use Rattle.fsfs_base.specs.declared.fields.txn_name.TxnName.{TxnName}
 use Rattle.fsfs_base.specs.declared.places.place.DiskPlace.{DiskPlace}
 use Rattle.fsfs_tree.specs.Dated.{date_name, last_of}
@@ -18,7 +18,7 @@ use Rattle.fsfs_turn.proofs.Longer.{txn_later}
 use Rattle.fsfs_turn.proofs.Reading.{begins_on}
 use Rattle.fsfs_turn.proofs.Moments.{begins_take}
 use Rattle.fsfs_turn.proofs.Alone.{no_shorter}
-use Rattle.fsfs_repo.specs.Replies.{Committed, Moved}
+use Rattle.fsfs_repo.specs.Replies.{Committed, LeavesDoubt, Moved, Wrote}
 use Rattle.fsfs_repo.specs.Works.{Landings}
 use Rattle.fsfs_repo.specs.Dating.{IsDatedAt}
 use Rattle.fsfs_repo.specs.Txns.Commits.{Bars, IsDropped}
@@ -36,10 +36,10 @@ use Rattle.fsfs_job_run.specs.Faults.{answer_of_bar}
 use Rattle.fsfs_job_run.proofs.PropertyLemmas.{job_dated}
 use Rattle.fsfs_job_run.proofs.Seen.{over_seen}
 use Rattle.fsfs_job_run.specs.Workers.Beside.{IsBase}
-use Rattle.fsfs_job_run.specs.Workers.Passes.{IsOnward}
-use Rattle.fsfs_workers.specs.Working.{EndsFrom, GoesOnKnown, IsEditedOver, IsEditedTxn, up_to}
+use Rattle.fsfs_job_run.specs.Workers.Passes.{IsOnward, LeftBeside}
+use Rattle.fsfs_workers.specs.Working.{EndsFrom, GoesOn, GoesOnKnown, IsEditedOver, IsEditedTxn, up_to}
 use Rattle.fsfs_workers.proofs.Parts.{parts_of, part_length}
-use Rattle.fsfs_workers.proofs.Lines.{is_base, base_later, last_is, full_line, clash_line, committed_line, clash_over, edited_later}
+use Rattle.fsfs_workers.proofs.Lines.{is_base, base_later, last_is, full_line, clash_line, committed_line, wrote_line, clash_over, edited_later}
 use Rattle.fsfs_workers.proofs.Going.{goes_on, by_falling, by_dropping, ends_so, fails_so}
 
 module _ (knows : View → Type 0) (rose : Type 0) (moment k last : ℕ) (job : CommitJob) (name : TxnName) (base : ℕ) (settled : Folder) (v : View) (x : Txn) (e : IsEditedTxn job last name base settled v x) (few : k ≤ last) (on : base ≡ base_of job.base last) (within : base ≤ last) (none : v.section ≡ None) where
@@ -73,7 +73,9 @@ module _ (knows : View → Type 0) (rose : Type 0) (moment k last : ℕ) (job : 
       own = left.2.own ∙ c.mine;
       outside = left.2.outside;
       doubtless = λ calm harmless. left.2.doubtless (c.doubtless harmless);
+      left = inl (left.2.left ∙ c.left);
       still = λ found. left.2.still (c.still found);
+      full = λ full. left.2.full (c.full full);
     },
     tt,
   )
@@ -89,7 +91,7 @@ module _ (knows : View → Type 0) (rose : Type 0) (moment k last : ℕ) (job : 
 
   -- ---- nothing was added, and it was purged behind that
 
-  module _ (u : View) (y : Txn) (moved : Moved v u) (brings : BringsNoDoubt v u) (landings : Landings u.seen x y) (hist : IsHistory (revisions u.seen)) (left : GoesOnKnown knows u) where
+  module _ (u : View) (y : Txn) (moved : Moved v u) (brings : BringsNoDoubt v u) (kept : u.left ≡ v.left) (landings : Landings u.seen x y) (hist : IsHistory (revisions u.seen)) (left : GoesOnKnown knows u) where
     onward_of : (h : List Recorded) → IsOnward left.0 h → Begins h u.seen
     onward_of h onward = begins_on u.seen left.0.seen h left.2.grows onward.begins
 
@@ -100,7 +102,7 @@ module _ (knows : View → Type 0) (rose : Type 0) (moment k last : ℕ) (job : 
     barred_ends (bars.Conflict path head) b = (
       left.0,
       left.1,
-      ends_so moment k (jobs.Commit job) (answers.Conflict head path) v left.0 (goes_on v u left.0 (by_falling v u none moved brings) left.2) refl (omega (arith, b.0, left.2.least)) (λ h onward.
+      ends_so moment k (jobs.Commit job) (answers.Conflict head path) v left.0 (goes_on v u left.0 (by_falling v u none moved brings kept) left.2) refl (omega (arith, b.0, left.2.least)) (λ h onward.
           let g = take (head + 1) u.seen in
           let long : length g ≡ head + 1 = part_length head u.seen b.2.there in
           let seen = begins_take (head + 1) u.seen in
@@ -113,7 +115,7 @@ module _ (knows : View → Type 0) (rose : Type 0) (moment k last : ℕ) (job : 
     barred_ends bars.RevsFull b = (
       left.0,
       left.1,
-      ends_so moment k (jobs.Commit job) (answer_of_bar job.line bars.RevsFull) v left.0 (goes_on v u left.0 (by_falling v u none moved brings) left.2) refl (omega arith) (λ h onward.
+      ends_so moment k (jobs.Commit job) (answer_of_bar job.line bars.RevsFull) v left.0 (goes_on v u left.0 (by_falling v u none moved brings kept) left.2) refl (omega arith) (λ h onward.
           let top = u.pass.least in
           let full : 2147483647 ≤ top = b in
           let g = take (top + 1) h in
@@ -124,21 +126,28 @@ module _ (knows : View → Type 0) (rose : Type 0) (moment k last : ℕ) (job : 
       tt,
     )
     barred_ends (bars.Stuck at) b =
-        (left.0, left.1, fails_so moment k (jobs.Commit job) (answer_of_bar job.line (bars.Stuck at)) v u left.0 moved none left.2 (λ calm. brings) refl refl (ByStuck (jobs.Commit job) job.line at) (λ P. tt), left.3 ∙ b)
+        (left.0, left.1, fails_so moment k (jobs.Commit job) (answer_of_bar job.line (bars.Stuck at)) v u left.0 moved none left.2 (λ calm. brings) (inl (left.2.left ∙ kept)) refl refl (ByStuck (jobs.Commit job) job.line at) (λ P. tt), left.3 ∙ b)
     barred_ends (bars.Wrong wrong) b = absurd b
     barred_ends (bars.PastLimit limit) b =
-        (left.0, left.1, fails_so moment k (jobs.Commit job) (answer_of_bar job.line (bars.PastLimit limit)) v u left.0 moved none left.2 (λ calm. brings) refl refl (ByMemory (jobs.Commit job) job.line) (λ P. tt), tt)
+        (left.0, left.1, fails_so moment k (jobs.Commit job) (answer_of_bar job.line (bars.PastLimit limit)) v u left.0 moved none left.2 (λ calm. brings) (inl (left.2.left ∙ kept)) refl refl (ByMemory (jobs.Commit job) job.line) (λ P. tt), tt)
     barred_ends bars.Lacking b = absurd b
-    barred_ends bars.Memory b = (left.0, left.1, fails_so moment k (jobs.Commit job) (answer_of_bar job.line bars.Memory) v u left.0 moved none left.2 (λ calm. brings) refl refl (ByMemory (jobs.Commit job) job.line) (λ P. tt), tt)
+    barred_ends bars.Memory b = (left.0, left.1, fails_so moment k (jobs.Commit job) (answer_of_bar job.line bars.Memory) v u left.0 moved none left.2 (λ calm. brings) (inl (left.2.left ∙ kept)) refl refl (ByMemory (jobs.Commit job) job.line) (λ P. tt), tt)
 
   -- ---- nothing was added, and it is no more
 
-  pub disk_ends : (at : DiskPlace) (u : View) (gone : Bool) → rose → (brings_doubt at ≡ false → BringsNoDoubt v u) → Moved v u → IsDropped knows gone x.name u → EndsFrom knows rose moment k (jobs.Commit job) (answers.Stopped job.line (Outside (outside.Disk at))) v
-  disk_ends at u gone up brings moved dropped =
+  pub disk_ends : (at : DiskPlace) (properties dated : List (List ℕ × List ℕ)) (u : View) (gone : Bool) → properties ≡ undated_properties job → IsDatedAt moment properties dated → rose → (brings_doubt at ≡ false → BringsNoDoubt v u) → LeavesDoubt (Wrote dated v u x) v u → Moved v u → IsDropped knows gone x.name u → EndsFrom knows rose moment k (jobs.Commit job) (answers.Stopped job.line (Outside (outside.Disk at))) v
+  disk_ends at properties dated u gone undated date up brings doubt moved dropped =
       let left = by_dropping knows gone x.name u (moved.section ∙ none) dropped in
-      (left.0, left.1, fails_so moment k (jobs.Commit job) (answers.Stopped job.line (Outside (outside.Disk at))) v u left.0 moved none left.2 brings refl refl (ByDisk (jobs.Commit job) job.line at) (λ P. tt), up)
+      (left.0, left.1, fails_so moment k (jobs.Commit job) (answers.Stopped job.line (Outside (outside.Disk at))) v u left.0 moved none left.2 brings (left_by left.0 left.2 doubt) refl refl (ByDisk (jobs.Commit job) job.line at) (λ P. tt), up)
+    where
+      -- the revision that was to be added, over what the pass knows behind the purge
+      left_by : (w : View) → GoesOn u w → LeavesDoubt (Wrote dated v u x) v u → LeftBeside moment k (jobs.Commit job) v w
+      left_by w g (inl same) = inl (g.left ∙ same)
+      left_by w g (inr (c, is, wrote)) =
+          inr (c, g.left ∙ is, λ h onward. wrote_line moment k job date.0 dated v u x c wrote (up_to last v) base h (begins_on u.seen w.seen h g.grows onward.begins) (begins_take (last + 1) v.seen) (omega (arith, few, part_long))
+              (on_part (up_to last v) last part_long (omega arith)) e.edited date.1 (date.2 ∙ ap (λ (p : List (List ℕ × List ℕ)). insert_entry (slice_cmp nat_cmp) p date_name date.0) undated ∙ job_dated date.0 job))
 
-  pub bench_ends : (u : View) (gone : Bool) → BringsNoDoubt v u → Moved v u → IsDropped knows gone x.name u → EndsFrom knows rose moment k (jobs.Commit job) (answers.Stopped job.line (Outside outside.Bench)) v
-  bench_ends u gone brings moved dropped =
+  pub bench_ends : (u : View) (gone : Bool) → BringsNoDoubt v u → u.left ≡ v.left → Moved v u → IsDropped knows gone x.name u → EndsFrom knows rose moment k (jobs.Commit job) (answers.Stopped job.line (Outside outside.Bench)) v
+  bench_ends u gone brings kept moved dropped =
       let left = by_dropping knows gone x.name u (moved.section ∙ none) dropped in
-      (left.0, left.1, fails_so moment k (jobs.Commit job) (answers.Stopped job.line (Outside outside.Bench)) v u left.0 moved none left.2 (λ calm. brings) refl refl (ByBench (jobs.Commit job) job.line) (λ P. tt), tt)
+      (left.0, left.1, fails_so moment k (jobs.Commit job) (answers.Stopped job.line (Outside outside.Bench)) v u left.0 moved none left.2 (λ calm. brings) (inl (left.2.left ∙ kept)) refl refl (ByBench (jobs.Commit job) job.line) (λ P. tt), tt)

@@ -1,5 +1,5 @@
 -- What a pass knows behind calls by which it added nothing.
-use Rattle.std.proofs.Common.{◌≡◌, ◌<◌, ◌≤◌, ℕ, List, [], ◌∷◌, ◌++◌, length, Bool, true, false, refl, sym, ap, subst, ◌∙◌, inr, arith, append-nil}
+use Rattle.std.proofs.Common.{◌≡◌, ◌<◌, ◌≤◌, ℕ, List, [], ◌∷◌, ◌++◌, length, Bool, true, false, refl, sym, ap, subst, ◌∙◌, inl, inr, arith, append-nil}
 use Rattle.std.specs.Prelude.{None, Result, Ok, Err, is_some}
 use Rattle.fsfs_base.specs.declared.fields.txn_name.TxnName.{TxnName}
 use Rattle.fsfs_base.specs.declared.places.place.DiskPlace.{DiskPlace}
@@ -33,11 +33,13 @@ use Rattle.fsfs_jobs.specs.declared.answer.JobAnswer.TheVariants as answers
 use Rattle.fsfs_cli.specs.declared.faults.fault.Fault.{Fault}
 use Rattle.fsfs_cli.specs.declared.faults.fault.Fault.TheVariants.{Words, Request, Repository, Outside, Memory, Limit}
 use Rattle.fsfs_cli.specs.declared.faults.outside_fault.OutsideFault.TheVariants as outside
-use Rattle.fsfs_job_run.specs.Serial.Jobs.{own_of, tells_doubt, tells_stuck, Fails}
+use Rattle.fsfs_cli.specs.declared.faults.limit_fault.LimitFault.{LimitFault}
+use Rattle.fsfs_cli.specs.declared.faults.limit_fault.LimitFault.TheVariants as limits
+use Rattle.fsfs_job_run.specs.Serial.Jobs.{own_of, tells_doubt, tells_full, tells_stuck, Fails}
 use Rattle.fsfs_job_run.specs.Serial.Counts.{IfCounted}
 use Rattle.fsfs_job_run.specs.Running.{HasOutsideCause}
 use Rattle.fsfs_job_run.specs.Workers.Beside.{CountsIn, LineHolds, shown_in}
-use Rattle.fsfs_job_run.specs.Workers.Passes.{IsOnward, WorksJob, last_known}
+use Rattle.fsfs_job_run.specs.Workers.Passes.{IsOnward, LeftBeside, WorksJob, last_known}
 use Rattle.fsfs_workers.specs.Working.{GoesOn, GoesOnKnown, WorksFrom}
 
 -- ---- one after another
@@ -53,7 +55,9 @@ goes_on v m u a b = record {
   given = λ k there. b.given k (a.given k there);
   outside = b.outside;
   doubtless = λ few. b.doubtless (a.doubtless few);
+  left = b.left ∙ a.left;
   still = λ found. b.still (a.still found);
+  full = λ full. b.full (a.full full);
 }
 
 -- the last revision that it knows is as young as before or younger
@@ -79,7 +83,9 @@ by_look young v u none l = record {
   given = same_names v u (ap {A = View} (λ z. z.given) l.is);
   outside = ap {A = View} (λ z. z.section) l.is ∙ none;
   doubtless = same_faults v u (ap {A = View} (λ z. z.pass.faults) l.is);
+  left = ap {A = View} (λ z. z.left) l.is;
   still = still_found v u (ap {A = View} (λ z. z.pass.stuck) l.is);
+  full = λ full. ap {A = View} (λ z. z.full) l.is ∙ full;
 }
 
 pub by_reading : (v u : View) → v.section ≡ None → ReadOnly v u → GoesOn v u
@@ -93,7 +99,9 @@ by_reading v u none r = record {
   given = same_names v u (ap {A = View} (λ z. z.given) r.is);
   outside = ap {A = View} (λ z. z.section) r.is ∙ none;
   doubtless = r.doubtless;
+  left = ap {A = View} (λ z. z.left) r.is;
   still = still_found v u (ap {A = View} (λ z. z.pass.stuck) r.is);
+  full = λ full. ap {A = View} (λ z. z.full) r.is ∙ full;
 }
 
 -- the floor was read: the pass has seen what it was told of
@@ -115,7 +123,9 @@ by_floor floor went v u none f = (
     given = same_names v u (ap {A = View} (λ z. z.given) f.is);
     outside = ap {A = View} (λ z. z.section) f.is ∙ none;
     doubtless = λ few. ap {A = View} (λ z. are_harmless z.pass.faults) f.is ∙ floor_harmless went v.pass.faults few;
+    left = ap {A = View} (λ z. z.left) f.is;
     still = still_found v u (ap {A = View} (λ z. z.pass.stuck) f.is);
+    full = λ full. ap {A = View} (λ z. z.full) f.is ∙ full;
   },
   ap {A = View} (λ z. z.pass.stuck) f.is,
   least,
@@ -141,7 +151,9 @@ by_moving v u m = record {
   given = λ k there. subst (λ (xs : List ℕ). IsIn k xs) (sym m.given) (among_more k m.more v.given there);
   outside = m.outside;
   doubtless = m.doubtless;
+  left = m.left;
   still = m.still;
+  full = m.full;
 }
 
 -- one that was done
@@ -156,12 +168,14 @@ by_beginning name base settled v u b = record {
   given = λ k there. subst (λ (xs : List ℕ). IsIn k xs) (sym (ap {A = View} (λ z. z.given) b.is)) (inr there);
   outside = ap {A = View} (λ z. z.section) b.is;
   doubtless = b.doubtless;
+  left = ap {A = View} (λ z. z.left) b.is;
   still = still_found v u (ap {A = View} (λ z. z.pass.stuck) b.is);
+  full = λ full. ap {A = View} (λ z. z.full) b.is ∙ full;
 }
 
 -- a commit that added nothing
-pub by_falling : (v u : View) → v.section ≡ None → CommitMoved v u → BringsNoDoubt v u → GoesOn v u
-by_falling v u none m brings = record {
+pub by_falling : (v u : View) → v.section ≡ None → CommitMoved v u → BringsNoDoubt v u → u.left ≡ v.left → GoesOn v u
+by_falling v u none m brings kept = record {
   number = m.drifted.number;
   since = m.drifted.since;
   opened = m.drifted.opened;
@@ -171,7 +185,9 @@ by_falling v u none m brings = record {
   given = same_names v u m.drifted.given;
   outside = m.section ∙ none;
   doubtless = brings;
+  left = kept;
   still = m.drifted.still;
+  full = m.drifted.full;
 }
 
 -- a purge
@@ -186,7 +202,9 @@ by_purge lay step v u none p = record {
   given = same_names v u (ap {A = View} (λ z. z.given) p.is);
   outside = ap {A = View} (λ z. z.section) p.is ∙ none;
   doubtless = same_faults v u (ap {A = View} (λ z. z.pass.faults) p.is);
+  left = ap {A = View} (λ z. z.left) p.is;
   still = still_found v u (ap {A = View} (λ z. z.pass.stuck) p.is);
+  full = λ full. ap {A = View} (λ z. z.full) p.is ∙ full;
 }
 
 by_no_purge : (place : DiskPlace) (lay : World → World) (step : Step) (v u : View) → brings_doubt place ≡ false → v.section ≡ None → HasNotPurged place lay step v u → GoesOn v u
@@ -200,7 +218,9 @@ by_no_purge place lay step v u harmless none p = record {
   given = same_names v u (ap {A = View} (λ z. z.given) p.is);
   outside = ap {A = View} (λ z. z.section) p.is ∙ none;
   doubtless = fault_more place v u (ap {A = View} (λ z. z.pass.faults) p.is) harmless;
+  left = ap {A = View} (λ z. z.left) p.is;
   still = still_found v u (ap {A = View} (λ z. z.pass.stuck) p.is);
+  full = λ full. ap {A = View} (λ z. z.full) p.is ∙ full;
 }
 
 pub by_purging : (knows : View → Type 0) (lay : World → World) (step : Went → Step) (result : Result (Unit {0}) PurgeFault) (v : View) → v.section ≡ None → Purges knows lay step result v → GoesOnKnown knows v
@@ -227,13 +247,15 @@ ends_so moment k job answer v u g none shown line = record {
   own = g.own ∙ sym (append-nil v.pass.mine) ∙ ap (λ (l : List ℕ). v.pass.mine ++ l) (sym none);
   outside = g.outside;
   doubtless = λ calm. g.doubtless;
+  left = inl g.left;
   still = g.still;
+  full = g.full;
 }
 
 -- or it failed, so that a revision may be in doubt
-pub fails_so : (moment k : ℕ) (job : Job) (answer : JobAnswer) (v m u : View) → CommitMoved v m → v.section ≡ None → GoesOn m u → (tells_doubt answer ≡ false → BringsNoDoubt v m) → own_of answer ≡ [] → shown_in answer ≡ 0 → Fails job answer
+pub fails_so : (moment k : ℕ) (job : Job) (answer : JobAnswer) (v m u : View) → CommitMoved v m → v.section ≡ None → GoesOn m u → (tells_doubt answer ≡ false → BringsNoDoubt v m) → LeftBeside moment k job v u → own_of answer ≡ [] → shown_in answer ≡ 0 → Fails job answer
     → ((P : CommitJob → ℕ → Fault → Type 0) → IfCounted job answer P) → WorksFrom moment k job answer v u
-fails_so moment k job answer v m u moved none g brings bare shows fails counts = record {
+fails_so moment k job answer v m u moved none g brings left bare shows fails counts = record {
   line = λ h on. inr (fails, counts (CountsIn h k));
   grows = begins_on v.seen m.seen u.seen moved.drifted.grows g.grows;
   later = omega (arith, moved.drifted.least, g.least, no_shorter v.seen m.seen moved.drifted.grows, no_shorter m.seen u.seen g.grows);
@@ -243,7 +265,9 @@ fails_so moment k job answer v m u moved none g brings bare shows fails counts =
   own = g.own ∙ moved.drifted.mine ∙ sym (append-nil v.pass.mine) ∙ ap (λ (l : List ℕ). v.pass.mine ++ l) (sym bare);
   outside = g.outside;
   doubtless = λ calm few. g.doubtless (brings calm few);
+  left = left;
   still = λ found. g.still (moved.drifted.still found);
+  full = λ full. g.full (moved.drifted.full full);
 }
 
 -- the same, of a job that added nothing
@@ -262,8 +286,14 @@ ends_behind moment k job answer v m u g w = record {
   own = w.own ∙ ap (λ (l : List ℕ). l ++ own_of answer) g.own;
   outside = w.outside;
   doubtless = λ calm few. w.doubtless calm (g.doubtless few);
+  left = left_behind w.left;
   still = λ found. w.still (g.still found);
+  full = λ full. w.full (g.full full);
 }
+  where
+    left_behind : LeftBeside moment k job m u → LeftBeside moment k job v u
+    left_behind (inl same) = inl (same ∙ g.left)
+    left_behind (inr d) = inr d
 
 -- it tells that the lock is stuck only where it was found so
 told_stuck : (rose : Type 0) (u : View) (answer : JobAnswer) → HasOutsideCause rose u answer → tells_stuck answer ≡ true → is_some u.pass.stuck ≡ true
@@ -282,6 +312,26 @@ told_stuck rose u (answers.Stopped line (Outside (outside.Stuck at))) cause told
 told_stuck rose u (answers.Stopped line Memory) cause told = absurd cc
 told_stuck rose u (answers.Stopped line (Limit why)) cause told = absurd cc
 
+-- nor that no name is left, but where it has met the last number of a name
+limit_full : (rose : Type 0) (u : View) (line : ℕ) (why : LimitFault) → HasOutsideCause rose u (answers.Stopped line (Limit why)) → tells_full (answers.Stopped line (Limit why)) ≡ true → u.full ≡ true
+limit_full rose u line limits.TextTooLong cause told = absurd cc
+limit_full rose u line limits.PropTooLong cause told = absurd cc
+limit_full rose u line limits.TooManyEntries cause told = absurd cc
+limit_full rose u line limits.TooManyJobs cause told = absurd cc
+limit_full rose u line limits.NamesFull cause told = cause
+limit_full rose u line limits.RevsFull cause told = absurd cc
+
+told_full : (rose : Type 0) (u : View) (answer : JobAnswer) → HasOutsideCause rose u answer → tells_full answer ≡ true → u.full ≡ true
+told_full rose u (answers.Committed rev) cause told = absurd cc
+told_full rose u (answers.Read text) cause told = absurd cc
+told_full rose u (answers.Conflict head path) cause told = absurd cc
+told_full rose u (answers.Stopped line (Words why)) cause told = absurd cc
+told_full rose u (answers.Stopped line (Request why)) cause told = absurd cc
+told_full rose u (answers.Stopped line (Repository why)) cause told = absurd cc
+told_full rose u (answers.Stopped line (Outside why)) cause told = absurd cc
+told_full rose u (answers.Stopped line Memory) cause told = absurd cc
+told_full rose u (answers.Stopped line (Limit why)) cause told = limit_full rose u line why cause told
+
 -- the whole, of a worker that knew what the pass knew
 pub works_all : (rose : Type 0) (moment : ℕ) (job : Job) (answer : JobAnswer) (v u : View) → HasOutsideCause rose u answer → WorksFrom moment (last_known v) job answer v u → WorksJob moment job answer v u
 works_all rose moment job answer v u cause w = record {
@@ -294,6 +344,9 @@ works_all rose moment job answer v u cause w = record {
   own = w.own;
   outside = w.outside;
   doubtless = w.doubtless;
+  left = w.left;
   stuck = told_stuck rose u answer cause;
+  names = told_full rose u answer cause;
   still = w.still;
+  full = w.full;
 }

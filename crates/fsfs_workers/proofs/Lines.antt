@@ -11,6 +11,7 @@ use Rattle.fsfs_tree.specs.Revisions.{Revision, tree_of}
 use Rattle.fsfs_tree.specs.Answers.{found_at}
 use Rattle.fsfs_model.specs.Flat.Landing.{IsFirstClash}
 use Rattle.fsfs_model.specs.Flat.Transactions.{IsNext}
+use Rattle.fsfs_machine.specs.declared.machine.Coming.{Coming}
 use Rattle.fsfs_machine.specs.declared.machine.Recorded.{Recorded}
 use Rattle.fsfs_machine.specs.declared.machine.Txn.{Txn}
 use Rattle.fsfs_machine.specs.Machine.{revisions, entry_of}
@@ -20,7 +21,7 @@ use Rattle.fsfs_turn.proofs.Longer.{tree_first}
 use Rattle.fsfs_turn.proofs.Reading.{begins_on}
 use Rattle.fsfs_turn.proofs.Moments.{begins_take}
 use Rattle.fsfs_turn.proofs.Alone.{no_shorter}
-use Rattle.fsfs_repo.specs.Replies.{Committed}
+use Rattle.fsfs_repo.specs.Replies.{Committed, Wrote}
 use Rattle.fsfs_repo.specs.Works.{Landings}
 use Rattle.fsfs_repo.specs.Refusals.{IsClashAt}
 use Rattle.fsfs_cli.specs.declared.faults.fault.Fault.{Fault}
@@ -39,7 +40,7 @@ use Rattle.fsfs_jobs.specs.declared.answer.JobAnswer.{JobAnswer}
 use Rattle.fsfs_jobs.specs.declared.answer.JobAnswer.TheVariants as answers
 use Rattle.fsfs_job_run.specs.Serial.Jobs.{IfAdded}
 use Rattle.fsfs_job_run.proofs.Clashing.{clash_back}
-use Rattle.fsfs_job_run.specs.Workers.Beside.{IsBase, RunsBeside, ReadsText, LacksRead, LacksBase, DoesEdits, GoesOnFrom, IsDone}
+use Rattle.fsfs_job_run.specs.Workers.Beside.{IsBase, RunsBeside, ReadsText, LacksRead, LacksBase, DoesEdits, GoesOnFrom, IsDone, WasToAddTo}
 use Rattle.fsfs_workers.specs.Working.{IsEditedOver}
 use Rattle.fsfs_workers.proofs.Parts.{part_length, goes_on_from, revisions_more}
 use Rattle.fsfs_workers.proofs.Steps.{takes_later}
@@ -147,6 +148,32 @@ module _ (moment k rev : ℕ) (job : CommitJob) (date : List ℕ) (properties : 
 
       next : IsNext (revisions c.before) (entry_of w.number x (job_properties date job)) c.next.revision
       next = subst (λ (p : List (List ℕ × List ℕ)). IsNext (revisions c.before) (entry_of w.number x p) c.next.revision) are c.handed_in
+
+-- ---- one was to be added, and is left in doubt
+
+module _ (moment k : ℕ) (job : CommitJob) (date : List ℕ) (properties : List (List ℕ × List ℕ)) (v u : View) (x : Txn) (c : Coming) (w : Wrote properties v u x c) (part : List Recorded) (base : ℕ) where
+  pub wrote_line : (h : List Recorded) → Begins h u.seen → Begins v.seen part → k < length part → IsBase job.base k (last_of (revisions part)) base → IsEditedOver job part base x
+      → IsDateAt moment date → properties ≡ job_properties date job → WasToAddTo moment (revisions h) k (jobs.Commit job) c.revision
+  wrote_line h onward first known on e dated are = record {
+    before = revisions w.before;
+    known = omega (arith, known, longer, revisions_length w.before);
+    date = date;
+    dated = dated;
+    runs = DoesEdits job (answers.Committed (length (revisions w.before))) (revisions w.before ++ c.revision ∷ []) base
+        (base_later job.base k (last_of (revisions part)) (last_of (revisions w.before)) base (omega (arith, longer, revisions_length part, revisions_length w.before)) on)
+        (Done (entry_of v.number x (job_properties date job)) (answers.Committed (length (revisions w.before))) (revisions w.before ++ c.revision ∷ [])
+        (takes_later part w.before base job.steps (get x.tree) x.marks begins e.there e.takes) e.on refl (Adds c.revision next));
+    part = goes_on_from h w.before (begins_on w.before u.seen h w.seen onward);
+  }
+    where
+      begins : Begins w.before part
+      begins = begins_on part v.seen w.before first w.begins
+
+      longer : length part ≤ length w.before
+      longer = no_shorter part w.before begins
+
+      next : IsNext (revisions w.before) (entry_of v.number x (job_properties date job)) c.revision
+      next = subst (λ (p : List (List ℕ × List ℕ)). IsNext (revisions w.before) (entry_of v.number x p) c.revision) are w.is_next
 
 -- ---- of a clash with a revision that was seen
 

@@ -1,5 +1,5 @@
 -- What a run of two workers comes to, behind the close.
-use Rattle.std.proofs.Common.{◌≡◌, ◌<◌, ◌≤◌, ◌+◌, ◌++◌, ℕ, List, [], ◌∷◌, length, true, inl, inr, refl, sym, ap, subst, ◌∙◌, append-nil, arith}
+use Rattle.std.proofs.Common.{◌≡◌, ◌⊎◌, ◌<◌, ◌≤◌, ◌+◌, ◌++◌, ℕ, List, [], ◌∷◌, length, true, inl, inr, refl, sym, ap, subst, ◌∙◌, append-nil, arith}
 use Rattle.std.proofs.lemmas.List.{map-append}
 use Rattle.std.specs.Prelude.{Option, Some, None, IfSome, is_some, slice_get}
 use Rattle.fsfs_base.specs.Files.{Files}
@@ -31,10 +31,10 @@ use Rattle.fsfs_repo.specs.Shared.Left.{Leaves}
 use Rattle.fsfs_script.specs.declared.job_lines.job.Job.{Job}
 use Rattle.fsfs_jobs.specs.declared.answer.JobAnswer.{JobAnswer}
 use Rattle.fsfs_job_run.specs.Serial.Jobs.{own_of_all}
-use Rattle.fsfs_job_run.specs.Workers.Beside.{GoesOnFrom}
+use Rattle.fsfs_job_run.specs.Workers.Beside.{GoesOnFrom, IsOfOne}
 use Rattle.fsfs_job_run.specs.Workers.Lines.{JobLines, WorkerLines, dealt}
 use Rattle.fsfs_job_run.specs.Workers.Passes.{IsOnward, last_known}
-use Rattle.fsfs_job_run.proofs.BesideLemmas.{all_stay, begins_on, begins_itself}
+use Rattle.fsfs_job_run.proofs.BesideLemmas.{all_stay, begins_on, begins_itself, less_known}
 use Rattle.fsfs_job_run.proofs.Bytes.{bytes_stay}
 use Rattle.fsfs_job_run.proofs.RunLemmas.{a_part, doubt_of, doubt_follows}
 use Rattle.fsfs_job_run.specs.Runs.{AllStandFor, HoldsAll}
@@ -56,7 +56,7 @@ whole_part h g d none (inr (x, is, with)) long = let no : Some x ≡ None = sym 
 
 -- v is what the first pass knew as it began, u what it knew when the other was joined into it; behind that it looked, and closed the repository
 module _ (moment young : ℕ) (js : List Job) (answers : List JobAnswer) (v u : SeatView) (met : Option Trace) (t : Trace) (both : BothWorked moment js answers v u) (looked : Looked young (view_of u) (view_of (look_view young met u))) (leaves : Leaves (look_view young met u) t)
-    (opened : v.opened ≡ length v.seen) (had : HoldBytes v.since.files v.seen) (mine : v.pass.mine ≡ []) (faults : v.pass.faults ≡ []) (kin : v.kin ≡ alone) (parts : u.kin.parts ≡ all_parts) where
+    (opened : v.opened ≡ length v.seen) (had : HoldBytes v.since.files v.seen) (mine : v.pass.mine ≡ []) (faults : v.pass.faults ≡ []) (clear : v.left ≡ None) (outside : u.section ≡ None) (kin : v.kin ≡ alone) (parts : u.kin.parts ≡ all_parts) where
   abbrev h : List Recorded
   h = leaves.history
 
@@ -135,8 +135,18 @@ module _ (moment young : ℕ) (js : List Job) (answers : List JobAnswer) (v u : 
     moments = λ m image. let p = leaves.moments m image in (p.0, p.3, a_part h p.0 leaves.doubt p.1, omega (arith, p.2, since_then), p.4);
   }
 
-  held : (all : HoldsAll v.since t (revisions v.seen) (revisions h)) × (all.seen ≡ h)
-  held = subst (λ n. (all : HoldsAll n t (revisions v.seen) (revisions h)) × (all.seen ≡ h)) both.since (holds, refl)
+  -- the revision in doubt is what one of the jobs was to add
+  of_job : (left : Option Coming) → leaves.doubt ≡ left → (left ≡ None) ⊎ ((c : Coming) × (left ≡ Some c) × ((g : List Recorded) → IsOnward (view_of u) g → IsOfOne moment (revisions g) (last_known (view_of v)) js c.revision))
+      → IfSome (doubt_of leaves.doubt) (IsOfOne moment (revisions h) (last_of (revisions v.seen)) js)
+  of_job left same (inl none) = subst (λ (o : Option Coming). IfSome (doubt_of o) (IsOfOne moment (revisions h) (last_of (revisions v.seen)) js)) (sym (same ∙ none)) tt
+  of_job left same (inr (c, is, of)) =
+      let o = of h on in
+      subst (λ (d : Option Coming). IfSome (doubt_of d) (IsOfOne moment (revisions h) (last_of (revisions v.seen)) js)) (sym (same ∙ is))
+      (record { at = o.at; job = o.job; is = o.is; was = less_known moment (revisions h) (last_known (view_of v)) (last_of (revisions v.seen)) o.job c.revision knew_all o.was })
+
+  held : (all : HoldsAll v.since t (revisions v.seen) (revisions h)) × (all.seen ≡ h) × IfSome all.doubt (IsOfOne moment (revisions h) (last_of (revisions v.seen)) js)
+  held = subst (λ n. (all : HoldsAll n t (revisions v.seen) (revisions h)) × (all.seen ≡ h) × IfSome all.doubt (IsOfOne moment (revisions h) (last_of (revisions v.seen)) js)) both.since
+      (holds, refl, of_job u.left (leaves.left parts outside) (both.left clear))
 
   -- where none is in doubt
   stands_all : leaves.doubt ≡ None → AllStandFor t (revisions h)
@@ -153,6 +163,7 @@ module _ (moment young : ℕ) (js : List Job) (answers : List JobAnswer) (v u : 
         lines = lines;
         last = last;
         held = held;
+        full = λ told. leaves.full (both.full told);
         stuck = λ quiet. both.found (calm (both.doubtless quiet few)).1;
         certain = λ quiet. stands_all (calm (both.doubtless quiet few)).0;
       }
@@ -160,11 +171,11 @@ module _ (moment young : ℕ) (js : List Job) (answers : List JobAnswer) (v u : 
 -- the same, where the disk that was given back tells; s is what the first pass knew as it closed the repository
 pub ran_so : (moment young : ℕ) (js : List Job) (answers : List JobAnswer) (v u s : SeatView) (told : Option Trace) (t : Trace) → told ≡ Some t → s ≡ look_view young s.met u → s.told ≡ is_some told → IfSome told (λ t. Leaves s t)
     → (v.told ≡ true → BothWorked moment js answers v u) → (u.told ≡ true → Looked young (view_of u) (view_of (look_view young s.met u))) → IsAtRest u → u.told ≡ v.told
-    → (v.told ≡ true → (v.opened ≡ length v.seen) × (v.pass.mine ≡ []) × (v.pass.faults ≡ []) × HoldBytes v.since.files v.seen) → v.kin ≡ alone → u.kin.parts ≡ v.kin.parts → RanTwo moment v.since js answers young (revisions v.seen) t
+    → (v.told ≡ true → (v.opened ≡ length v.seen) × (v.pass.mine ≡ []) × (v.pass.faults ≡ []) × HoldBytes v.since.files v.seen × (v.left ≡ None)) → v.kin ≡ alone → u.kin.parts ≡ v.kin.parts → RanTwo moment v.since js answers young (revisions v.seen) t
 ran_so moment young js answers v u s told t is s_is closed left both looked rests duty seen kin same_parts =
     let told_last : u.told ≡ true = sym (ap (λ (z : SeatView). z.told) s_is) ∙ closed ∙ ap (λ (o : Option Trace). is_some o) is in
     let told_first : v.told ≡ true = sym duty ∙ told_last in
     let begun = seen told_first in
     let parts : u.kin.parts ≡ all_parts = same_parts ∙ ap (λ (k : Kin). k.parts) kin in
     let leaves = subst (λ (z : SeatView). Leaves z t) s_is (subst (λ (o : Option Trace). IfSome o (λ t. Leaves s t)) is left) in
-    ran_two moment young js answers v u s.met t (both told_first) (looked told_last) leaves begun.0 begun.3 begun.1 begun.2 kin parts (leaves.calm parts (rests.outside told_last))
+    ran_two moment young js answers v u s.met t (both told_first) (looked told_last) leaves begun.0 begun.3 begun.1 begun.2 begun.4 (rests.outside told_last) kin parts (leaves.calm parts (rests.outside told_last))

@@ -25,6 +25,7 @@ use Rattle.fsfs_jobs.specs.JobEdits.Editing.{Bars, IfRefused, IfDisk, IsCounted}
 use Rattle.fsfs_job_run.specs.Serial.Jobs.{ByCounts, ByMemory, Fails}
 use Rattle.fsfs_job_run.proofs.Composed.{told_so, outside_so}
 use Rattle.fsfs_job_run.proofs.Counted.{edits_outside}
+use Rattle.fsfs_job_run.proofs.Full.{edits_unfull}
 use Rattle.fsfs_job_run.proofs.Edited.{stops_by}
 use Rattle.fsfs_job_run.specs.Serial.Counts.{IfCounted, StopsOver}
 use Rattle.fsfs_job_run.specs.Workers.Beside.{CountsIn, LineHolds, shown_in}
@@ -99,5 +100,5 @@ module _ (P : Type 0) (moment k last base : ℕ) (name : TxnName) (job : CommitJ
         left.0,
         left.1,
         ends_so moment k (jobs.Commit job) (Stopped line fault) u left.0 all refl (omega (arith, t.1, told, all.least)) (λ h onward. t.0 h (begins_on u.seen left.0.seen h all.grows onward.begins)),
-        edits_outside P Q line left.0 fault f failed,
+        edits_outside P Q line left.0 fault f failed (edits_unfull line (tree_of (revisions part)) (last_of (revisions part)) (bytes_of part) base name line (tree_of (revisions part) base) [] job.steps fault s),
       )

@@ -1,9 +1,10 @@
 -- What the lines of two workers tell, of their lines in the order of the jobs.
-use Rattle.std.proofs.Common.{◌⊎◌, ◌-◌, ℕ, zero, suc, List, [], ◌∷◌, ◌++◌, ⊎_elim, sym, subst, inl, inr, append_assoc, append-nil}
+use Rattle.std.proofs.Common.{◌≡◌, ◌⊎◌, ◌-◌, ◌||◌, ℕ, zero, suc, List, [], ◌∷◌, ◌++◌, Bool, true, ⊎_elim, sym, ap, subst, inl, inr, append_assoc, append-nil}
 use Rattle.fsfs_machine.specs.Kept.{IsIn, AreOnce}
 use Rattle.fsfs_jobs.specs.declared.answer.JobAnswer.{JobAnswer}
 use Rattle.fsfs_jobs.specs.declared.answer.JobAnswer.TheVariants.{Committed, Read, Conflict, Stopped}
-use Rattle.fsfs_job_run.specs.Serial.Jobs.{own_of, own_of_all, TellNoDoubt}
+use Rattle.fsfs_job_run.proofs.Full.{one_true, then_true}
+use Rattle.fsfs_job_run.specs.Serial.Jobs.{own_of, own_of_all, TellNoDoubt, tell_full, tells_full}
 use Rattle.fsfs_job_run.specs.Workers.Lines.{dealt, TellNoneStuck}
 
 -- ---- what stands in two lists
@@ -85,6 +86,13 @@ pub share_is_calm : (n w : ℕ) (answers : List JobAnswer) → TellNoDoubt answe
 share_is_calm n w [] calm = tt
 share_is_calm n zero (answer ∷ answers) calm = (calm.0, share_is_calm n (n - 1) answers calm.1)
 share_is_calm n (suc w) (answer ∷ answers) calm = share_is_calm n w answers calm.1
+
+-- a line tells that no name is left: one of the first's, or of the second's
+pub either_full : (answers : List JobAnswer) → tell_full answers ≡ true → (tell_full (dealt 2 0 answers) ≡ true) ⊎ (tell_full (dealt 2 1 answers) ≡ true)
+either_full [] told = absurd cc
+either_full (answer ∷ answers) told =
+    ⊎_elim (λ one. inl (ap (λ (b : Bool). b || tell_full (dealt 2 1 answers)) one))
+    (λ more. ⊎_elim (λ first. inr first) (λ second. inl (then_true (tells_full answer) (tell_full (dealt 2 1 answers)) second)) (either_full answers more)) (one_true (tells_full answer) (tell_full answers) told)
 
 pub none_stuck : (answers : List JobAnswer) → TellNoneStuck (dealt 2 0 answers) → TellNoneStuck (dealt 2 1 answers) → TellNoneStuck answers
 none_stuck [] first second = tt

@@ -1,5 +1,5 @@
 -- A job whose transaction was begun beside others, or why none was.
-use Rattle.std.proofs.Common.{◌≡◌, ◌≤◌, ◌<◌, ℕ, length, refl, sym, subst, arith}
+use Rattle.std.proofs.Common.{◌≡◌, ◌≤◌, ◌<◌, ℕ, length, true, refl, sym, subst, arith}
 use Rattle.std.specs.Prelude.{Err}
 use Rattle.fsfs_base.specs.declared.fields.txn_name.TxnName.{TxnName}
 use Rattle.fsfs_revision.specs.declared.wrong.Wrong.{Wrong}
@@ -71,7 +71,7 @@ module _ (base line : ℕ) (job : CommitJob) (v u : View) (there : base ≤ v.pa
   begin_outside rose (begin.NoRev asked youngest) c disk = tt
   begin_outside rose (begin.Stuck at) c disk = c
   begin_outside rose (begin.Small fault) c disk = tt
-  begin_outside rose begin.NamesFull c disk = tt
+  begin_outside rose begin.NamesFull c disk = absurd c
   begin_outside rose (begin.Wrong wrong) c disk = absurd (not_wrong wrong c)
   begin_outside rose (begin.DiskFault at) c disk = disk
   begin_outside rose begin.BenchFault c disk = tt
@@ -101,15 +101,15 @@ module _ (line : ℕ) where
   lacking_shows begin.BenchFault lacks = refl
   lacking_shows begin.Memory lacks = refl
 
-pub lacking_so : (knows : View → Type 0) (rose : Type 0) (moment : ℕ) (job : CommitJob) (why : BeginFault) (fault : Fault) (v m u : View) → knows u → GoesOn v m → Moved m u → LacksNumber why → IfDisk why rose → fault ≡ fault_of_begin why
+pub lacking_so : (knows : View → Type 0) (rose : Type 0) (moment : ℕ) (job : CommitJob) (why : BeginFault) (fault : Fault) (v m u : View) → knows u → GoesOn v m → Moved m u → u.full ≡ true → LacksNumber why → IfDisk why rose → fault ≡ fault_of_begin why
     → WorksSo knows rose moment (jobs.Commit job) (Stopped job.line fault) v
-lacking_so knows rose moment job why fault v m u known goes moved lacks disk is =
+lacking_so knows rose moment job why fault v m u known goes moved full lacks disk is =
     subst (λ (f : Fault). WorksSo knows rose moment (jobs.Commit job) (Stopped job.line f) v) (sym is)
     (works_whole knows rose moment (jobs.Commit job) (Stopped job.line (fault_of_begin why)) v (
       u,
       known,
       fails_behind moment (last_known v) (jobs.Commit job) (Stopped job.line (fault_of_begin why)) v u (goes_on v m u goes (by_moving m u moved)) refl (lacking_shows job.line why lacks) (lacking_fails job.line job why lacks) (begin_counted job job.line why),
-      lacking_outside job.line job rose u why lacks disk,
+      lacking_outside job.line job rose u why full lacks disk,
     ))
 
 -- what was begun on the base stands on that

@@ -2,12 +2,14 @@
 use Rattle.std.specs.Prelude.{◌≡◌, ◌+◌, ℕ, List, length, Bool, true, false, Option, None, IfSome, Result, Ok, Err}
 use Rattle.fsfs_base.specs.Failures.{Rose}
 use Rattle.fsfs_base.specs.declared.small_fault.SmallFile.TheVariants.{Current}
+use Rattle.fsfs_tree.specs.Dated.{last_of}
 use Rattle.fsfs_tree.specs.Revisions.{Revision}
 use Rattle.fsfs_disk.specs.Trace.{Trace, files_now}
 use Rattle.fsfs_layout.specs.declared.opened.Opened.{Opened}
 use Rattle.fsfs_stands.specs.Files.{StandsFor}
 use Rattle.fsfs_machine.specs.declared.machine.Recorded.{Recorded}
 use Rattle.fsfs_machine.specs.Machine.{revisions}
+use Rattle.fsfs_repo.specs.BeginSteps.{LeavesNoName}
 use Rattle.fsfs_repo.specs.OpenFaults.{OpensBecause}
 use Rattle.fsfs_base.specs.declared.places.open_fault.OpenFault.{OpenFault}
 use Rattle.fsfs_script.specs.declared.job_lines.job.Job.{Job}
@@ -21,7 +23,8 @@ use Rattle.fsfs_cli.specs.declared.faults.fault.Fault.{Fault}
 use Rattle.fsfs_cli.specs.declared.faults.fault.Fault.TheVariants.{Repository, Memory}
 use Rattle.fsfs_cli.specs.declared.faults.repository_fault.RepositoryFault.TheVariants.{Small}
 use Rattle.fsfs_jobs.specs.declared.answer.JobAnswer.{JobAnswer}
-use Rattle.fsfs_job_run.specs.Serial.Jobs.{TellNoDoubt, bench_faults_in}
+use Rattle.fsfs_job_run.specs.Serial.Jobs.{TellNoDoubt, bench_faults_in, tell_full}
+use Rattle.fsfs_job_run.specs.Workers.Beside.{IsOfOne}
 use Rattle.fsfs_job_run.specs.Workers.Lines.{JobLines, StuckByDoubt, disk_faults_in, RoseBy}
 use Rattle.fsfs_job_run.specs.Openings.{OpensAs, DoesNotOpen}
 use Rattle.fsfs_job_run.specs.Runs.{RunScene, HoldsAll, AllStandFor, IsUntouched, PrintsRun}
@@ -38,8 +41,11 @@ pub record RanBeside (moment : ℕ) (since : Since) (workers : ℕ) (js : List J
   pub now : List Recorded
   pub lines : JobLines moment workers js answers h now
   pub last : length now ≡ youngest + 1
-  -- these are the bytes that it holds
-  pub held : IfSome told (λ t. (all : HoldsAll since t h (revisions now)) × (all.seen ≡ now))
+  -- these are the bytes that it holds, and the revision in doubt is one that a job was to add
+  pub held : IfSome told (λ t. (all : HoldsAll since t h (revisions now)) × (all.seen ≡ now) × IfSome all.doubt (IsOfOne moment (revisions now) (last_of h) js))
+  -- A line, of whichever worker, tells that names are full only where no name is left: behind the run the last number that a name has digits for
+  -- stands in `txn-current`.
+  pub full : tell_full answers ≡ true → IfSome told (λ t. LeavesNoName (files_now t))
   -- the lock is told to be stuck only where a line, of whichever worker, tells of a fault as `current` was renamed or made firm
   pub stuck : StuckByDoubt answers
   -- nothing is in doubt where no line tells of such a fault

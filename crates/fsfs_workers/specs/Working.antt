@@ -19,7 +19,7 @@ use Rattle.fsfs_jobs.specs.Edits.{TakesSteps}
 use Rattle.fsfs_jobs.specs.declared.answer.JobAnswer.{JobAnswer}
 use Rattle.fsfs_job_run.specs.Serial.Jobs.{own_of, tells_doubt}
 use Rattle.fsfs_job_run.specs.Workers.Beside.{LineHolds, shown_in}
-use Rattle.fsfs_job_run.specs.Workers.Passes.{IsOnward, WorksJob, last_known}
+use Rattle.fsfs_job_run.specs.Workers.Passes.{IsOnward, LeftBeside, WorksJob, last_known}
 use Rattle.fsfs_job_run.specs.Running.{HasOutsideCause}
 
 -- NOTHING WAS ADDED by the pass. It is in no section; it may have seen more and been told more, and each name that it knew to be given is.
@@ -33,7 +33,10 @@ pub record GoesOn (v u : View) : Type 0 where
   pub given : (k : ℕ) → IsIn k v.given → IsIn k u.given
   pub outside : u.section ≡ None
   pub doubtless : BringsNoDoubt v u
+  pub left : u.left ≡ v.left
   pub still : is_some v.pass.stuck ≡ true → is_some u.pass.stuck ≡ true
+  -- and one that met the last number of a name knows still that no name is left
+  pub full : v.full ≡ true → u.full ≡ true
 
 -- the pass knows this behind such calls, and the lock was found stuck no more than it was
 abbrev pub GoesOnKnown : (View → Type 0) → View → Type 0
@@ -51,7 +54,10 @@ pub record WorksFrom (moment k : ℕ) (job : Job) (answer : JobAnswer) (v u : Vi
   pub own : u.pass.mine ≡ v.pass.mine ++ own_of answer
   pub outside : u.section ≡ None
   pub doubtless : tells_doubt answer ≡ false → BringsNoDoubt v u
+  pub left : LeftBeside moment k job v u
   pub still : is_some v.pass.stuck ≡ true → is_some u.pass.stuck ≡ true
+  -- and one that met the last number of a name knows still that no name is left
+  pub full : v.full ≡ true → u.full ≡ true
 
 -- so it ended, and why it tells that the outside failed
 abbrev pub EndsFrom : (View → Type 0) → Type 0 → ℕ → ℕ → Job → JobAnswer → View → Type 0

@@ -39,7 +39,7 @@ where
     requires alone { seat.me.0.kin ≡ alone }
     // It has seen all that there was as images began to be spoken of, with the bytes of each, has added nothing since, and met no fault; and it
     // has met the disk as it was first.
-    requires seen { seat.me.0.told ≡ true → (seat.me.0.opened ≡ length seat.me.0.seen) × (seat.me.0.pass.mine ≡ []) × (seat.me.0.pass.faults ≡ []) × HoldBytes seat.me.0.since.files seat.me.0.seen }
+    requires seen { seat.me.0.told ≡ true → (seat.me.0.opened ≡ length seat.me.0.seen) × (seat.me.0.pass.mine ≡ []) × (seat.me.0.pass.faults ≡ []) × HoldBytes seat.me.0.since.files seat.me.0.seen × (seat.me.0.left ≡ None) }
     // The table began with that disk.
     requires began { (repo.board.shared.key.value.disk.mount_path ≡ D.mount_path repo.first.value) × (repo.board.shared.key.value.disk.faults ≡ D.faults repo.first.value) × (repo.board.shared.key.value.disk.bench_faults ≡ D.bench_faults repo.first.value) }
     requires fresh { (seat.me.0.met ≡ D.trace repo.first.value) × (seat.me.0.failures ≡ 0) × (seat.me.0.bench_failures ≡ 0) }

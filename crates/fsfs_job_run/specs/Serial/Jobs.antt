@@ -1,9 +1,10 @@
 -- What a job does to what the pass of a repository knows, and jobs one after another.
-use Rattle.std.specs.Prelude.{◌≡◌, ◌⊎◌, ◌≤◌, ◌<◌, ◌+◌, ◌++◌, ◌||◌, ℕ, List, [], ◌∷◌, length, Bool, true, false, None}
+use Rattle.std.specs.Prelude.{◌≡◌, ◌⊎◌, ◌≤◌, ◌<◌, ◌+◌, ◌++◌, ◌||◌, ℕ, List, [], ◌∷◌, length, Bool, true, false, Option, Some, None}
 use Rattle.fsfs_base.specs.Paths.{Path}
 use Rattle.fsfs_base.specs.Fields.Dates.{IsDateAt}
 use Rattle.fsfs_base.specs.declared.places.place.DiskPlace.{DiskPlace}
 use Rattle.fsfs_tree.specs.Revisions.{Revision}
+use Rattle.fsfs_machine.specs.declared.machine.Coming.{Coming}
 use Rattle.fsfs_machine.specs.declared.machine.Recorded.{Recorded}
 use Rattle.fsfs_machine.specs.Machine.{revisions}
 use Rattle.fsfs_turn.specs.Alone.{BringsNoDoubt, brings_doubt}
@@ -77,10 +78,19 @@ pub record Leaves (answer : JobAnswer) (v u : View) : Type 0 where
   pub given : u.given ≡ more ++ v.given
   pub doubtless : tells_doubt answer ≡ false → BringsNoDoubt v u
 
+-- the job was to add this revision to the history, by the definition of jobs
+abbrev pub WasToAdd : ℕ → List Revision → Job → Revision → Type 0
+WasToAdd moment h job next = DoesJob moment h job (Committed (length h)) (h ++ next ∷ [])
+
+-- what is left in doubt is what was, or the revision that the job was to add
+abbrev pub LeftBy : ℕ → Job → View → View → Type 0
+LeftBy moment job v u = (u.left ≡ v.left) ⊎ ((c : Coming) × (u.left ≡ Some c) × WasToAdd moment (revisions v.seen) job c.revision)
+
 -- A JOB IS DONE over all that the pass has seen, where that is all that there is: by the definition of jobs, or it failed.
 pub record RunsJob (moment : ℕ) (job : Job) (answer : JobAnswer) (v u : View) : Type 0 where
   pub done : DoesJob moment (revisions v.seen) job answer (revisions u.seen) ⊎ Fails job answer
   pub leaves : Leaves answer v u
+  pub left : LeftBy moment job v u
 
 -- JOBS ONE AFTER ANOTHER. One that is refused for mergeinfo is so by the flat model, or for counts in the bytes that the pass had seen.
 pub data RunJobs (moment : ℕ) : List Job → List JobAnswer → View → View → Type 0 where

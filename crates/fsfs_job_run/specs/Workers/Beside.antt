@@ -1,5 +1,5 @@
 -- A job that a worker does while others add revisions too, and what its line says of the one history.
-use Rattle.std.specs.Prelude.{◌≡◌, ◌⊎◌, ◌<◌, ◌≤◌, ◌+◌, ◌++◌, ℕ, List, length, take}
+use Rattle.std.specs.Prelude.{◌≡◌, ◌⊎◌, ◌<◌, ◌≤◌, ◌+◌, ◌++◌, ◌∷◌, [], ℕ, List, length, take, Some, slice_get}
 use Rattle.fsfs_base.specs.Fields.Dates.{IsDateAt}
 use Rattle.fsfs_tree.specs.Revisions.{Revision, tree_of}
 use Rattle.fsfs_tree.specs.Dated.{last_of}
@@ -49,6 +49,22 @@ pub record IsDone (moment : ℕ) (h : List Revision) (k : ℕ) (job : Job) (answ
   pub dated : IfAdded answer (IsDateAt moment date)
   pub runs : RunsBeside before date k job answer behind
   pub part : GoesOnFrom behind h
+
+-- The job was to add this revision to a first part of this history that has revision k, with a date of the moment.
+pub record WasToAddTo (moment : ℕ) (h : List Revision) (k : ℕ) (job : Job) (next : Revision) : Type 0 where
+  pub before : List Revision
+  pub known : k < length before
+  pub date : List ℕ
+  pub dated : IsDateAt moment date
+  pub runs : RunsBeside before date k job (Committed (length before)) (before ++ next ∷ [])
+  pub part : GoesOnFrom before h
+
+-- one of these was
+pub record IsOfOne (moment : ℕ) (h : List Revision) (k : ℕ) (js : List Job) (next : Revision) : Type 0 where
+  pub at : ℕ
+  pub job : Job
+  pub is : slice_get js at ≡ Some job
+  pub was : WasToAddTo moment h k job next
 
 -- A job was refused for mergeinfo over a first part of this history that has revision k: by the flat model, or for counts in the bytes beside its
 -- revisions.

@@ -1,14 +1,16 @@
 -- The laws of jobs beside each other.
-use Rattle.std.specs.Prelude.{◌≡◌, ◌<◌, ◌≤◌, ◌++◌, ℕ, List, [], ◌∷◌, length, true, false, is_some}
+use Rattle.std.specs.Prelude.{◌≡◌, ◌⊎◌, ◌<◌, ◌≤◌, ◌++◌, ℕ, List, [], ◌∷◌, length, true, false, Option, Some, is_some}
 use Rattle.fsfs_tree.specs.Revisions.{Revision}
 use Rattle.fsfs_tree.specs.Dated.{last_of}
+use Rattle.fsfs_machine.specs.declared.machine.Coming.{Coming}
 use Rattle.fsfs_machine.specs.declared.machine.Recorded.{Recorded}
+use Rattle.fsfs_machine.specs.Machine.{revisions}
 use Rattle.fsfs_turn.specs.Views.{View, Begins}
 use Rattle.fsfs_script.specs.declared.job_lines.job.Job.{Job}
 use Rattle.fsfs_jobs.specs.Serial.{Runs, last_name}
 use Rattle.fsfs_jobs.specs.declared.answer.JobAnswer.{JobAnswer}
-use Rattle.fsfs_job_run.specs.Serial.Jobs.{own_of_all}
-use Rattle.fsfs_job_run.specs.Workers.Beside.{RunsBeside, LineHolds}
+use Rattle.fsfs_job_run.specs.Serial.Jobs.{own_of_all, tell_full}
+use Rattle.fsfs_job_run.specs.Workers.Beside.{IsOfOne, RunsBeside, LineHolds}
 use Rattle.fsfs_job_run.specs.Workers.Lines.{TellNoneStuck, WorkerLines}
 use Rattle.fsfs_job_run.specs.Workers.Passes.{last_known, IsOnward, WorksJob, WorkJobs}
 
@@ -38,9 +40,15 @@ pub record Worked (moment : ℕ) (js : List Job) (answers : List JobAnswer) (v u
   pub later : last_known v ≤ last_known u
   -- the pass's own revisions are those that its lines tell
   pub own : u.pass.mine ≡ v.pass.mine ++ own_of_all answers
+  -- what is left in doubt is what was, or a revision that one of them was to add
+  pub left : (u.left ≡ v.left) ⊎ ((c : Coming) × (u.left ≡ Some c) × ((h : List Recorded) → IsOnward u h → IsOfOne moment (revisions h) (last_known v) js c.revision))
   -- none of them tells that the lock is stuck, where the pass has not found it so
   pub stuck : is_some u.pass.stuck ≡ false → TellNoneStuck answers
+  -- nor that no name is left, where it has not met the last number of a name
+  pub names : tell_full answers ≡ true → u.full ≡ true
   pub still : is_some v.pass.stuck ≡ true → is_some u.pass.stuck ≡ true
+  -- and one that met the last number of a name knows still that no name is left
+  pub full : v.full ≡ true → u.full ≡ true
 
 abbrev pub WorkersWorked : Type 0
 WorkersWorked = (moment : ℕ) (js : List Job) (answers : List JobAnswer) (v u : View) → WorkJobs moment js answers v u → Worked moment js answers v u

@@ -28,7 +28,7 @@ use Rattle.fsfs_pass.specs.SeatCalls.Made.{Ended, went_of, risen, carried, faile
 
 -- the pass has the disk no more, and knows what else it knew, but for what a call tells
 abbrev pub IsBack : Bool → SeatView → SeatView → Type 0
-IsBack failed v u = u ≡ record v { pass = u.pass; seen = u.seen; section = u.section; given = u.given; hand = Empty; met = u.met; failures = risen failed v.failures }
+IsBack failed v u = u ≡ record v { pass = u.pass; seen = u.seen; section = u.section; given = u.given; full = u.full; hand = Empty; met = u.met; failures = risen failed v.failures }
 
 -- The pass gave the disk back, left so. What it tells of the files is later than what it told; and where the disk tells, P is the step.
 pub record GivenBack (P : View → Type 0) (failed : Bool) (trace : Option Trace) (v u : SeatView) : Type 0 where
@@ -68,7 +68,8 @@ listed_back = Back (λ m u. (ls : List Label) → Listed ls (went_of (failed_of 
 
 -- ---- a begin's first call
 
--- the number in `txn-current` was read for this base; of the last number, behind which no name comes, the machine has no reading
+-- the number in `txn-current` was read for this base; of the last number, behind which no name comes, the machine has no reading, and the pass knows
+-- that no name is left
 pub record DrawnBy (base : ℕ) (told : Option Trace) (went : Went) (v u : View) : Type 0 where
   pub trace : Trace
   pub told_is : told ≡ Some trace
@@ -77,7 +78,7 @@ pub record DrawnBy (base : ℕ) (told : Option Trace) (went : Went) (v u : View)
   pub line : IsBase36Line text number
   pub there : file_at trace (only_name TxnCurrent) ≡ Some text
   pub turned : number < last_name → CounterRead base number went v u
-  pub full : last_name ≤ number → u ≡ v
+  pub full : last_name ≤ number → u ≡ record v { full = true }
 
 abbrev pub drawn_back : ℕ → At → Sat → ℕ → Sat → Type 0
 drawn_back base = Back (λ m u. DrawnBy base (trace_of (carried m.1)) (went_of (failed_of (carried m.1))) (view_of m.0) u)

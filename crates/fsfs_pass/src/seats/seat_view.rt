@@ -1,6 +1,6 @@
 //! What a pass at the table knows. No value of these types is made: they stand in what a seat is told.
 use fsfs_layout::Layout;
-use fsfs_machine::{Line, Names, Numbers, Pass, Section};
+use fsfs_machine::{Coming, Line, Names, Numbers, Pass, Section};
 use fsfs_turn::Since;
 use std::collections::LinkedList;
 use std::marker::Model;
@@ -81,7 +81,11 @@ pub struct SeatView {
     pub seen: Line,
     pub section: Option<Section>,
     pub sure: bool,
+    // the revision that it left in doubt, with the lock stuck
+    pub left: Option<Coming>,
     pub given: Names,
+    // it has met the last number that a name has digits for in `txn-current`
+    pub full: bool,
     pub told: bool,
     pub hand: Hand,
     // the trace of the disk as the pass met it last, at a look, at a reveal, or by a call of the disk

@@ -21,6 +21,8 @@ pub record Survives (layout : Layout) (t : Trace) (v : View) : Type 0 where
   -- at most one revision is in doubt, and it follows the history by the landing of an entry
   pub doubt : Option Coming
   pub follows : IfSome doubt (Follows v.seen)
+  -- in no section it is the one that the pass left so
+  pub left : v.section ≡ None → doubt ≡ v.left
   pub moments : (m : Files) → ImageSince v.since.operations t.first t.operations m → (g : List Recorded) × IsPart v.seen doubt g × (v.opened ≤ length g) × HasHistory layout m g × StandsFor m (revisions g)
   -- it leaves the files that no turn changes in their formats, and with the bytes that they had at the opening
   pub own : (m : Files) → ImageSince v.since.operations t.first t.operations m → KeepsOwnFiles layout v.since.files m

@@ -20,6 +20,7 @@ pub record SeesAll (t : Trace) (v : SeatView) : Type 0 where
   pub mine : v.pass.mine ≡ []
   pub faults : v.pass.faults ≡ []
   pub stuck : v.pass.stuck ≡ None
+  pub left : v.left ≡ None
 
 -- where it told one
 abbrev pub SeesAllOf : Option Trace → SeatView → Type 0

@@ -1,7 +1,8 @@
 -- What a shared repository leaves when it is closed.
 use Rattle.std.specs.Prelude.{◌≡◌, ◌≤◌, ◌<◌, ℕ, List, length, true, Option, Some, None, IfSome, slice_get}
 use Rattle.fsfs_base.specs.Files.{Files}
-use Rattle.fsfs_disk.specs.Trace.{Trace, IsImage, ImageSince}
+use Rattle.fsfs_begin.specs.Steps.{LeavesNoName}
+use Rattle.fsfs_disk.specs.Trace.{Trace, IsImage, ImageSince, files_now}
 use Rattle.fsfs_stands.specs.Files.{StandsFor}
 use Rattle.fsfs_machine.specs.declared.machine.Recorded.{Recorded}
 use Rattle.fsfs_machine.specs.declared.machine.Coming.{Coming}
@@ -34,10 +35,13 @@ pub record Leaves (v : SeatView) (t : Trace) : Type 0 where
   -- so what the pass has seen is whole there
   pub whole : (m : Files) → IsImage t.first t.operations m → (r : ℕ) (x : Recorded) → slice_get v.seen r ≡ Some x → HasRevision v.layout m r x
   pub named : (m : Files) → IsImage t.first t.operations m → NamesFrom m (length v.seen)
+  -- where it has met the last number of a name, no name is left
+  pub full : v.full ≡ true → LeavesNoName (files_now t)
   -- no revision is twice among the pass's own and those of the passes that were joined into it
   pub once : AreOnce (all_own v)
   -- where it has all parts, it has seen the history, and each revision since the opening is one of these
   pub all : v.kin.parts ≡ all_parts → history ≡ v.seen
   pub added : v.kin.parts ≡ all_parts → (r : ℕ) → v.opened ≤ r → r < length history → IsIn r (all_own v)
   -- nor is a revision in doubt, or the lock stuck, but by a fault of one of these passes
+  pub left : v.kin.parts ≡ all_parts → v.section ≡ None → doubt ≡ v.left
   pub calm : v.kin.parts ≡ all_parts → v.section ≡ None → are_harmless v.pass.faults ≡ true → (doubt ≡ None) × (v.pass.stuck ≡ None)

@@ -3,6 +3,7 @@ use Rattle.std.specs.Prelude.{◌≡◌, ◌<◌, ◌≤◌, ℕ, List, Bool, tr
 use Rattle.fsfs_base.specs.declared.places.place.DiskPlace.{DiskPlace}
 use Rattle.fsfs_base.specs.declared.places.place.DiskPlace.TheVariants as place
 use Rattle.fsfs_machine.specs.declared.machine.Recorded.{Recorded}
+use Rattle.fsfs_machine.specs.declared.machine.Coming.{Coming}
 use Rattle.fsfs_machine.specs.declared.machine.Txn.{Txn}
 use Rattle.fsfs_machine.specs.declared.machine.Went.{Went}
 use Rattle.fsfs_machine.specs.declared.machine.Went.TheVariants.{Fine}
@@ -13,7 +14,7 @@ use Rattle.fsfs_turn.specs.Learning.{with_spent}
 use Rattle.fsfs_turn.specs.Views.{View}
 use Rattle.fsfs_begin.specs.Purged.{HasPurged, HasNotPurged}
 use Rattle.fsfs_commit.specs.Courses.{StoppedAt}
-use Rattle.fsfs_commit.specs.Replies.{Committed, Drifted, Moved}
+use Rattle.fsfs_commit.specs.Replies.{Committed, Drifted, LeavesDoubt, Moved, Wrote}
 use Rattle.fsfs_commit.specs.Works.{Landings}
 use Rattle.fsfs_commit.specs.Transaction.Dating.{IsDatedAt}
 use Rattle.fsfs_commit.specs.Transaction.Refusals.{IsClashAt}
@@ -34,6 +35,7 @@ pub record IsBack {X : Type 0} (back : List Recorded → Txn → X → Type 0) (
   pub landings : Landings u.seen x y
   pub name : y.name ≡ x.name
   pub doubtless : BringsNoDoubt v u
+  pub left : u.left ≡ v.left
   pub stands : back u.seen y txn
 
 -- why nothing was added: y clashes with the youngest revision that the pass was told of, which isn't the last that there may be, first at
@@ -51,7 +53,7 @@ Bars bars.Memory u y = Unit {0}
 -- A call of the section failed at this place, last of all, and the lock was given or left stuck there; or a read of the merge failed, which
 -- tells the pass nothing.
 abbrev pub FailsAt : DiskPlace → View → View → Type 0
-FailsAt (place.Commit call) v u = (m : View) × Drifted v m × StoppedAt call m u
+FailsAt (place.Commit call) v u = (m : View) × Drifted v m × (c : Coming) × StoppedAt call c m u
 FailsAt place.Read v u = Unit {0}
 FailsAt place.MakeBench v u = ⊥
 FailsAt place.List v u = ⊥
@@ -65,18 +67,18 @@ abbrev pub IsNoMore : (View → Type 0) → View → View → Txn → Type 0
 IsNoMore knows v u x = Moved v u × ((gone : Bool) × IsDropped knows gone x.name u)
 
 -- ENDS: the revision was added, with these properties, by the entry of x; or what became of x. A revision is left in doubt only by a call
--- that failed at a place which does that.
+-- that failed at a place which does that, and it is the revision that this commit was to add.
 abbrev pub Ends : {X : Type 0} → (View → Type 0) → (List Recorded → Txn → X → Type 0) → List (List ℕ × List ℕ) → View → Txn → CommitAnswer X → Type 0
 Ends knows back properties v x (answers.Committed rev purged) = (m : View) × (y : Txn) × Committed rev properties v m x y × IsDropped knows purged x.name m
 Ends knows back properties v x (answers.Barred bar txn) = (u : View) × (y : Txn) × knows u × IsBack back v u x y txn × Bars bar u y
-Ends knows back properties v x (answers.DiskFault at) = (u : View) × FailsAt at v u × (brings_doubt at ≡ false → BringsNoDoubt v u) × IsNoMore knows v u x
-Ends knows back properties v x answers.BenchFault = (u : View) × BringsNoDoubt v u × IsNoMore knows v u x
+Ends knows back properties v x (answers.DiskFault at) = (u : View) × FailsAt at v u × (brings_doubt at ≡ false → BringsNoDoubt v u) × LeavesDoubt (Wrote properties v u x) v u × IsNoMore knows v u x
+Ends knows back properties v x answers.BenchFault = (u : View) × BringsNoDoubt v u × (u.left ≡ v.left) × IsNoMore knows v u x
 
 -- MEETS: so it ends, with the moment as the date
 abbrev pub Meets : {X : Type 0} → (View → Type 0) → (List Recorded → Txn → X → Type 0) → ℕ → List (List ℕ × List ℕ) → View → Txn → CommitAnswer X → Type 0
 Meets knows back micros properties v x (answers.Committed rev purged) = (dated : List (List ℕ × List ℕ)) × IsDatedAt micros properties dated × Ends knows back dated v x (answers.Committed rev purged)
 Meets knows back micros properties v x (answers.Barred bar txn) = Ends knows back properties v x (answers.Barred bar txn)
-Meets knows back micros properties v x (answers.DiskFault at) = Ends knows back properties v x (answers.DiskFault at)
+Meets knows back micros properties v x (answers.DiskFault at) = (dated : List (List ℕ × List ℕ)) × IsDatedAt micros properties dated × Ends knows back dated v x (answers.DiskFault at)
 Meets knows back micros properties v x answers.BenchFault = Ends knows back properties v x answers.BenchFault
 
 -- a fact of the transaction that is handed back

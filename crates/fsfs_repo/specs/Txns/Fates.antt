@@ -1,5 +1,5 @@
 -- What becomes of a transaction whose commit added nothing.
-use Rattle.std.specs.Prelude.{◌≡◌, false}
+use Rattle.std.specs.Prelude.{◌≡◌, ℕ, List, false}
 use Rattle.fsfs_base.specs.declared.places.place.DiskPlace.TheVariants as place
 use Rattle.fsfs_machine.specs.declared.machine.Txn.{Txn}
 use Rattle.fsfs_turn.specs.Alone.{brings_doubt}
@@ -11,6 +11,7 @@ use Rattle.fsfs_commit.specs.declared.transaction.refusal.CommitRefusal.TheVaria
 use Rattle.fsfs_repo.specs.declared.txns.answers.CommitBar.TheVariants as bars
 use Rattle.fsfs_repo.specs.declared.txns.answers.Fate.{Fate}
 use Rattle.fsfs_repo.specs.declared.txns.answers.Fate.TheVariants as fates
+use Rattle.fsfs_commit.specs.Replies.{LeavesDoubt, Wrote}
 use Rattle.fsfs_repo.specs.Txns.Commits.{Bars, FailsAt}
 
 abbrev pub of_refusal : CommitRefusal → Fate
@@ -40,6 +41,12 @@ abbrev pub UnlessDoubtful : Fate → Type 0 → Type 0
 UnlessDoubtful (fates.Barred bar) P = P
 UnlessDoubtful (fates.DiskFault at) P = brings_doubt at ≡ false → P
 UnlessDoubtful fates.BenchFault P = P
+
+-- what is left in doubt is what was, unless a call failed: then it may be the revision that this commit was to add
+abbrev pub FateLeft : Fate → List (List ℕ × List ℕ) → View → Txn → View → Type 0
+FateLeft (fates.Barred bar) p v x u = u.left ≡ v.left
+FateLeft (fates.DiskFault at) p v x u = LeavesDoubt (Wrote p v u x) v u
+FateLeft fates.BenchFault p v x u = u.left ≡ v.left
 
 -- a fact, where a call of the disk failed
 abbrev pub IfStopped : Fate → Type 0 → Type 0

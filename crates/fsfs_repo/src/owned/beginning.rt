@@ -44,7 +44,7 @@ impl<D: Disk> Repo<D> {
         ensures refused { (v : View) → ⟦<Owned<D> as Turns<R>>⟧.knows self.turns v → v.section ≡ None
             → IfErr result.1 (λ why. ((u : View) × ⟦<Owned<D> as Turns<R>>⟧.knows result.0.turns u × Moved v u × Cause base why u
             × IfBench why (LeavesNone base (⟦<Owned<D> as Turns<R>>⟧.labels result.0.turns) (Rose (⟦<Owned<D> as Turns<R>>⟧.faults self.turns) (⟦<Owned<D> as Turns<R>>⟧.faults result.0.turns)) v u))
-            ⊎ (HasLastName (⟦<Owned<D> as Turns<R>>⟧.store self.turns) × LacksNumber why × ((u : View) × ⟦<Owned<D> as Turns<R>>⟧.knows result.0.turns u × Moved v u))) }
+            ⊎ (HasLastName (⟦<Owned<D> as Turns<R>>⟧.store self.turns) × LacksNumber why × ((u : View) × ⟦<Owned<D> as Turns<R>>⟧.knows result.0.turns u × Moved v u × (u.full ≡ true)))) }
         // Where none is left, none is begun, and the repository stays as it was.
         ensures full { HasLastName (⟦<Owned<D> as Turns<R>>⟧.store self.turns) → OnOk result.1 ⊥ × ((⟦<Owned<D> as Turns<R>>⟧.store result.0.turns).below ≡ (⟦<Owned<D> as Turns<R>>⟧.store self.turns).below) }
         // Its label came to those that were kept, and no other came or went. Where none was begun, none came, whatever is known.

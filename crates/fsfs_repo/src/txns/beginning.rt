@@ -78,7 +78,7 @@ pub fn begin_txn<R, T: Turns<R>>(
     ensures refused { (v : View) → T.knows turns v → v.section ≡ None
         → IfErr result.1 (λ why. ((u : View) × T.knows result.0 u × Moved v u × Cause base why u
         × IfBench why (LeavesNone base (T.labels result.0) (Rose (T.faults turns) (T.faults result.0)) v u))
-        ⊎ (MeetsLastName T.store turns × LacksNumber why × ((u : View) × T.knows result.0 u × Moved v u))) }
+        ⊎ (MeetsLastName T.store turns × LacksNumber why × ((u : View) × T.knows result.0 u × Moved v u × (u.full ≡ true)))) }
     // Where no name is left and the files are of what no reading changes, none is begun, and all of that stays as it was.
     ensures full { FilesStay T.store → HasLastName (T.store turns) → OnOk result.1 ⊥ × ((T.store result.0).below ≡ (T.store turns).below) }
     // Where what is known is of what no reading changes, as it is for a pass that is alone, reading tells it nothing.

@@ -15,7 +15,7 @@ ghost use Rattle.fsfs_commit.specs.Works.{Landings};
 ghost use Rattle.fsfs_commit.specs.Transaction.Meaning.{IfTxn, OfLeft, IsTxnOf, Means, bench_of};
 ghost use Rattle.fsfs_commit.specs.Transaction.Refusals.{IsDiskFault, Refuses};
 ghost use Rattle.fsfs_repo.specs.Txns.Commits.{Bars, Ends, IfBack, IfFailed, IfPurged, IsDropped, bench_faults_told};
-ghost use Rattle.fsfs_repo.specs.Txns.Fates.{Fated, FateLeaves, IfStopped, UnlessDoubtful, of_fault};
+ghost use Rattle.fsfs_repo.specs.Txns.Fates.{Fated, FateLeaves, FateLeft, IfStopped, UnlessDoubtful, of_fault};
 ghost use Rattle.fsfs_repo.specs.Txns.Labels.{LeavesLabels, Unlists};
 ghost use Rattle.fsfs_commit.specs.Transaction.Findings.{IfLimit, HoldsPast, SpentByBench};
 ghost use Rattle.fsfs_repo.specs.Txns.Limits.{IfBarLimit, IfFateLimit, IfPastLimit};
@@ -58,7 +58,7 @@ fn hand_back<R, T: Turns<R>>(
 ) -> CommitAnswer<Txn<HeldNodes<T::Bench>>>
     requires due { T.bound turns.old ≡ true → (v : View) × T.knows turns.old v × (v.section ≡ None) × IsIn name.now.number.number v.given }
     ensures ends { (p : List (List ℕ × List ℕ)) (v u : View) (x y : MachineTxn) → T.knows turns.old u → Moved v u → v.section ≡ None → IsIn x.name v.given
-        → x.name ≡ name.now.number.number → Landings u.seen x y → Bars bar u y → BringsNoDoubt v u
+        → x.name ≡ name.now.number.number → Landings u.seen x y → Bars bar u y → BringsNoDoubt v u → u.left ≡ v.left
         → IfTxn left (λ t. Means t.spent u.seen (⟦<HeldNodes<T::Bench> as Own>⟧.txn t.own) t.base (⟦<HeldNodes<T::Bench> as Own>⟧.settled t.own) y)
         → Ends (T.knows turns.new) (λ h z t. (t.spent ≡ None) × IsTxnOf h (⟦<HeldNodes<T::Bench> as Own>⟧.txn t.own) t.base (⟦<HeldNodes<T::Bench> as Own>⟧.settled t.own) z) p v x result }
     ensures mounted { (T.mounting turns.new).mount ≡ (T.mounting turns.old).mount }
@@ -96,7 +96,7 @@ fn fall<R, T: Turns<R>>(
 ) -> CommitAnswer<Txn<HeldNodes<T::Bench>>>
     requires due { T.bound turns.old ≡ true → (v : View) × T.knows turns.old v × (v.section ≡ None) × IsIn name.now.number.number v.given }
     ensures ends { (p : List (List ℕ × List ℕ)) (v u : View) (x y : MachineTxn) → T.knows turns.old u → Moved v u → v.section ≡ None → IsIn x.name v.given
-        → x.name ≡ name.now.number.number → Landings u.seen x y → Fated fate v u y → UnlessDoubtful fate (BringsNoDoubt v u)
+        → x.name ≡ name.now.number.number → Landings u.seen x y → Fated fate v u y → UnlessDoubtful fate (BringsNoDoubt v u) → FateLeft fate p v x u
         → IfTxn left (λ t. Means t.spent u.seen (⟦<HeldNodes<T::Bench> as Own>⟧.txn t.own) t.base (⟦<HeldNodes<T::Bench> as Own>⟧.settled t.own) y)
         → Ends (T.knows turns.new) (λ h z t. (t.spent ≡ None) × IsTxnOf h (⟦<HeldNodes<T::Bench> as Own>⟧.txn t.own) t.base (⟦<HeldNodes<T::Bench> as Own>⟧.settled t.own) z) p v x result }
     ensures mounted { (T.mounting turns.new).mount ≡ (T.mounting turns.old).mount }
@@ -134,7 +134,7 @@ pub(crate) fn end<R, T: Turns<R>>(
     requires due { T.bound turns.old ≡ true → (v : View) × T.knows turns.old v × (v.section ≡ None) × IsIn name.now.number.number v.given }
     ensures ends { (p : List (List ℕ × List ℕ)) (v : View) (x : MachineTxn) → v.section ≡ None → IsIn x.name v.given → x.name ≡ name.now.number.number
         → IfOk done (λ rev. (m : View) × (y : MachineTxn) × T.knows turns.old m × Committed rev p v m x y)
-        → IfErr done (λ fault. (u : View) × (y : MachineTxn) × T.knows turns.old u × Refused Refuses fault v u x y
+        → IfErr done (λ fault. (u : View) × (y : MachineTxn) × T.knows turns.old u × Refused Refuses p fault v u x y
         × IfTxn left (λ t. Means t.spent u.seen (⟦<HeldNodes<T::Bench> as Own>⟧.txn t.own) t.base (⟦<HeldNodes<T::Bench> as Own>⟧.settled t.own) y))
         → Ends (T.knows turns.new) (λ h z t. (t.spent ≡ None) × IsTxnOf h (⟦<HeldNodes<T::Bench> as Own>⟧.txn t.own) t.base (⟦<HeldNodes<T::Bench> as Own>⟧.settled t.own) z) p v x result }
     ensures mounted { (T.mounting turns.new).mount ≡ (T.mounting turns.old).mount }

@@ -46,7 +46,7 @@ returns-in-Err-clause-refused g c = λ v known none.
     let a = c.look-youngest.ensures.turned v known in
     let le : c.args.base ≤ c.look-youngest.result = grind (arith, nat_tests, c.lt.ensures, c.if-lt.false) in
     either_way (λ d. (d.0, d.1, moved_on v a.0 d.0 (by_look c.look-youngest.result v a.0 none a.2) d.2, d.3, no_bench _ c.in-Err.fault c.in-Err.ensures.there))
-    (λ past. (met_before g.T.Turns.store c.args.turns c.look-youngest.new.self c.look-youngest.ensures.later.below past.0, past.2, let q = past.3 in (q.0, q.1, moved_on v a.0 q.0 (by_look c.look-youngest.result v a.0 none a.2) q.2)))
+    (λ past. (met_before g.T.Turns.store c.args.turns c.look-youngest.new.self c.look-youngest.ensures.later.below past.0, past.2, let q = past.3 in (q.0, q.1, moved_on v a.0 q.0 (by_look c.look-youngest.result v a.0 none a.2) q.2, q.3)))
     (c.in-Err.ensures.drew a.0 a.1 (ap {A = View} (λ z. z.section) a.2.is ∙ none) (least_at_look c.args.base c.look-youngest.result v a.0 a.2 le))
 
 pub returns-in-Ok-clause-begun : goal.returns-in-Ok-clause-begun

@@ -1,6 +1,7 @@
 use Rattle.std.proofs.Common.{inl, ap, sym, subst, ◌∙◌}
 use Rattle.fsfs_turn.specs.Views.{View}
 use Rattle.fsfs_begin.specs.Faults.{Cause, LacksNumber}
+use Rattle.fsfs_begin.specs.Steps.{met_last}
 use Rattle.fsfs_begin.proofs.Among.{held_begun, give_due, lacks_named, undrawn_moved}
 use Rattle.fsfs_begin.proofs.Reading.{last_still, met_before, either_way}
 use Rattle.fsfs_begin.proofs.Moving.{by_stuck, begun_at, least_at, given_over, may_give, has_name, undrawn}
@@ -51,7 +52,7 @@ returns-in-Err-drawn-clause-drew g c = λ v known none le.
       met_before g.T.Turns.store c.args.turns.now c.take_lock.new.self c.take_lock.ensures.same past.0,
       tt,
       subst (λ f. LacksNumber f) (sym c.named_fault.ensures) (lacks_named c.in-Err-drawn.fault past.2),
-      let l = c.give_lock.ensures.turned m.0 past.3 (held_begun m.0 (begun_at v m.0 m.2)) in (l.0, l.1, undrawn_moved v m.0 l.0 m.2 l.2),
+      let l = c.give_lock.ensures.turned (met_last m.0) past.3 (held_begun (met_last m.0) (begun_at v m.0 m.2)) in (l.0, l.1, undrawn_moved v m.0 l.0 m.2 l.2, ap {A = View} (λ z. z.full) l.2.is),
     )) (c.in-Err-drawn.ensures.drawn m.0 m.1 (begun_at v m.0 m.2) (least_at c.args.base v m.0 m.2 le))
 
 -- ---- the labels stay

@@ -1,7 +1,7 @@
 use Rattle.std.proofs.Common.{refl, sym, subst, ◌∙◌}
 use Rattle.fsfs_machine.specs.declared.machine.Section.TheVariants.{Begun}
-use Rattle.fsfs_turn.specs.Views.{MayAdopt}
-use Rattle.fsfs_commit.specs.Courses.{IsMade, Published}
+use Rattle.fsfs_turn.specs.Views.{MayAdopt, coming_of}
+use Rattle.fsfs_commit.specs.Courses.{IsMade, Published, StoppedAt}
 use Rattle.fsfs_base.proofs.ResultLemmas.{if_err, on_ok}
 use Rattle.fsfs_commit.proofs.committing.add.Goals as goal
 
@@ -52,7 +52,7 @@ returns-in-Err-publish-clause-err g c = λ v txn next bytes known held may made.
     let here = on_ok c.write-draft.result.1 tt _ c.in-Ok.is (c.write-draft.ensures.held txn next bytes held) in
     let p = c.in-Err-publish.ensures.err v txn next bytes known here (subst (λ q. MayAdopt v txn q next bytes) (sym same) may)
     (subst (λ q. IsMade v q c.args.made.now.rev c.args.made.now.rev_file c.args.made.now.props_file c.args.made.now.properties.items c.args.made.now.current.items) (sym same) made) in
-    (p.0, p.1, p.2)
+    (p.0, p.1, subst (λ q. StoppedAt c.in-Err-publish.place (coming_of v txn q next bytes) v p.0) same p.2)
 
 pub returns-in-Err-clause-cause : goal.returns-in-Err-clause-cause
 returns-in-Err-clause-cause g c = λ fault. absurd (if_err c.write-draft.result.1 c.in-Err.refusal _ c.in-Err.is c.write-draft.ensures.no_disk fault)

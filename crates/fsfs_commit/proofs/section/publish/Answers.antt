@@ -43,7 +43,7 @@ returns-in-Err-clause-err g c = λ v txn next bytes known held may made.
     let m = a.failed.0 in
     let f = a.failed.2 in
     let e = c.settle.ensures.turned m x a.failed.1 (section_failed c.in-Err.place (spoilt x c.in-Err.place) v m f) in
-    (e.0, e.1, stopped c.in-Err.place (spoilt x c.in-Err.place) v m e.0 f e.2)
+    (e.0, e.1, stopped c.in-Err.place x v m e.0 f e.2)
 
 pub returns-in-Ok-clause-listed : goal.returns-in-Ok-clause-listed
 returns-in-Ok-clause-listed g c = λ free. c.finish.ensures.listed (c.in-Ok.ensures.duty ∙ free) ∙ c.in-Ok.ensures.listed free

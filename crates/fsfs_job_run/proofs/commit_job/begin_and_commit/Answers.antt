@@ -40,7 +40,7 @@ returns-in-Err-clause-does g c = λ v known none told on le.
     subst (λ f. CommitsSo (KnowsAlone after.layout after.young after.stuck (g.D.Disk.trace after.disk)) rose c.args.micros job (Stopped job.line f) v) (sym c.of_begin-fault.ensures)
     (⊎_elim (λ d. unbegun_so (KnowsAlone after.layout after.young after.stuck (g.D.Disk.trace after.disk)) rose c.args.micros c.args.base job c.in-Err.why v d.0 d.1 known.1.own d.1.1.own told le d.2
     (λ wrong less root. root_whole (bytes_of d.0.seen) c.args.base (tree_of (revisions d.0.seen) c.args.base) wrong ((trees_seen after.layout after.young after.stuck (g.D.Disk.trace after.disk) d.0 d.1).each c.args.base (omega (arith, less, revisions_length d.0.seen))) root) d.3 disk)
-    (λ m. lacking_so (KnowsAlone after.layout after.young after.stuck (g.D.Disk.trace after.disk)) rose c.args.micros job c.in-Err.why v m.2.0 m.2.1 known.1.own m.2.1.1.own m.2.2 m.1 disk)
+    (λ m. lacking_so (KnowsAlone after.layout after.young after.stuck (g.D.Disk.trace after.disk)) rose c.args.micros job c.in-Err.why v m.2.0 m.2.1 known.1.own m.2.1.1.own m.2.2 m.2.3 m.1 disk)
     (if_err c.begin-repo.result.1 c.in-Err.why _ c.in-Err.is (c.begin-repo.ensures.refused v known none)))
 
 pub returns-in-Ok-clause-cause : goal.returns-in-Ok-clause-cause

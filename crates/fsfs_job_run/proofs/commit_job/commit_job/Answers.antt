@@ -26,7 +26,7 @@ returns-in-Ok-clause-does g c = λ v known none.
     let b = c.in-Ok.ensures.base v known none in
     let seen = ap (λ (h : List Recorded). last_of (revisions h)) (sym l.2.stays.seen) in
     commits_behind (KnowsAlone after.layout after.young after.stuck (g.D.Disk.trace after.disk)) (Rose (g.D.Disk.faults c.base_of.new.repo.turns.disk) (g.D.Disk.faults after.disk)) (Rose (g.D.Disk.faults c.args.repo.turns.disk) (g.D.Disk.faults after.disk)) c.args.micros c.args.job.now c.begin_and_commit.result.1 v l.0
-    (λ r. omega (arith, r, c.in-Ok.ensures.faults)) l.2.stays l.2.doubtless
+    (λ r. omega (arith, r, c.in-Ok.ensures.faults)) l.2.stays l.2.doubtless l.2.left
     (c.begin_and_commit.ensures.does l.0 l.1 l.2.stays.outside (l.2.least ∙ seen) (b.0 ∙ ap (λ (n : ℕ). base_of c.args.job.now.base n) seen) (subst (λ (n : ℕ). c.in-Ok.base ≤ n) seen b.1))
 
 pub returns-in-Err-clause-does : goal.returns-in-Err-clause-does

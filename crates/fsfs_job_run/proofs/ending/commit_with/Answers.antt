@@ -36,7 +36,7 @@ pub returns-in-DiskFault-clause-ends : goal.returns-in-DiskFault-clause-ends
 returns-in-DiskFault-clause-ends g c = λ v x known none told given is.
     let before = c.args.repo.turns in
     let after = c.commit-repo.result.0.turns in
-    disk_by _ _ _ _ c.commit-repo.result.1 (Rose (g.D.Disk.faults before.disk) (g.D.Disk.faults after.disk)) c.args.micros c.args.job.now c.args.properties v x (KnowsAlone after.layout after.young after.stuck (g.D.Disk.trace after.disk)) (is_lone after.layout after.young after.stuck (g.D.Disk.trace after.disk)) c.in-DiskFault.place c.stopped.result known.1.own none c.stopped.ensures c.in-DiskFault.is
+    disk_by _ _ _ _ c.commit-repo.result.1 (Rose (g.D.Disk.faults before.disk) (g.D.Disk.faults after.disk)) c.args.micros c.args.job.now c.args.properties v x (KnowsAlone after.layout after.young after.stuck (g.D.Disk.trace after.disk)) (is_lone after.layout after.young after.stuck (g.D.Disk.trace after.disk)) c.in-DiskFault.place c.stopped.result known.1.own none c.stopped.ensures c.requires.undated c.in-DiskFault.is
     c.commit-repo.ensures.cause (c.commit-repo.ensures.meets v x known none given is)
 
 pub returns-in-BenchFault-clause-ends : goal.returns-in-BenchFault-clause-ends

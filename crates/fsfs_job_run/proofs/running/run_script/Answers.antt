@@ -33,8 +33,8 @@ returns-in-Ok-done-clause-ran g c =
     let given : c.as_slice.result.now ≡ js = c.as_slice.ensures in
     let each : length answers ≡ length js = if_ok c.do_jobs-disk.result.1 c.in-Ok-done.done _ c.in-Ok-done.is c.do_jobs-disk.ensures.each ∙ ap (λ (l : List Job). length l) given in
     let over = ran_over _ c.args.micros js answers c.in-Ok-done.done.youngest (told c.args.disk) (told c.do_jobs-disk.result.0) c.in-Ok.ensures.known
-    (λ v known none opened had few. subst (λ l. Ran c.args.micros v.since l answers c.in-Ok-done.done.youngest (revisions v.seen) (told c.do_jobs-disk.result.0)) given
-    (if_ok c.do_jobs-disk.result.1 c.in-Ok-done.done _ c.in-Ok-done.is (c.do_jobs-disk.ensures.does v known none opened had few))) in
+    (λ v known none opened had clear few. subst (λ l. Ran c.args.micros v.since l answers c.in-Ok-done.done.youngest (revisions v.seen) (told c.do_jobs-disk.result.0)) given
+    (if_ok c.do_jobs-disk.result.1 c.in-Ok-done.done _ c.in-Ok-done.is (c.do_jobs-disk.ensures.does v known none opened had clear few))) in
     let count = g.D.Disk.faults in
     let now = count c.do_jobs-disk.result.0 in
     let told_of = if_ok c.do_jobs-disk.result.1 c.in-Ok-done.done _ c.in-Ok-done.is c.do_jobs-disk.ensures.cause in

@@ -26,14 +26,14 @@ end-answer-requires g c = record {
       let w = c.requires.due (sym c.commit-back.ensures.duty ∙ bound) in
       let can = subst (λ q. CanCommit w.0 w.1 q) (sym c.with_note.ensures.properties) (can_commit w.0 _ _ _ w.1 c.in-Ok.given w.5 w.4 c.in-Ok.ensures.form) in
       let means = c.with_note.ensures.means w.0.seen w.1 (λ sound. w.5) w.6 in
-      known_then _ _ w.0 w.1 _ c.name-name.result.number.number c.commit-back.result.2 w.3 w.4 (w.5.numbered ∙ ap (λ (n : TxnName). n.number.number) (sym c.name-name.ensures))
+      known_then _ _ w.0 w.1 _ _ c.name-name.result.number.number c.commit-back.result.2 w.3 w.4 (w.5.numbered ∙ ap (λ (n : TxnName). n.number.number) (sym c.name-name.ensures))
       (c.commit-back.ensures.committed w.0 w.1 w.2 means can w.3) (c.commit-back.ensures.refused w.0 w.1 w.2 means can w.3);
 }
 
 -- ---- what they come to
 
 pub returns-in-Err-clause-meets : goal.returns-in-Err-clause-meets
-returns-in-Err-clause-meets g c = λ v x known none given is pinned. (v, x, known, record { moved = unmoved v; landings = Unmoved x; name = refl; doubtless = λ few. few; stands = (c.requires.sound, is) }, tt)
+returns-in-Err-clause-meets g c = λ v x known none given is pinned. (v, x, known, record { moved = unmoved v; landings = Unmoved x; name = refl; doubtless = λ few. few; left = refl; stands = (c.requires.sound, is) }, tt)
 
 pub returns-clause-meets : goal.returns-clause-meets
 returns-clause-meets g c = λ v x known none given is pinned.
@@ -45,7 +45,7 @@ returns-clause-meets g c = λ v x known none given is pinned.
     meets_so _ _ c.args.micros c.args.properties p v x c.end-answer.result c.in-Ok.ensures.date
     (c.end-answer.ensures.ends p v x none given (is.numbered ∙ ap (λ (n : TxnName). n.number.number) (sym c.name-name.ensures))
     (added_so _ _ v x p _ c.commit-back.result.2 same (c.commit-back.ensures.committed v x known means can_so none))
-    (left_so _ _ v x _ c.commit-back.result.2 (λ u y means. c.into_left-left.ensures.means u.seen y means.0) (c.commit-back.ensures.refused v x known means can_so none)))
+    (left_so _ _ v x p _ _ c.commit-back.result.2 same (λ u y means. c.into_left-left.ensures.means u.seen y means.0) (c.commit-back.ensures.refused v x known means can_so none)))
 
 pub returns-clause-past : goal.returns-clause-past
 returns-clause-past g c = c.end-answer.ensures.past (commit_found c.commit-back.result.2 _ _ (λ limit past. c.into_left-left.ensures.past limit past) c.commit-back.ensures.found)

@@ -2,9 +2,9 @@ use Rattle.std.proofs.Common.{sym, subst, arith}
 use Rattle.fsfs_base.specs.Failures.{Rose}
 use Rattle.fsfs_base.proofs.ResultLemmas.{if_ok, if_err}
 use Rattle.fsfs_turn.specs.Alone.{BringsNoDoubt}
-use Rattle.fsfs_repo.specs.Txns.Fates.{Fated, IfStopped, UnlessDoubtful}
+use Rattle.fsfs_repo.specs.Txns.Fates.{Fated, FateLeft, IfStopped, UnlessDoubtful}
 use Rattle.fsfs_repo.proofs.BenchFaults.{fate_left}
-use Rattle.fsfs_repo.proofs.Commits.{dropped_as, given_still, fated, certain_so, stopped, rose_before}
+use Rattle.fsfs_repo.proofs.Commits.{dropped_as, given_still, fated, certain_so, left_by_fate, stopped, rose_before}
 use Rattle.fsfs_repo.proofs.Limits.{fate_past}
 use Rattle.fsfs_repo.proofs.txns.ending.end.Goals as goal
 
@@ -28,7 +28,7 @@ pub returns-in-Err-clause-ends : goal.returns-in-Err-clause-ends
 returns-in-Err-clause-ends g c = λ p v x none given named added refused.
     let w = if_err c.args.done c.in-Err.fault _ c.in-Err.is refused in
     c.fall.ensures.ends p v w.0 x w.1 w.2 w.3.moved none given named w.3.landings (subst (λ f. Fated f v w.0 w.1) (sym c.fate_of.ensures) (fated c.in-Err.fault v w.0 w.1 w.3.cause))
-    (subst (λ f. UnlessDoubtful f (BringsNoDoubt v w.0)) (sym c.fate_of.ensures) (certain_so c.in-Err.fault (BringsNoDoubt v w.0) w.3.doubtless)) w.4
+    (subst (λ f. UnlessDoubtful f (BringsNoDoubt v w.0)) (sym c.fate_of.ensures) (certain_so c.in-Err.fault (BringsNoDoubt v w.0) w.3.doubtless)) (subst (λ f. FateLeft f p v x w.0) (sym c.fate_of.ensures) (left_by_fate c.in-Err.fault p v x w.0 w.3.left)) w.4
 
 pub returns-in-Ok-clause-cause : goal.returns-in-Ok-clause-cause
 returns-in-Ok-clause-cause g c = λ n low rose fails. rose_before n _ _ low (c.drop_bench-purged.ensures.cause fails)

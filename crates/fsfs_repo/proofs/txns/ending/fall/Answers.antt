@@ -1,7 +1,7 @@
 use Rattle.std.proofs.Common.{ap, subst, arith}
 use Rattle.fsfs_base.specs.Failures.{Rose}
 use Rattle.fsfs_turn.specs.Alone.{BringsNoDoubt}
-use Rattle.fsfs_repo.specs.Txns.Fates.{Fated, IfStopped, UnlessDoubtful}
+use Rattle.fsfs_repo.specs.Txns.Fates.{Fated, FateLeft, IfStopped, UnlessDoubtful}
 use Rattle.fsfs_repo.proofs.BenchFaults.{barred_left, failed_left}
 use Rattle.fsfs_repo.proofs.Commits.{no_more, rose_later}
 use Rattle.fsfs_repo.proofs.Limits.{barred_past}
@@ -21,16 +21,16 @@ drop_bench-requires-in-BenchFault g c = record { due = λ bound. c.requires.due 
 -- ---- what they come to
 
 pub returns-in-Barred-clause-ends : goal.returns-in-Barred-clause-ends
-returns-in-Barred-clause-ends g c = λ p v u x y known moved none given named landings is certain means.
-    c.hand_back.ensures.ends p v u x y known moved none given named landings (subst (λ f. Fated f v u y) c.in-Barred.is is) (subst (λ f. UnlessDoubtful f (BringsNoDoubt v u)) c.in-Barred.is certain) means
+returns-in-Barred-clause-ends g c = λ p v u x y known moved none given named landings is certain kept means.
+    c.hand_back.ensures.ends p v u x y known moved none given named landings (subst (λ f. Fated f v u y) c.in-Barred.is is) (subst (λ f. UnlessDoubtful f (BringsNoDoubt v u)) c.in-Barred.is certain) (subst (λ f. FateLeft f p v x u) c.in-Barred.is kept) means
 
 pub returns-in-DiskFault-clause-ends : goal.returns-in-DiskFault-clause-ends
-returns-in-DiskFault-clause-ends g c = λ p v u x y known moved none given named landings is certain means.
-    (u, subst (λ f. Fated f v u y) c.in-DiskFault.is is, subst (λ f. UnlessDoubtful f (BringsNoDoubt v u)) c.in-DiskFault.is certain, no_more _ v u x c.args.name.now.number.number c.drop_bench.result moved none given named (λ out there. c.drop_bench.ensures.dropped u known out there))
+returns-in-DiskFault-clause-ends g c = λ p v u x y known moved none given named landings is certain kept means.
+    (u, subst (λ f. Fated f v u y) c.in-DiskFault.is is, subst (λ f. UnlessDoubtful f (BringsNoDoubt v u)) c.in-DiskFault.is certain, subst (λ f. FateLeft f p v x u) c.in-DiskFault.is kept, no_more _ v u x c.args.name.now.number.number c.drop_bench.result moved none given named (λ out there. c.drop_bench.ensures.dropped u known out there))
 
 pub returns-in-BenchFault-clause-ends : goal.returns-in-BenchFault-clause-ends
-returns-in-BenchFault-clause-ends g c = λ p v u x y known moved none given named landings is certain means.
-    (u, subst (λ f. UnlessDoubtful f (BringsNoDoubt v u)) c.in-BenchFault.is certain, no_more _ v u x c.args.name.now.number.number c.drop_bench-in-BenchFault.result moved none given named (λ out there. c.drop_bench-in-BenchFault.ensures.dropped u known out there))
+returns-in-BenchFault-clause-ends g c = λ p v u x y known moved none given named landings is certain kept means.
+    (u, subst (λ f. UnlessDoubtful f (BringsNoDoubt v u)) c.in-BenchFault.is certain, subst (λ f. FateLeft f p v x u) c.in-BenchFault.is kept, no_more _ v u x c.args.name.now.number.number c.drop_bench-in-BenchFault.result moved none given named (λ out there. c.drop_bench-in-BenchFault.ensures.dropped u known out there))
 
 pub returns-in-DiskFault-clause-cause : goal.returns-in-DiskFault-clause-cause
 returns-in-DiskFault-clause-cause g c = λ n rose.

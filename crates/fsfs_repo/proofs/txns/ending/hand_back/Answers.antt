@@ -17,16 +17,16 @@ drop_bench-requires-then-is_spent g c = record { due = λ bound. c.requires.due 
 -- ---- what they come to
 
 pub returns-in-Bench-clause-ends : goal.returns-in-Bench-clause-ends
-returns-in-Bench-clause-ends g c = λ p v u x y known moved none given named landings bars brings means.
-    (u, brings, no_more _ v u x c.args.name.now.number.number c.drop_bench.result moved none given named (λ out there. c.drop_bench.ensures.dropped u known out there))
+returns-in-Bench-clause-ends g c = λ p v u x y known moved none given named landings bars brings kept means.
+    (u, brings, kept, no_more _ v u x c.args.name.now.number.number c.drop_bench.result moved none given named (λ out there. c.drop_bench.ensures.dropped u known out there))
 
 pub returns-then-is_spent-clause-ends : goal.returns-then-is_spent-clause-ends
-returns-then-is_spent-clause-ends g c = λ p v u x y known moved none given named landings bars brings means.
-    (u, brings, no_more _ v u x c.args.name.now.number.number c.drop_bench-then-is_spent.result moved none given named (λ out there. c.drop_bench-then-is_spent.ensures.dropped u known out there))
+returns-then-is_spent-clause-ends g c = λ p v u x y known moved none given named landings bars brings kept means.
+    (u, brings, kept, no_more _ v u x c.args.name.now.number.number c.drop_bench-then-is_spent.result moved none given named (λ out there. c.drop_bench-then-is_spent.ensures.dropped u known out there))
 
 pub returns-clause-ends : goal.returns-clause-ends
-returns-clause-ends g c = λ p v u x y known moved none given named landings bars brings means.
-    (u, y, known, record { moved = moved; landings = landings; name = landings_name u.seen x y landings; doubtless = brings; stands = back_so _ u.seen _ _ _ y (sym c.is_spent.ensures ∙ c.if-is_spent.false) (of_txn c.args.left c.in-Txn.txn _ c.in-Txn.is means) }, bars)
+returns-clause-ends g c = λ p v u x y known moved none given named landings bars brings kept means.
+    (u, y, known, record { moved = moved; landings = landings; name = landings_name u.seen x y landings; doubtless = brings; left = kept; stands = back_so _ u.seen _ _ _ y (sym c.is_spent.ensures ∙ c.if-is_spent.false) (of_txn c.args.left c.in-Txn.txn _ c.in-Txn.is means) }, bars)
 
 pub returns-clause-past : goal.returns-clause-past
 returns-clause-past g c = λ past. bar_past c.args.bar c.args.left c.in-Txn.txn _ c.in-Txn.is past

@@ -96,7 +96,7 @@ returns-in-Err-begun-clause-works g c = λ v known none.
     let disk = if_err c.begin_txn-turns.result.1 c.in-Err-begun.why (λ why. IfDisk why part) c.in-Err-begun.is c.begin_txn-turns.ensures.cause in
     let rose : IfDisk c.in-Err-begun.why whole = subst (λ n. IfDisk c.in-Err-begun.why (Rose n (g.T.Turns.faults after))) c.base_of-youngest.ensures.faults disk in
     ⊎_elim (λ d. unbegun_so (g.T.Turns.knows after) whole c.args.micros c.in-Ok.base c.args.job.now c.in-Err-begun.why c.of_begin-fault.result v l.0 d.0 d.1 look (omega (arith, told, base.1)) d.2 (g.met.T.Turns.tells after d.0 d.1).shown d.3 rose c.of_begin-fault.ensures)
-    (λ past. let m = past.2 in lacking_so (g.T.Turns.knows after) whole c.args.micros c.args.job.now c.in-Err-begun.why c.of_begin-fault.result v l.0 m.0 m.1 look m.2 past.1 rose c.of_begin-fault.ensures)
+    (λ past. let m = past.2 in lacking_so (g.T.Turns.knows after) whole c.args.micros c.args.job.now c.in-Err-begun.why c.of_begin-fault.result v l.0 m.0 m.1 look m.2 m.3 past.1 rose c.of_begin-fault.ensures)
     (if_err c.begin_txn-turns.result.1 c.in-Err-begun.why _ c.in-Err-begun.is (c.begin_txn-turns.ensures.refused l.0 l.1 out))
 
 pub returns-in-Err-begun-clause-cause : goal.returns-in-Err-begun-clause-cause

@@ -63,7 +63,7 @@ returns-in-DiskFault-clause-works g c = λ v x k known none e on within few.
     let p = pick (g.T.Turns.knows c.args.turns) c.args.job.now c.args.last _ c.args.txn.base _ (g.T.Turns.bound c.args.turns) c.note_edited-standing.result.value v x
     (λ is a b here there. g.met.T.Turns.sole c.args.turns a b is here there) known e c.note_edited-standing.ensures in
     disk_by _ c.commit_txn-back.result.1 (Rose (g.T.Turns.faults c.args.turns) (g.T.Turns.faults c.commit_txn-back.result.0)) c.args.micros k c.args.last c.args.job.now c.args.properties _ c.args.txn.base _ v p.0 p.1 few on within none
-    (g.T.Turns.knows c.commit_txn-back.result.0) c.in-DiskFault.place c.stopped.result c.stopped.ensures c.in-DiskFault.is c.commit_txn-back.ensures.cause (c.commit_txn-back.ensures.meets v p.0 known none p.1.given p.1.stands p.2)
+    (g.T.Turns.knows c.commit_txn-back.result.0) c.in-DiskFault.place c.stopped.result c.stopped.ensures c.requires.undated c.in-DiskFault.is c.commit_txn-back.ensures.cause (c.commit_txn-back.ensures.meets v p.0 known none p.1.given p.1.stands p.2)
 
 pub returns-in-BenchFault-clause-works : goal.returns-in-BenchFault-clause-works
 returns-in-BenchFault-clause-works g c = λ v x k known none e on within few.
