@@ -395,6 +395,8 @@ module _ (holds : Txn → Revision → List ℕ → Type 0) (ready : Ready) (pro
         begins = drifted.grows;
         history = history;
         is_next = subst (λ k. IsNext (revisions n.seen) (entry_of k x properties) next) drifted.number (entry_back n.seen n.number properties next x y history over_here landings_here next_is);
+        lands = λ h later hist follows. subst (λ k. IsNext (revisions h) (entry_of k x properties) next) drifted.number
+            (entry_back h n.number properties next x y hist (txn_later v.seen h x (begins_on v.seen n.seen h drifted.grows later) (omega (arith, r.from.based)) r.from.over) (landings_later n.seen h x y later landings_here) follows);
       }
 
   pub failed_at : {E : Type 0} {Says : Refusals E} (place : CommitPlace) (o : View) → BringsNoDoubt v n → n.left ≡ v.left → v.section ≡ None → StoppedAt place to_come_here n o → Refused Says properties (fault.DiskFault place) v o x y
@@ -522,6 +524,8 @@ wrote_on p v m o x y c d can landings w =
       begins = begins;
       history = w.history;
       is_next = entry_back w.before v.number p c.revision x y w.history (txn_later v.seen w.before x begins (omega (arith, can.based)) can.over) first (subst (λ k. IsNext (revisions w.before) (entry_of k y p) c.revision) d.number w.is_next);
+      lands = λ h later hist follows. entry_back h v.number p c.revision x y hist (txn_later v.seen h x (begins_on v.seen w.before h begins later) (omega (arith, can.based)) can.over) (landings_later w.before h x y later first)
+          (subst (λ k. IsNext (revisions h) (entry_of k y p) c.revision) d.number (w.lands h later hist follows));
     }
 
 pub refused_on : {E : Type 0} {Says : Refusals E} (p : List (List ℕ × List ℕ)) (f : CommitFault E) (v m o : View) (x y z : Txn) → Drifted v m → BringsNoDoubt v m → m.left ≡ v.left → CanCommit v x p → m.section ≡ v.section → Landings m.seen x y → Refused Says p f m o y z → Refused Says p f v o x z
@@ -575,6 +579,7 @@ wrote_taken p v m u o x c t same w = record {
   begins = subst (λ h. Begins w.before h) (ap {A = View} (λ z. z.seen) t.is) w.begins;
   history = w.history;
   is_next = subst (λ k. IsNext (revisions w.before) (entry_of k x p) c.revision) (ap {A = View} (λ z. z.number) t.is) w.is_next;
+  lands = λ h later hist follows. subst (λ k. IsNext (revisions h) (entry_of k x p) c.revision) (ap {A = View} (λ z. z.number) t.is) (w.lands h later hist follows);
 }
 
 pub refused_last : {E : Type 0} {Says : Refusals E} {p : List (List ℕ × List ℕ)} (f : CommitFault E) (v m u o : View) (x y : Txn) → v.section ≡ None → LockTaken v m → Refused Says p f m u x y → LockGiven (step.GiveLock u.number) u o → Refused Says p f v o x y

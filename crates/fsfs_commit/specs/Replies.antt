@@ -51,13 +51,15 @@ pub record IsToCome (head : ℕ) (made : Made) (bytes : List ℕ) (number : ℕ)
 abbrev pub LeavesDoubt : (Coming → Type 0) → View → View → Type 0
 LeavesDoubt W v u = (u.left ≡ v.left) ⊎ ((c : Coming) × (u.left ≡ Some c) × W c)
 
--- the revision is the next of a history that lies between what the pass had seen and what it has seen now, by the entry of x
+-- The revision is the next of a history that lies between what the pass had seen and what it has seen now, by the entry of x. Where that history
+-- goes on, and the revision follows it by its own entry, it does so by that of x too: its entry may have been landed on the way.
 pub record Wrote (properties : List (List ℕ × List ℕ)) (v u : View) (x : Txn) (c : Coming) : Type 0 where
   pub before : List Recorded
   pub seen : Begins u.seen before
   pub begins : Begins before v.seen
   pub history : IsHistory (revisions before)
   pub is_next : IsNext (revisions before) (entry_of v.number x properties) c.revision
+  pub lands : (h : List Recorded) → Begins h before → IsHistory (revisions h) → IsNext (revisions h) c.entry c.revision → IsNext (revisions h) (entry_of v.number x properties) c.revision
 
 -- all is made for the revision that follows the head, on which the transaction stands
 pub record IsReady (holds : Txn → Revision → List ℕ → Type 0) (ready : Ready) (properties : List (List ℕ × List ℕ)) (v u : View) (x y : Txn) : Type 0 where

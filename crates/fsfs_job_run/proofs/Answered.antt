@@ -37,7 +37,7 @@ use Rattle.fsfs_job_run.specs.Serial.Jobs.{ByDisk, ByBench}
 use Rattle.fsfs_job_run.specs.Faults.{answer_of_bar}
 use Rattle.fsfs_job_run.specs.Running.{Stays}
 use Rattle.fsfs_job_run.specs.Ending.{EndsSo, TxnLeft}
-use Rattle.fsfs_job_run.proofs.Ended.{commits_wrote}
+use Rattle.fsfs_job_run.proofs.Ended.{wrote_commits}
 use Rattle.fsfs_job_run.proofs.PropertyLemmas.{job_dated}
 use Rattle.fsfs_job_run.proofs.Bars.{bar_bare, bar_done, bar_outside}
 use Rattle.fsfs_job_run.proofs.Ends.{IsLone, StaysKnown, back_stays, ends_committed, ends_failed, ends_purged}
@@ -73,15 +73,14 @@ disk_ends knows lone rose moment job at answer v x all none up is properties dat
     subst (λ (a : JobAnswer). EndsSo knows rose moment job a x v) (sym is)
     (ends_failed knows lone rose moment job (answers.Stopped job.line (Outside (outside.Disk at))) x gone x.name v u all none tt (ByDisk (jobs.Commit job) job.line at) (λ m same. up) brings left_by moved dropped)
   where
-    -- the revision that was to be added follows what the pass had seen
-    left_by : u.seen ≡ v.seen → TxnLeft moment job x v u
-    left_by same = ⊎_elim (λ kept. inl kept) (λ (w : (c : Coming) × (u.left ≡ Some c) × Wrote dated v u x c). inr (w.0, w.1, commits_wrote moment job date.0 dated v u x w.0 same w.2 date.1 (dated_so moment job properties dated undated date))) doubt
+    left_by : TxnLeft moment job x v u
+    left_by = ⊎_elim (λ kept. inl kept) (λ (w : (c : Coming) × (u.left ≡ Some c) × Wrote dated v u x c). inr (w.0, w.1, wrote_commits moment job date.0 dated v u x w.0 w.2 date.1 (dated_so moment job properties dated undated date))) doubt
 
 pub bench_ends : (knows : View → Type 0) → IsLone knows → (rose : Type 0) (moment : ℕ) (job : CommitJob) (answer : JobAnswer) (v : View) (x : Txn) → IsCounted v → v.section ≡ None → answer ≡ answers.Stopped job.line (Outside outside.Bench)
     → (u : View) → BringsNoDoubt v u → u.left ≡ v.left → Moved v u → (gone : Bool) → IsDropped knows gone x.name u → EndsSo knows rose moment job answer x v
 bench_ends knows lone rose moment job answer v x all none is u brings kept moved gone dropped =
     subst (λ (a : JobAnswer). EndsSo knows rose moment job a x v) (sym is)
-    (ends_failed knows lone rose moment job (answers.Stopped job.line (Outside outside.Bench)) x gone x.name v u all none tt (ByBench (jobs.Commit job) job.line) (λ m same. tt) (λ calm. brings) (λ same. inl kept) moved dropped)
+    (ends_failed knows lone rose moment job (answers.Stopped job.line (Outside outside.Bench)) x gone x.name v u all none tt (ByBench (jobs.Commit job) job.line) (λ m same. tt) (λ calm. brings) (inl kept) moved dropped)
 
 -- the name of one that is handed back is known to be given still
 pub given_back : (v u : View) (x y : Txn) (n : ℕ) → u.given ≡ v.given → IsIn x.name v.given → y.name ≡ x.name → y.name ≡ n → IsIn n u.given

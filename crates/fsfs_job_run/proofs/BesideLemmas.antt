@@ -21,7 +21,7 @@ use Rattle.fsfs_job_run.specs.Serial.Jobs.{own_of, own_of_all, tell_full, tells_
 use Rattle.fsfs_job_run.specs.Serial.Counts.{StopsOver}
 use Rattle.fsfs_job_run.specs.Workers.Beside.{CountsIn, IsBase, IsOfOne, RunsBeside, ReadsText, LacksRead, LacksBase, DoesEdits, GoesOnFrom, WasToAddTo, shown_in}
 use Rattle.fsfs_job_run.proofs.Counted.{counted_on}
-use Rattle.fsfs_job_run.specs.Workers.Passes.{last_known, IsOnward, LeftBeside, End, More}
+use Rattle.fsfs_job_run.specs.Workers.Passes.{last_known, IsOnward, LeftBeside, OfFollowed, End, More}
 use Rattle.fsfs_job_run.specs.Workers.Laws.{LinesStay, WorkersLinesStay, AloneIsBeside, WorkGoesOn, WorkersWorked}
 
 -- ---- of a later history, and a worker that knew less
@@ -101,18 +101,18 @@ begins_itself h = ([], sym (append-nil h))
 -- ---- what is left in doubt
 
 pub less_known : (moment : ℕ) (h : List Revision) (k less : ℕ) (job : Job) (next : Revision) → less ≤ k → WasToAddTo moment h k job next → WasToAddTo moment h less job next
-less_known moment h k less job next few w = record { before = w.before; known = omega (arith, few, w.known); date = w.date; dated = w.dated; runs = runs_less w.before w.date k less job (Committed (length w.before)) (w.before ++ next ∷ []) few w.runs; part = w.part }
+less_known moment h k less job next few w = record { known = omega (arith, few, w.known); date = w.date; dated = w.dated; runs = runs_less h w.date k less job (Committed (length h)) (h ++ next ∷ []) few w.runs }
 
 later_one : (moment : ℕ) (h : List Revision) (k less : ℕ) (job : Job) (js : List Job) (next : Revision) → less ≤ k → IsOfOne moment h k js next → IsOfOne moment h less (job ∷ js) next
 later_one moment h k less job js next few o = record { at = suc o.at; job = o.job; is = o.is; was = less_known moment h k less o.job next few o.was }
 
 -- of one of the first, or of a later one
 jobs_left : (moment : ℕ) (job : Job) (js : List Job) (v m u : View) → Begins u.seen m.seen → last_known m ≤ last_known u → last_known v ≤ last_known m → LeftBeside moment (last_known v) job v m
-    → (u.left ≡ m.left) ⊎ ((c : Coming) × (u.left ≡ Some c) × ((h : List Recorded) → IsOnward u h → IsOfOne moment (revisions h) (last_known m) js c.revision))
-    → (u.left ≡ v.left) ⊎ ((c : Coming) × (u.left ≡ Some c) × ((h : List Recorded) → IsOnward u h → IsOfOne moment (revisions h) (last_known v) (job ∷ js) c.revision))
-jobs_left moment job js v m u begins later first one (inr (c, is, of)) = inr (c, is, λ h on. later_one moment (revisions h) (last_known m) (last_known v) job js c.revision first (of h on))
+    → (u.left ≡ m.left) ⊎ ((c : Coming) × (u.left ≡ Some c) × OfFollowed u c (λ h. IsOfOne moment h (last_known m) js c.revision))
+    → (u.left ≡ v.left) ⊎ ((c : Coming) × (u.left ≡ Some c) × OfFollowed u c (λ h. IsOfOne moment h (last_known v) (job ∷ js) c.revision))
+jobs_left moment job js v m u begins later first one (inr (c, is, of)) = inr (c, is, λ h on hist follows. later_one moment (revisions h) (last_known m) (last_known v) job js c.revision first (of h on hist follows))
 jobs_left moment job js v m u begins later first (inl kept) (inl same) = inl (same ∙ kept)
-jobs_left moment job js v m u begins later first (inr (c, is, was)) (inl same) = inr (c, same ∙ is, λ h on. record { at = 0; job = job; is = refl; was = was h (onward h m u begins later on) })
+jobs_left moment job js v m u begins later first (inr (c, is, was)) (inl same) = inr (c, same ∙ is, λ h on hist follows. record { at = 0; job = job; is = refl; was = was h (onward h m u begins later on) hist follows })
 
 not_so : (a b : Bool) → (a ≡ true → b ≡ true) → b ≡ false → a ≡ false
 not_so true b so none = let e : b ≡ true = so refl in absurd cc

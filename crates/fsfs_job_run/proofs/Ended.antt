@@ -14,7 +14,7 @@ use Rattle.fsfs_machine.specs.declared.machine.Txn.{Txn}
 use Rattle.fsfs_machine.specs.Machine.{revisions, entry_of}
 use Rattle.fsfs_machine.proofs.Growing.{revisions_length}
 use Rattle.fsfs_turn.specs.Views.{View, IsTxnOver}
-use Rattle.fsfs_turn.proofs.Alone.{same_by_length, no_shorter}
+use Rattle.fsfs_turn.proofs.Reading.{begins_on}
 use Rattle.fsfs_repo.specs.Works.{Landings}
 use Rattle.fsfs_repo.specs.Replies.{Committed, Wrote}
 use Rattle.fsfs_script.specs.declared.job_lines.job.CommitJob.{CommitJob}
@@ -26,7 +26,7 @@ use Rattle.fsfs_jobs.specs.declared.answer.JobAnswer.TheVariants as answers
 use Rattle.fsfs_job_run.specs.Serial.Jobs.{DoesJob}
 use Rattle.fsfs_job_run.specs.Serial.Clashes.{ClashesFirst}
 use Rattle.fsfs_job_run.proofs.Clashing.{clash_back}
-use Rattle.fsfs_job_run.specs.Ending.{CommitsTxn, ByCommit, ByRevs, IsEdited}
+use Rattle.fsfs_job_run.specs.Ending.{CommitsTxn, ByCommit, ByRevs, IsEdited, WasToCommit}
 
 -- it was added
 pub commits_added : (moment rev : ℕ) (job : CommitJob) (date : List ℕ) (properties : List (List ℕ × List ℕ)) (v u : View) (x y : Txn) (c : Committed rev properties v u x y) → c.before ≡ v.seen
@@ -51,20 +51,13 @@ commits_added moment rev job date properties v u x y c same dated are =
         (subst (λ (p : List (List ℕ × List ℕ)). IsNext (revisions c.before) (entry_of v.number x p) c.next.revision) are c.handed_in)
 
 -- it was to be added, and is left in doubt
-pub commits_wrote : (moment : ℕ) (job : CommitJob) (date : List ℕ) (properties : List (List ℕ × List ℕ)) (v u : View) (x : Txn) (c : Coming) → u.seen ≡ v.seen → Wrote properties v u x c
-    → IsDateAt moment date → properties ≡ job_properties date job → CommitsTxn moment v.number job (revisions v.seen) x (answers.Committed (length (revisions v.seen))) (revisions v.seen ++ c.revision ∷ [])
-commits_wrote moment job date properties v u x c stayed w dated are = ByCommit date (answers.Committed (length (revisions v.seen))) (revisions v.seen ++ c.revision ∷ []) dated (Adds c.revision next)
-  where
-    same : w.before ≡ v.seen
-    same =
-        let long : length u.seen ≡ length v.seen = ap (λ (h : List Recorded). length h) stayed in
-        let low = no_shorter v.seen w.before w.begins in
-        let high = no_shorter w.before u.seen w.seen in
-        same_by_length v.seen w.before w.begins (omega (arith, long, low, high))
-
-    next : IsNext (revisions v.seen) (entry_of v.number x (job_properties date job)) c.revision
-    next = subst (λ (h : List Recorded). IsNext (revisions h) (entry_of v.number x (job_properties date job)) c.revision) same
-        (subst (λ (p : List (List ℕ × List ℕ)). IsNext (revisions w.before) (entry_of v.number x p) c.revision) are w.is_next)
+pub wrote_commits : (moment : ℕ) (job : CommitJob) (date : List ℕ) (properties : List (List ℕ × List ℕ)) (v u : View) (x : Txn) (c : Coming) → Wrote properties v u x c
+    → IsDateAt moment date → properties ≡ job_properties date job → WasToCommit moment v.number job x u.seen c
+wrote_commits moment job date properties v u x c w dated are = record {
+  date = date;
+  dated = dated;
+  lands = λ g later hist follows. subst (λ (p : List (List ℕ × List ℕ)). IsNext (revisions g) (entry_of v.number x p) c.revision) are (w.lands g (begins_on w.before u.seen g w.seen later) hist follows.1);
+}
 
 -- it clashes with the last revision, where the history is not full
 pub commits_clash : (moment pass : ℕ) (job : CommitJob) (h : List Recorded) (x y : Txn) (path : Path) → IsHistory (revisions h) → IsTxnOver h x → Landings h x y → 0 < length h → y.base ≤ last_of (revisions h) → last_of (revisions h) < last_rev

@@ -33,7 +33,7 @@ use Rattle.fsfs_job_run.specs.Serial.Jobs.{Fails, tells_doubt}
 use Rattle.fsfs_repo.specs.Dating.{IsDatedAt}
 use Rattle.fsfs_repo.specs.Txns.Commits.{IsDropped}
 use Rattle.fsfs_job_run.specs.Running.{Stays, HasOutsideCause}
-use Rattle.fsfs_job_run.specs.Ending.{CommitsTxn, EndsSo, TxnLeft}
+use Rattle.fsfs_job_run.specs.Ending.{CommitsTxn, EndsSo, TxnLeft, WasToCommit}
 use Rattle.fsfs_job_run.proofs.PropertyLemmas.{job_dated}
 use Rattle.fsfs_job_run.proofs.Staying.{IsCounted, IsBare, seen_same, between, bare_leaves, stays_on, then_stays, purge_stays, no_purge_stays, moved_stays, commit_leaves}
 use Rattle.fsfs_job_run.proofs.Ended.{commits_added}
@@ -45,9 +45,9 @@ pub record IsLone (knows : View → Type 0) : Type 0 where
   pub number : (u : View) → knows u → u.number ≡ 0
 
 -- what is left in doubt stays so
-left_on : (moment : ℕ) (job : CommitJob) (x : Txn) (v m u : View) → u.left ≡ m.left → TxnLeft moment job x v m → TxnLeft moment job x v u
-left_on moment job x v m u same (inl kept) = inl (same ∙ kept)
-left_on moment job x v m u same (inr (c, is, wrote)) = inr (c, same ∙ is, wrote)
+left_on : (moment : ℕ) (job : CommitJob) (x : Txn) (v m u : View) → u.left ≡ m.left → u.seen ≡ m.seen → TxnLeft moment job x v m → TxnLeft moment job x v u
+left_on moment job x v m u same seen (inl kept) = inl (same ∙ kept)
+left_on moment job x v m u same seen (inr (c, is, wrote)) = inr (c, same ∙ is, subst (λ (h : List Recorded). WasToCommit moment v.number job x h c) (sym seen) wrote)
 
 -- behind a purge
 abbrev pub StaysKnown : (View → Type 0) → View → Type 0
@@ -119,11 +119,11 @@ module _ (knows : View → Type 0) (lone : IsLone knows) where
   -- ---- nothing was added, and the transaction is no more
 
   pub ends_failed : (rose : Type 0) (moment : ℕ) (job : CommitJob) (answer : JobAnswer) (x : Txn) (gone : Bool) (name : ℕ) (v m : View) → IsCounted v → v.section ≡ None → IsBare answer → Fails (jobs.Commit job) answer
-      → ((u : View) → u.pass.stuck ≡ m.pass.stuck → HasOutsideCause rose u answer) → (tells_doubt answer ≡ false → BringsNoDoubt v m) → (m.seen ≡ v.seen → TxnLeft moment job x v m) → Moved v m → IsDropped knows gone name m → EndsSo knows rose moment job answer x v
+      → ((u : View) → u.pass.stuck ≡ m.pass.stuck → HasOutsideCause rose u answer) → (tells_doubt answer ≡ false → BringsNoDoubt v m) → TxnLeft moment job x v m → Moved v m → IsDropped knows gone name m → EndsSo knows rose moment job answer x v
   ends_failed rose moment job answer x gone name v m all none bare fails cause brings doubt moved dropped = (
     left.0,
     left.1,
-    record { done = inr fails; leaves = bare_leaves answer v left.0 bare (stays_on v m left.0 stays left.2) (λ calm few. left.3 (brings calm few)); left = left_on moment job x v m left.0 left.5 (doubt stays.seen) },
+    record { done = inr fails; leaves = bare_leaves answer v left.0 bare (stays_on v m left.0 stays left.2) (λ calm few. left.3 (brings calm few)); left = left_on moment job x v m left.0 left.5 left.2.seen doubt },
     cause left.0 left.4,
   )
     where

@@ -7,7 +7,7 @@ use Rattle.fsfs_tree.specs.Revisions.{Revision, tree_of}
 use Rattle.fsfs_tree.specs.Dated.{last_of}
 use Rattle.fsfs_model.specs.declared.flat.mark.Mark.{Mark}
 use Rattle.fsfs_machine.specs.declared.machine.Txn.{Txn}
-use Rattle.fsfs_machine.specs.Machine.{revisions}
+use Rattle.fsfs_machine.specs.Machine.{entry_of, revisions}
 use Rattle.fsfs_turn.specs.Views.{View}
 use Rattle.fsfs_turn.specs.Alone.{BringsNoDoubt}
 use Rattle.fsfs_script.specs.declared.job_lines.edit.Edit.{Edit}
@@ -17,9 +17,10 @@ use Rattle.fsfs_cli.specs.declared.faults.fault.Fault.{Fault}
 use Rattle.fsfs_cli.specs.declared.faults.fault.Fault.TheVariants.{Request}
 use Rattle.fsfs_cli.specs.declared.faults.request_fault.RequestFault.TheVariants.{Mergeinfo}
 use Rattle.fsfs_jobs.specs.Edits.{Refuses, StopsAt, TakesSteps}
+use Rattle.fsfs_jobs.specs.Properties.{job_properties}
 use Rattle.fsfs_jobs.specs.Serial.{Begins, Refused, base_of}
 use Rattle.fsfs_jobs.specs.declared.answer.JobAnswer.{JobAnswer}
-use Rattle.fsfs_jobs.specs.declared.answer.JobAnswer.TheVariants.{Committed, Stopped}
+use Rattle.fsfs_jobs.specs.declared.answer.JobAnswer.TheVariants.{Stopped}
 use Rattle.fsfs_job_run.specs.Serial.Jobs.{DoesJob, Fails, ByCounts, LeftBy, RunsJob, WasToAdd}
 use Rattle.fsfs_job_run.proofs.Finite.{edited_maps}
 use Rattle.fsfs_job_run.specs.Running.{Stays}
@@ -64,7 +65,17 @@ ends_job moment job answer x v u within e ends = record { done = by ends.done; l
   where
     left_by : TxnLeft moment job x v u → LeftBy moment (jobs.Commit job) v u
     left_by (inl kept) = inl kept
-    left_by (inr (c, is, wrote)) = inr (c, is, edited_does moment v.number job (Committed (length (revisions v.seen))) (revisions v.seen) (revisions v.seen ++ c.revision ∷ []) x within e wrote)
+    left_by (inr (c, is, was)) = inr (
+      c,
+      is,
+      record {
+        commit = job;
+        is = refl;
+        entry = entry_of v.number x (job_properties was.date job);
+        made = record { within = within; on = e.on; takes = e.takes; date = was.date; dated = was.dated; properties = refl };
+        lands = was.lands;
+      },
+    )
 
     by : CommitsTxn moment v.number job (revisions v.seen) x answer (revisions u.seen) ⊎ Fails (jobs.Commit job) answer → DoesJob moment (revisions v.seen) (jobs.Commit job) answer (revisions u.seen) ⊎ Fails (jobs.Commit job) answer
     by (inl commits) = inl (edited_does moment v.number job answer (revisions v.seen) (revisions u.seen) x within e commits)
@@ -80,4 +91,4 @@ runs_behind moment job answer v m u stays brings kept runs = record {
   where
     left_by : LeftBy moment (jobs.Commit job) m u → LeftBy moment (jobs.Commit job) v u
     left_by (inl same) = inl (same ∙ kept)
-    left_by (inr (c, is, wrote)) = inr (c, is, subst (λ (h : List Revision). WasToAdd moment h (jobs.Commit job) c.revision) (ap revisions stays.seen) wrote)
+    left_by (inr (c, is, was)) = inr (c, is, subst (λ (h : List Revision). WasToAdd moment h (jobs.Commit job) u.seen c) (ap revisions stays.seen) was)

@@ -28,6 +28,7 @@ use Rattle.fsfs_disk.proofs.CrashLemmas.{files_are_image, image_now}
 use Rattle.fsfs_machine.specs.declared.machine.Recorded.{Recorded}
 use Rattle.fsfs_machine.specs.declared.machine.Coming.{Coming}
 use Rattle.fsfs_machine.specs.Machine.{recorded, revisions}
+use Rattle.fsfs_tree.specs.Histories.{IsHistory}
 use Rattle.fsfs_tree.specs.Revisions.{Revision}
 use Rattle.fsfs_turn.specs.Views.{View, Begins}
 use Rattle.fsfs_turn.proofs.OwnFiles.{were_own}
@@ -42,6 +43,7 @@ use Rattle.fsfs_jobs.specs.declared.answer.JobAnswer.{JobAnswer}
 use Rattle.fsfs_job_run.specs.Serial.Jobs.{DoesJob, LeftBy, WasToAdd, Fails, ByDisk, ByBench, ByStuck, ByMemory, ByNames, ByCounts, AddsBy, RunsJob, RunJobs, End, More, StuckBehindDoubt, bench_faults_in, tell_full}
 use Rattle.fsfs_job_run.proofs.SerialJobLemmas.{runs_serial, grow}
 use Rattle.fsfs_job_run.proofs.ListedLemmas.{failed_on}
+use Rattle.fsfs_job_run.proofs.Seen.{history_seen}
 use Rattle.fsfs_job_run.specs.Running.{DoAll, HasGiven}
 use Rattle.fsfs_job_run.proofs.Unopened.{does_not_open}
 use Rattle.fsfs_job_run.specs.Openings.{OpensAs}
@@ -97,35 +99,50 @@ did_script moment js answers v u runs =
 abbrev pub doubt_of : Option Coming → Option Revision
 doubt_of d = option_map (λ (x : Coming). x.revision) d
 
+-- of each history that goes on from what was seen, and that the revision follows
+abbrev pub OfSome : ℕ → List Job → List Recorded → Coming → Type 0
+OfSome moment js seen c = (g : List Recorded) → Begins g seen → IsHistory (revisions g) → Follows g c → IsOfJob moment js (revisions g) c.revision
+
+-- what is left in doubt is what was, or what one of the jobs was to add
+abbrev pub SomeLeft : ℕ → List Job → List Recorded → Option Coming → Option Coming → Type 0
+SomeLeft moment js seen was now = (now ≡ was) ⊎ ((c : Coming) × (now ≡ Some c) × OfSome moment js seen c)
+
 -- what the first job was to add, and what a later one was
-first_left : (moment : ℕ) (job : Job) (js : List Job) (h now rest : List Revision) (next : Revision) → now ≡ h ++ rest → WasToAdd moment h job next → IsOfJob moment (job ∷ js) now next
-first_left moment job js h now rest next part was = record { at = 0; job = job; is = refl; before = h; rest = rest; part = part; was = was }
+first_left : (moment : ℕ) (job : Job) (js : List Job) (h seen later : List Recorded) (c : Coming) → Begins later h → Begins later seen → WasToAdd moment (revisions h) job seen c → OfSome moment (job ∷ js) later c
+first_left moment job js h seen later c before grown was g on hist follows =
+    let b = begins_on h later g before on in
+    record {
+      at = 0;
+      job = was.commit;
+      is = ap (λ (j : Job). Some j) was.is;
+      before = revisions h;
+      rest = revisions b.0;
+      part = ap revisions b.1 ∙ map-append (λ (x : Recorded). x.revision) h b.0;
+      entry = was.entry;
+      made = was.made;
+      next = was.lands g (begins_on seen later g grown on) hist follows;
+    }
 
-later_left : (moment : ℕ) (job : Job) (js : List Job) (now : List Revision) (next : Revision) → IsOfJob moment js now next → IsOfJob moment (job ∷ js) now next
-later_left moment job js now next d = record { at = suc d.at; job = d.job; is = d.is; before = d.before; rest = d.rest; part = d.part; was = d.was }
+later_left : (moment : ℕ) (job : Job) (js : List Job) (now : List Revision) (revision : Revision) → IsOfJob moment js now revision → IsOfJob moment (job ∷ js) now revision
+later_left moment job js now revision d = record { at = suc d.at; job = d.job; is = d.is; before = d.before; rest = d.rest; part = d.part; entry = d.entry; made = d.made; next = d.next }
 
--- it is what was, or what one of the jobs was to add
-jobs_left : (moment : ℕ) (js : List Job) (answers : List JobAnswer) (v u : View) → RunJobs moment js answers v u → (u.left ≡ v.left) ⊎ ((c : Coming) × (u.left ≡ Some c) × IsOfJob moment js (revisions u.seen) c.revision)
+jobs_left : (moment : ℕ) (js : List Job) (answers : List JobAnswer) (v u : View) → RunJobs moment js answers v u → SomeLeft moment js u.seen v.left u.left
 jobs_left moment _ _ _ _ (End v) = inl refl
 jobs_left moment _ _ _ _ (More job answer js answers v m u first counts rest) = by (jobs_left moment js answers m u rest) first.left
   where
     grown : Begins u.seen v.seen
     grown = (grow moment (job ∷ js) (answer ∷ answers) v u (More job answer js answers v m u first counts rest)).begins
 
-    by : (u.left ≡ m.left) ⊎ ((c : Coming) × (u.left ≡ Some c) × IsOfJob moment js (revisions u.seen) c.revision) → LeftBy moment job v m
-        → (u.left ≡ v.left) ⊎ ((c : Coming) × (u.left ≡ Some c) × IsOfJob moment (job ∷ js) (revisions u.seen) c.revision)
-    by (inr (c, is, d)) one = inr (c, is, later_left moment job js (revisions u.seen) c.revision d)
+    by : SomeLeft moment js u.seen m.left u.left → LeftBy moment job v m → SomeLeft moment (job ∷ js) u.seen v.left u.left
+    by (inr (c, is, d)) one = inr (c, is, λ g on hist follows. later_left moment job js (revisions g) c.revision (d g on hist follows))
     by (inl same) (inl kept) = inl (same ∙ kept)
-    by (inl same) (inr (c, is, was)) =
-        inr (c, same ∙ is, first_left moment job js (revisions v.seen) (revisions u.seen) (revisions grown.0) c.revision (ap revisions grown.1 ∙ map-append (λ (x : Recorded). x.revision) v.seen grown.0) was)
+    by (inl same) (inr (c, is, was)) = inr (c, same ∙ is, first_left moment job js v.seen m.seen u.seen c grown (grow moment js answers m u rest).begins was)
 
-doubt_left : (moment : ℕ) (js : List Job) (now : List Revision) (d left : Option Coming) → d ≡ left → (left ≡ None) ⊎ ((c : Coming) × (left ≡ Some c) × IsOfJob moment js now c.revision) → IfSome (doubt_of d) (IsOfJob moment js now)
-doubt_left moment js now d left same (inl none) = subst (λ (o : Option Coming). IfSome (doubt_of o) (IsOfJob moment js now)) (sym (same ∙ none)) tt
-doubt_left moment js now d left same (inr (c, is, of)) = subst (λ (o : Option Coming). IfSome (doubt_of o) (IsOfJob moment js now)) (sym (same ∙ is)) of
-
-left_now : {D : Type 0} {a b : Option Coming} → b ≡ None → (a ≡ b) ⊎ D → (a ≡ None) ⊎ D
-left_now clear (inl same) = inl (same ∙ clear)
-left_now clear (inr d) = inr d
+doubt_left : (moment : ℕ) (js : List Job) (seen : List Recorded) (d left : Option Coming) → d ≡ left → IsHistory (revisions seen) → IfSome d (Follows seen) → SomeLeft moment js seen None left → IfSome (doubt_of d) (IsOfJob moment js (revisions seen))
+doubt_left moment js seen d left same hist follows (inl none) = subst (λ (o : Option Coming). IfSome (doubt_of o) (IsOfJob moment js (revisions seen))) (sym (same ∙ none)) tt
+doubt_left moment js seen d left same hist follows (inr (c, is, of)) =
+    subst (λ (o : Option Coming). IfSome (doubt_of o) (IsOfJob moment js (revisions seen))) (sym (same ∙ is))
+    (of seen ([], sym (append-nil seen)) hist (subst (λ (o : Option Coming). IfSome o (Follows seen)) (same ∙ is) follows))
 
 -- ---- what is told of a run
 
@@ -138,11 +155,11 @@ a_part h g d (inl (more, is)) = inl (revisions more, ap revisions is ∙ map-app
 a_part h g d (inr (x, is, with)) = inr (x.revision, ap doubt_of is, ap revisions with ∙ map-append (λ (r : Recorded). r.revision) h (recorded x ∷ []))
 
 -- `was` are the revisions that there were at the opening
-held_all : (moment : ℕ) (js : List Job) (was : List Recorded) (layout : Layout) (told : Option Trace) (u : View) → u.opened ≡ length was → Begins u.seen was → HoldBytes u.since.files was → u.section ≡ None
-    → (u.left ≡ None) ⊎ ((c : Coming) × (u.left ≡ Some c) × IsOfJob moment js (revisions u.seen) c.revision) → CrashesLeave layout told u
+held_all : (moment : ℕ) (js : List Job) (was : List Recorded) (layout : Layout) (told : Option Trace) (u : View) → u.opened ≡ length was → Begins u.seen was → HoldBytes u.since.files was → u.section ≡ None → IsHistory (revisions u.seen)
+    → SomeLeft moment js u.seen None u.left → CrashesLeave layout told u
     → IfSome told (λ t. (all : HoldsAll u.since t (revisions was) (revisions u.seen)) × (all.seen ≡ u.seen) × IfSome all.doubt (IsOfJob moment js (revisions u.seen)))
-held_all moment js was layout None u opened begins had none left leaves = tt
-held_all moment js was layout (Some t) u opened begins had none left leaves = (holds, refl, doubt_left moment js (revisions u.seen) leaves.doubt u.left (leaves.left none) left)
+held_all moment js was layout None u opened begins had none hist left leaves = tt
+held_all moment js was layout (Some t) u opened begins had none hist left leaves = (holds, refl, doubt_left moment js u.seen leaves.doubt u.left (leaves.left none) hist leaves.follows left)
   where
     says : SaysFormat (small_texts u.since.files) (Known layout)
     says = (were_own layout u.since.files (files_now t) (leaves.own (files_now t) (image_now u.since.operations t.first t.operations (files_now t) (files_are_image t.first t.operations)))).format
@@ -175,9 +192,9 @@ stands_all : (layout : Layout) (told : Option Trace) (u : View) → u.section �
 stands_all layout None u none few leaves = tt
 stands_all layout (Some t) u none few leaves = record { now = leaves.doubtless none few (files_now t) (files_are_image t.first t.operations); images = leaves.doubtless none few }
 
-pub ran : (moment : ℕ) (js : List Job) (answers : List JobAnswer) (youngest : ℕ) (v u : View) (layout : Layout) (told : Option Trace) → v.opened ≡ length v.seen → HoldBytes v.since.files v.seen → v.left ≡ None → are_harmless v.pass.faults ≡ true → u.section ≡ None → (tell_full answers ≡ true → IfSome told (λ t. LeavesNoName (files_now t))) → StuckBehindDoubt answers → RunJobs moment js answers v u → length u.seen ≡ youngest + 1 → CrashesLeave layout told u
+pub ran : (moment : ℕ) (js : List Job) (answers : List JobAnswer) (youngest : ℕ) (v u : View) (layout : Layout) (told : Option Trace) → v.opened ≡ length v.seen → HoldBytes v.since.files v.seen → v.left ≡ None → are_harmless v.pass.faults ≡ true → u.section ≡ None → (tell_full answers ≡ true → IfSome told (λ t. LeavesNoName (files_now t))) → StuckBehindDoubt answers → RunJobs moment js answers v u → IsHistory (revisions u.seen) → length u.seen ≡ youngest + 1 → CrashesLeave layout told u
     → Ran moment v.since js answers youngest (revisions v.seen) told
-ran moment js answers youngest v u layout told opened had clear few none full stuck runs last leaves =
+ran moment js answers youngest v u layout told opened had clear few none full stuck runs hist last leaves =
     let grown = grow moment js answers v u runs in
     record {
       now = revisions u.seen;
@@ -186,7 +203,7 @@ ran moment js answers youngest v u layout told opened had clear few none full st
       did = did_script moment js answers v u runs;
       last = length-map u.seen (λ (x : Recorded). x.revision) ∙ last;
       held = subst (λ n. IfSome told (λ t. (all : HoldsAll n t (revisions v.seen) (revisions u.seen)) × (all.seen ≡ u.seen) × IfSome all.doubt (IsOfJob moment js (revisions u.seen)))) grown.since
-          (held_all moment js v.seen layout told u (grown.opened ∙ opened) grown.begins (subst (λ (n : Since). HoldBytes n.files v.seen) (sym grown.since) had) none (left_now clear (jobs_left moment js answers v u runs)) leaves);
+          (held_all moment js v.seen layout told u (grown.opened ∙ opened) grown.begins (subst (λ (n : Since). HoldBytes n.files v.seen) (sym grown.since) had) none hist (subst (λ (o : Option Coming). SomeLeft moment js u.seen o u.left) clear (jobs_left moment js answers v u runs)) leaves);
       full = full;
       stuck = stuck;
       certain = λ calm. stands_all layout told u none (grown.doubtless calm few) leaves;
@@ -203,7 +220,7 @@ pub ran_in : (layout : Layout) (young : ℕ) (stuck : Option DiskPlace) (told ne
     → (tell_full answers ≡ true → IfSome told (λ t. LeavesNoName (files_now t))) → ((u : View) → KnowsAlone layout young stuck told u → length u.seen ≡ youngest + 1) → ((u : View) → KnowsAlone layout young stuck told u → CrashesLeave layout told u)
     → DoAll (KnowsAlone layout young stuck told) moment js answers v → Ran moment v.since js answers youngest (revisions v.seen) new
 ran_in layout young stuck told new moment js answers youngest v same opened had clear few full all leaves (u, known, none, runs, stuck_so) =
-    subst (Ran moment v.since js answers youngest (revisions v.seen)) (sym same) (ran moment js answers youngest v u layout told opened had clear few none full (stuck_so few) runs (all u known) (leaves u known))
+    subst (Ran moment v.since js answers youngest (revisions v.seen)) (sym same) (ran moment js answers youngest v u layout told opened had clear few none full (stuck_so few) runs (history_seen layout young stuck told u known) (all u known) (leaves u known))
 
 -- ---- a run, told of a count that rose as well
 

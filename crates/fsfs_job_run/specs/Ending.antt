@@ -1,14 +1,18 @@
 -- What becomes of a job's transaction.
-use Rattle.std.specs.Prelude.{◌≡◌, ◌⊎◌, ◌<◌, ◌++◌, ◌∷◌, ℕ, List, [], length, Option, Some}
+use Rattle.std.specs.Prelude.{◌≡◌, ◌⊎◌, ◌<◌, ℕ, List, [], length, Option, Some}
 use Rattle.std.specs.FinMap.{get}
 use Rattle.fsfs_base.specs.Fields.Dates.{IsDateAt}
 use Rattle.fsfs_base.specs.Fields.RevNums.{last_rev}
+use Rattle.fsfs_tree.specs.Histories.{IsHistory}
 use Rattle.fsfs_tree.specs.Revisions.{Revision, tree_of}
+use Rattle.fsfs_model.specs.Flat.Transactions.{IsNext}
 use Rattle.fsfs_tree.specs.Dated.{last_of}
 use Rattle.fsfs_machine.specs.declared.machine.Coming.{Coming}
 use Rattle.fsfs_machine.specs.declared.machine.Txn.{Txn}
+use Rattle.fsfs_machine.specs.declared.machine.Recorded.{Recorded}
+use Rattle.fsfs_machine.specs.Kept.{Follows}
 use Rattle.fsfs_machine.specs.Machine.{revisions, entry_of}
-use Rattle.fsfs_turn.specs.Views.{View}
+use Rattle.fsfs_turn.specs.Views.{View, Begins}
 use Rattle.fsfs_script.specs.declared.job_lines.job.CommitJob.{CommitJob}
 use Rattle.fsfs_script.specs.declared.job_lines.job.Job.TheVariants as jobs
 use Rattle.fsfs_cli.specs.declared.faults.fault.Fault.TheVariants.{Limit}
@@ -17,7 +21,7 @@ use Rattle.fsfs_jobs.specs.Edits.{TakesSteps}
 use Rattle.fsfs_jobs.specs.Properties.{job_properties}
 use Rattle.fsfs_jobs.specs.Serial.{Commits}
 use Rattle.fsfs_jobs.specs.declared.answer.JobAnswer.{JobAnswer}
-use Rattle.fsfs_jobs.specs.declared.answer.JobAnswer.TheVariants.{Committed, Stopped}
+use Rattle.fsfs_jobs.specs.declared.answer.JobAnswer.TheVariants.{Stopped}
 use Rattle.fsfs_job_run.specs.Serial.Jobs.{IfAdded, Fails, Leaves}
 use Rattle.fsfs_job_run.specs.Running.{HasOutsideCause}
 
@@ -26,9 +30,16 @@ pub data CommitsTxn (moment pass : ℕ) (job : CommitJob) (h : List Revision) (x
   ByCommit : (date : List ℕ) (answer : JobAnswer) (now : List Revision) → IfAdded answer (IsDateAt moment date) → Commits h (entry_of pass x (job_properties date job)) answer now → CommitsTxn moment pass job h x answer now
   ByRevs : last_rev < length h → CommitsTxn moment pass job h x (Stopped job.line (Limit RevsFull)) h
 
+-- The commit of the transaction was to add this revision, with a date of the moment: it follows by its entry each history that goes on from what was
+-- seen and that it follows at all.
+pub record WasToCommit (moment pass : ℕ) (job : CommitJob) (x : Txn) (seen : List Recorded) (c : Coming) : Type 0 where
+  pub date : List ℕ
+  pub dated : IsDateAt moment date
+  pub lands : (g : List Recorded) → Begins g seen → IsHistory (revisions g) → Follows g c → IsNext (revisions g) (entry_of pass x (job_properties date job)) c.revision
+
 -- what is left in doubt is what was, or the revision that the commit was to add
 abbrev pub TxnLeft : ℕ → CommitJob → Txn → View → View → Type 0
-TxnLeft moment job x v u = (u.left ≡ v.left) ⊎ ((c : Coming) × (u.left ≡ Some c) × CommitsTxn moment v.number job (revisions v.seen) x (Committed (length (revisions v.seen))) (revisions v.seen ++ c.revision ∷ []))
+TxnLeft moment job x v u = (u.left ≡ v.left) ⊎ ((c : Coming) × (u.left ≡ Some c) × WasToCommit moment v.number job x u.seen c)
 
 -- ENDS: the transaction x was committed, or is purged
 pub record EndsTxn (moment : ℕ) (job : CommitJob) (answer : JobAnswer) (x : Txn) (v u : View) : Type 0 where

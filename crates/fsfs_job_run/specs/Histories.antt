@@ -1,12 +1,15 @@
 -- Jobs one after another, over histories.
 use Rattle.std.specs.Prelude.{◌≡◌, ◌⊎◌, ◌≤◌, ◌+◌, ◌++◌, ℕ, List, [], ◌∷◌, length, take, Some, slice_get}
 use Rattle.fsfs_tree.specs.Revisions.{Revision}
+use Rattle.fsfs_model.specs.Flat.Transactions.{Entry, IsNext}
+use Rattle.fsfs_script.specs.declared.job_lines.job.CommitJob.{CommitJob}
 use Rattle.fsfs_script.specs.declared.job_lines.job.Job.{Job}
+use Rattle.fsfs_script.specs.declared.job_lines.job.Job.TheVariants.{Commit}
 use Rattle.fsfs_jobs.specs.Serial.{last_name}
 use Rattle.fsfs_jobs.specs.declared.answer.JobAnswer.{JobAnswer}
 use Rattle.fsfs_machine.specs.declared.machine.Recorded.{Recorded}
 use Rattle.fsfs_job_run.specs.Serial.Counts.{IfCounted, StopsOver}
-use Rattle.fsfs_job_run.specs.Serial.Jobs.{DoesJob, Fails, NoneFails, IsSerialAt, WasToAdd, own_of_all}
+use Rattle.fsfs_job_run.specs.Serial.Jobs.{DoesJob, Fails, IsEntryOf, NoneFails, IsSerialAt, own_of_all}
 
 -- a job is done by the definition of jobs over the history; or it failed, and nothing was added
 abbrev pub EndsJob : ℕ → List Revision → Job → JobAnswer → List Revision → Type 0
@@ -21,15 +24,17 @@ EndJobs moment seen h (job ∷ js) [] now = ⊥
 EndJobs moment seen h (job ∷ js) (answer ∷ answers) now =
     (between : List Revision) × EndsJob moment h job answer between × IfCounted job answer (StopsOver (take (length h) seen)) × EndJobs moment seen between js answers now
 
--- one of the jobs was to add this revision, over a first part of the history: what the jobs before it left
-pub record IsOfJob (moment : ℕ) (js : List Job) (now : List Revision) (next : Revision) : Type 0 where
+-- One of the jobs was to add this revision: it follows the history by the landing of that job's entry, which was made over a first part of it.
+pub record IsOfJob (moment : ℕ) (js : List Job) (now : List Revision) (revision : Revision) : Type 0 where
   pub at : ℕ
-  pub job : Job
-  pub is : slice_get js at ≡ Some job
+  pub job : CommitJob
+  pub is : slice_get js at ≡ Some (Commit job)
   pub before : List Revision
   pub rest : List Revision
   pub part : now ≡ before ++ rest
-  pub was : WasToAdd moment before job next
+  pub entry : Entry
+  pub made : IsEntryOf moment before job entry
+  pub next : IsNext now entry revision
 
 -- WHAT A SCRIPT DID to a history: its jobs were done one after another. The history grew by the revisions that their answers tell, and by
 -- no others; and where none failed, and there were names for all, it is that of the serial run.

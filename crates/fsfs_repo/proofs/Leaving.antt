@@ -84,6 +84,7 @@ module _ (v : SeatView) (t : Trace) (met : IsMet v t) where
   pub leaves : Leaves v t
   leaves = record {
     history = w.history;
+    is_history = store.kept.history;
     begins = (drop v.pass.seen w.history, take_drop v.pass.seen w.history ∙ ap (λ l. l ++ drop v.pass.seen w.history) (sym sees.seen));
     least = met.least;
     doubt = doubt w.lock;

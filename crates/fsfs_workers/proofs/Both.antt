@@ -18,7 +18,7 @@ use Rattle.fsfs_jobs.specs.declared.answer.JobAnswer.{JobAnswer}
 use Rattle.fsfs_job_run.specs.Serial.Jobs.{own_of_all, TellNoDoubt, bench_faults_in}
 use Rattle.fsfs_job_run.specs.Workers.Beside.{IsOfOne}
 use Rattle.fsfs_job_run.specs.Workers.Lines.{WorkerLines, dealt, disk_faults_in, RoseBy}
-use Rattle.fsfs_job_run.specs.Workers.Passes.{last_known, IsOnward, WorkJobs, End, More}
+use Rattle.fsfs_job_run.specs.Workers.Passes.{last_known, IsOnward, OfFollowed, WorkJobs, End, More}
 use Rattle.fsfs_job_run.proofs.BesideLemmas.{begins_on, onward, worked}
 use Rattle.fsfs_workers.specs.InTurn.{in_turn, AreDealt}
 use Rattle.fsfs_workers.specs.Ready.{IsAtRest}
@@ -106,13 +106,13 @@ both_worked moment js answers v one two n met last each a b first_kin second_kin
 
     -- what is left in doubt is what one of them left so
     of_both : v.left ≡ None
-        → (one.left ≡ v.left) ⊎ ((c : Coming) × (one.left ≡ Some c) × ((h : List Recorded) → IsOnward (view_of one) h → IsOfOne moment (revisions h) (last_known (view_of v)) (dealt 2 0 js) c.revision))
-        → (two.left ≡ None) ⊎ ((c : Coming) × (two.left ≡ Some c) × ((h : List Recorded) → IsOnward (view_of two) h → IsOfOne moment (revisions h) (last_known (view_of v)) (dealt 2 1 js) c.revision))
-        → (either_left one.left two.left ≡ None) ⊎ ((c : Coming) × (either_left one.left two.left ≡ Some c) × ((h : List Recorded) → IsOnward (view_of (joined_view last one two)) h → IsOfOne moment (revisions h) (last_known (view_of v)) js c.revision))
-    of_both clear (inr (c, is, of)) second = inr (c, ap (λ (o : Option Coming). either_left o two.left) is, λ h on. of_share moment (revisions h) (last_known (view_of v)) 0 js c.revision (of h (on_first h on)))
+        → (one.left ≡ v.left) ⊎ ((c : Coming) × (one.left ≡ Some c) × OfFollowed (view_of one) c (λ h. IsOfOne moment h (last_known (view_of v)) (dealt 2 0 js) c.revision))
+        → (two.left ≡ None) ⊎ ((c : Coming) × (two.left ≡ Some c) × OfFollowed (view_of two) c (λ h. IsOfOne moment h (last_known (view_of v)) (dealt 2 1 js) c.revision))
+        → (either_left one.left two.left ≡ None) ⊎ ((c : Coming) × (either_left one.left two.left ≡ Some c) × OfFollowed (view_of (joined_view last one two)) c (λ h. IsOfOne moment h (last_known (view_of v)) js c.revision))
+    of_both clear (inr (c, is, of)) second = inr (c, ap (λ (o : Option Coming). either_left o two.left) is, λ h on hist follows. of_share moment (revisions h) (last_known (view_of v)) 0 js c.revision (of h (on_first h on) hist follows))
     of_both clear (inl same) (inl none) = inl (ap (λ (o : Option Coming). either_left o two.left) (same ∙ clear) ∙ none)
     of_both clear (inl same) (inr (c, is, of)) =
-        inr (c, ap (λ (o : Option Coming). either_left o two.left) (same ∙ clear) ∙ is, λ h on. of_share moment (revisions h) (last_known (view_of v)) 1 js c.revision (of h (on_second h on)))
+        inr (c, ap (λ (o : Option Coming). either_left o two.left) (same ∙ clear) ∙ is, λ h on hist follows. of_share moment (revisions h) (last_known (view_of v)) 1 js c.revision (of h (on_second h on) hist follows))
 
     lines : (h : List Recorded) → IsOnward (view_of (joined_view last one two)) h → (w : ℕ) → w < 2 → WorkerLines moment h (last_known (view_of v)) (dealt 2 w js) (dealt 2 w answers)
     lines h on zero less =

@@ -144,8 +144,12 @@ module _ (knows : View → Type 0) (rose : Type 0) (moment k last : ℕ) (job : 
       left_by : (w : View) → GoesOn u w → LeavesDoubt (Wrote dated v u x) v u → LeftBeside moment k (jobs.Commit job) v w
       left_by w g (inl same) = inl (g.left ∙ same)
       left_by w g (inr (c, is, wrote)) =
-          inr (c, g.left ∙ is, λ h onward. wrote_line moment k job date.0 dated v u x c wrote (up_to last v) base h (begins_on u.seen w.seen h g.grows onward.begins) (begins_take (last + 1) v.seen) (omega (arith, few, part_long))
-              (on_part (up_to last v) last part_long (omega arith)) e.edited date.1 (date.2 ∙ ap (λ (p : List (List ℕ × List ℕ)). insert_entry (slice_cmp nat_cmp) p date_name date.0) undated ∙ job_dated date.0 job))
+          inr (
+            c,
+            g.left ∙ is,
+            λ h onward hist follows. wrote_line moment k job date.0 dated v u x c wrote (up_to last v) base h (begins_on u.seen w.seen h g.grows onward.begins) hist follows (begins_take (last + 1) v.seen) (omega (arith, few, part_long))
+                (on_part (up_to last v) last part_long (omega arith)) e.edited date.1 (date.2 ∙ ap (λ (p : List (List ℕ × List ℕ)). insert_entry (slice_cmp nat_cmp) p date_name date.0) undated ∙ job_dated date.0 job),
+          )
 
   pub bench_ends : (u : View) (gone : Bool) → BringsNoDoubt v u → u.left ≡ v.left → Moved v u → IsDropped knows gone x.name u → EndsFrom knows rose moment k (jobs.Commit job) (answers.Stopped job.line (Outside outside.Bench)) v
   bench_ends u gone brings kept moved dropped =

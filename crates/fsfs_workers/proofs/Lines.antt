@@ -14,6 +14,7 @@ use Rattle.fsfs_model.specs.Flat.Transactions.{IsNext}
 use Rattle.fsfs_machine.specs.declared.machine.Coming.{Coming}
 use Rattle.fsfs_machine.specs.declared.machine.Recorded.{Recorded}
 use Rattle.fsfs_machine.specs.declared.machine.Txn.{Txn}
+use Rattle.fsfs_machine.specs.Kept.{Follows}
 use Rattle.fsfs_machine.specs.Machine.{revisions, entry_of}
 use Rattle.fsfs_machine.proofs.Growing.{revisions_length}
 use Rattle.fsfs_turn.specs.Views.{View, Begins, IsTxnOver}
@@ -152,28 +153,29 @@ module _ (moment k rev : ℕ) (job : CommitJob) (date : List ℕ) (properties : 
 -- ---- one was to be added, and is left in doubt
 
 module _ (moment k : ℕ) (job : CommitJob) (date : List ℕ) (properties : List (List ℕ × List ℕ)) (v u : View) (x : Txn) (c : Coming) (w : Wrote properties v u x c) (part : List Recorded) (base : ℕ) where
-  pub wrote_line : (h : List Recorded) → Begins h u.seen → Begins v.seen part → k < length part → IsBase job.base k (last_of (revisions part)) base → IsEditedOver job part base x
+  pub wrote_line : (h : List Recorded) → Begins h u.seen → IsHistory (revisions h) → Follows h c → Begins v.seen part → k < length part → IsBase job.base k (last_of (revisions part)) base → IsEditedOver job part base x
       → IsDateAt moment date → properties ≡ job_properties date job → WasToAddTo moment (revisions h) k (jobs.Commit job) c.revision
-  wrote_line h onward first known on e dated are = record {
-    before = revisions w.before;
-    known = omega (arith, known, longer, revisions_length w.before);
+  wrote_line h onward hist follows first known on e dated are = record {
+    known = omega (arith, known, longer, revisions_length h);
     date = date;
     dated = dated;
-    runs = DoesEdits job (answers.Committed (length (revisions w.before))) (revisions w.before ++ c.revision ∷ []) base
-        (base_later job.base k (last_of (revisions part)) (last_of (revisions w.before)) base (omega (arith, longer, revisions_length part, revisions_length w.before)) on)
-        (Done (entry_of v.number x (job_properties date job)) (answers.Committed (length (revisions w.before))) (revisions w.before ++ c.revision ∷ [])
-        (takes_later part w.before base job.steps (get x.tree) x.marks begins e.there e.takes) e.on refl (Adds c.revision next));
-    part = goes_on_from h w.before (begins_on w.before u.seen h w.seen onward);
+    runs = DoesEdits job (answers.Committed (length (revisions h))) (revisions h ++ c.revision ∷ []) base
+        (base_later job.base k (last_of (revisions part)) (last_of (revisions h)) base (omega (arith, longer, revisions_length part, revisions_length h)) on)
+        (Done (entry_of v.number x (job_properties date job)) (answers.Committed (length (revisions h))) (revisions h ++ c.revision ∷ [])
+        (takes_later part h base job.steps (get x.tree) x.marks begins e.there e.takes) e.on refl (Adds c.revision next));
   }
     where
-      begins : Begins w.before part
-      begins = begins_on part v.seen w.before first w.begins
+      later : Begins h w.before
+      later = begins_on w.before u.seen h w.seen onward
 
-      longer : length part ≤ length w.before
-      longer = no_shorter part w.before begins
+      begins : Begins h part
+      begins = begins_on part w.before h (begins_on part v.seen w.before first w.begins) later
 
-      next : IsNext (revisions w.before) (entry_of v.number x (job_properties date job)) c.revision
-      next = subst (λ (p : List (List ℕ × List ℕ)). IsNext (revisions w.before) (entry_of v.number x p) c.revision) are w.is_next
+      longer : length part ≤ length h
+      longer = no_shorter part h begins
+
+      next : IsNext (revisions h) (entry_of v.number x (job_properties date job)) c.revision
+      next = subst (λ (p : List (List ℕ × List ℕ)). IsNext (revisions h) (entry_of v.number x p) c.revision) are (w.lands h later hist follows.1)
 
 -- ---- of a clash with a revision that was seen
 

@@ -11,7 +11,7 @@ use Rattle.fsfs_disk.proofs.CrashLemmas.{files_are_image, image_now}
 use Rattle.fsfs_stands.specs.Files.{StandsFor}
 use Rattle.fsfs_machine.specs.declared.machine.Recorded.{Recorded}
 use Rattle.fsfs_machine.specs.declared.machine.Coming.{Coming}
-use Rattle.fsfs_machine.specs.Kept.{IsIn, AreOnce}
+use Rattle.fsfs_machine.specs.Kept.{IsIn, AreOnce, Follows}
 use Rattle.fsfs_machine.specs.Machine.{revisions}
 use Rattle.fsfs_machine.proofs.Growing.{revisions_length}
 use Rattle.fsfs_turn.specs.declared.since.Since.{Since}
@@ -33,7 +33,7 @@ use Rattle.fsfs_jobs.specs.declared.answer.JobAnswer.{JobAnswer}
 use Rattle.fsfs_job_run.specs.Serial.Jobs.{own_of_all}
 use Rattle.fsfs_job_run.specs.Workers.Beside.{GoesOnFrom, IsOfOne}
 use Rattle.fsfs_job_run.specs.Workers.Lines.{JobLines, WorkerLines, dealt}
-use Rattle.fsfs_job_run.specs.Workers.Passes.{IsOnward, last_known}
+use Rattle.fsfs_job_run.specs.Workers.Passes.{IsOnward, OfFollowed, last_known}
 use Rattle.fsfs_job_run.proofs.BesideLemmas.{all_stay, begins_on, begins_itself, less_known}
 use Rattle.fsfs_job_run.proofs.Bytes.{bytes_stay}
 use Rattle.fsfs_job_run.proofs.RunLemmas.{a_part, doubt_of, doubt_follows}
@@ -136,11 +136,11 @@ module _ (moment young : ℕ) (js : List Job) (answers : List JobAnswer) (v u : 
   }
 
   -- the revision in doubt is what one of the jobs was to add
-  of_job : (left : Option Coming) → leaves.doubt ≡ left → (left ≡ None) ⊎ ((c : Coming) × (left ≡ Some c) × ((g : List Recorded) → IsOnward (view_of u) g → IsOfOne moment (revisions g) (last_known (view_of v)) js c.revision))
+  of_job : (left : Option Coming) → leaves.doubt ≡ left → (left ≡ None) ⊎ ((c : Coming) × (left ≡ Some c) × OfFollowed (view_of u) c (λ g. IsOfOne moment g (last_known (view_of v)) js c.revision))
       → IfSome (doubt_of leaves.doubt) (IsOfOne moment (revisions h) (last_of (revisions v.seen)) js)
   of_job left same (inl none) = subst (λ (o : Option Coming). IfSome (doubt_of o) (IsOfOne moment (revisions h) (last_of (revisions v.seen)) js)) (sym (same ∙ none)) tt
   of_job left same (inr (c, is, of)) =
-      let o = of h on in
+      let o = of h on leaves.is_history (subst (λ (d : Option Coming). IfSome d (Follows h)) (same ∙ is) leaves.follows) in
       subst (λ (d : Option Coming). IfSome (doubt_of d) (IsOfOne moment (revisions h) (last_of (revisions v.seen)) js)) (sym (same ∙ is))
       (record { at = o.at; job = o.job; is = o.is; was = less_known moment (revisions h) (last_known (view_of v)) (last_of (revisions v.seen)) o.job c.revision knew_all o.was })
 

@@ -17,7 +17,7 @@ use Rattle.fsfs_jobs.specs.declared.answer.JobAnswer.{JobAnswer}
 use Rattle.fsfs_job_run.specs.Serial.Jobs.{own_of_all, TellNoDoubt, tell_full}
 use Rattle.fsfs_job_run.specs.Workers.Beside.{IsOfOne}
 use Rattle.fsfs_job_run.specs.Workers.Lines.{WorkerLines, JobLines, TellNoneStuck, StuckByDoubt, dealt}
-use Rattle.fsfs_job_run.specs.Workers.Passes.{last_known, IsOnward}
+use Rattle.fsfs_job_run.specs.Workers.Passes.{last_known, IsOnward, OfFollowed}
 use Rattle.fsfs_job_run.specs.Runs.{HoldsAll, AllStandFor}
 
 -- Two passes did the jobs, of which the second was split from the first and joined into it again: what the first one's seat knew before, v, and
@@ -37,7 +37,7 @@ pub record BothWorked (moment : ℕ) (js : List Job) (answers : List JobAnswer) 
   -- no fault of either leaves a revision in doubt but where a line tells of that
   pub doubtless : TellNoDoubt answers → are_harmless v.pass.faults ≡ true → are_harmless u.pass.faults ≡ true
   -- where nothing was in doubt before, that is now which one of the jobs was to add
-  pub left : v.left ≡ None → (u.left ≡ None) ⊎ ((c : Coming) × (u.left ≡ Some c) × ((h : List Recorded) → IsOnward (view_of u) h → IsOfOne moment (revisions h) (last_known (view_of v)) js c.revision))
+  pub left : v.left ≡ None → (u.left ≡ None) ⊎ ((c : Coming) × (u.left ≡ Some c) × OfFollowed (view_of u) c (λ h. IsOfOne moment h (last_known (view_of v)) js c.revision))
   -- where a line tells that no name is left, one of them has met the last number of a name
   pub full : tell_full answers ≡ true → u.full ≡ true
   -- nor does a line tell that the lock is stuck but where it was found so

@@ -1,14 +1,19 @@
 -- What a job does to what the pass of a repository knows, and jobs one after another.
 use Rattle.std.specs.Prelude.{◌≡◌, ◌⊎◌, ◌≤◌, ◌<◌, ◌+◌, ◌++◌, ◌||◌, ℕ, List, [], ◌∷◌, length, Bool, true, false, Option, Some, None}
+use Rattle.std.specs.FinMap.{get}
 use Rattle.fsfs_base.specs.Paths.{Path}
 use Rattle.fsfs_base.specs.Fields.Dates.{IsDateAt}
 use Rattle.fsfs_base.specs.declared.places.place.DiskPlace.{DiskPlace}
-use Rattle.fsfs_tree.specs.Revisions.{Revision}
+use Rattle.fsfs_tree.specs.Dated.{last_of}
+use Rattle.fsfs_tree.specs.Histories.{IsHistory}
+use Rattle.fsfs_tree.specs.Revisions.{Revision, tree_of}
+use Rattle.fsfs_model.specs.Flat.Transactions.{Entry, IsNext}
 use Rattle.fsfs_machine.specs.declared.machine.Coming.{Coming}
 use Rattle.fsfs_machine.specs.declared.machine.Recorded.{Recorded}
+use Rattle.fsfs_machine.specs.Kept.{Follows}
 use Rattle.fsfs_machine.specs.Machine.{revisions}
 use Rattle.fsfs_turn.specs.Alone.{BringsNoDoubt, brings_doubt}
-use Rattle.fsfs_turn.specs.Views.{View}
+use Rattle.fsfs_turn.specs.Views.{View, Begins}
 use Rattle.fsfs_script.specs.declared.job_lines.job.CommitJob.{CommitJob}
 use Rattle.fsfs_script.specs.declared.job_lines.job.Job.{Job}
 use Rattle.fsfs_script.specs.declared.job_lines.job.Job.TheVariants as jobs
@@ -16,7 +21,9 @@ use Rattle.fsfs_cli.specs.declared.faults.fault.Fault.TheVariants.{Request, Outs
 use Rattle.fsfs_cli.specs.declared.faults.limit_fault.LimitFault.TheVariants.{NamesFull}
 use Rattle.fsfs_cli.specs.declared.faults.outside_fault.OutsideFault.TheVariants.{Disk, Bench, Stuck}
 use Rattle.fsfs_cli.specs.declared.faults.request_fault.RequestFault.TheVariants.{Mergeinfo}
-use Rattle.fsfs_jobs.specs.Serial.{Runs, last_name}
+use Rattle.fsfs_jobs.specs.Edits.{TakesSteps}
+use Rattle.fsfs_jobs.specs.Properties.{job_properties}
+use Rattle.fsfs_jobs.specs.Serial.{Runs, base_of, last_name}
 use Rattle.fsfs_jobs.specs.declared.answer.JobAnswer.{JobAnswer}
 use Rattle.fsfs_jobs.specs.declared.answer.JobAnswer.TheVariants.{Committed, Read, Conflict, Stopped}
 use Rattle.fsfs_job_run.specs.Serial.Counts.{IfCounted, StopsOver}
@@ -78,13 +85,28 @@ pub record Leaves (answer : JobAnswer) (v u : View) : Type 0 where
   pub given : u.given ≡ more ++ v.given
   pub doubtless : tells_doubt answer ≡ false → BringsNoDoubt v u
 
--- the job was to add this revision to the history, by the definition of jobs
-abbrev pub WasToAdd : ℕ → List Revision → Job → Revision → Type 0
-WasToAdd moment h job next = DoesJob moment h job (Committed (length h)) (h ++ next ∷ [])
+-- The entry of the job over this history: a transaction on the job's base in which its edits were done one by one, with the job's properties and a
+-- date of the moment.
+pub record IsEntryOf (moment : ℕ) (h : List Revision) (job : CommitJob) (e : Entry) : Type 0 where
+  pub within : base_of job.base (last_of h) ≤ last_of h
+  pub on : e.base ≡ base_of job.base (last_of h)
+  pub takes : TakesSteps (tree_of h) (last_of h) (tree_of h (base_of job.base (last_of h))) [] job.steps (get e.tree) e.marks
+  pub date : List ℕ
+  pub dated : IsDateAt moment date
+  pub properties : e.properties ≡ job_properties date job
+
+-- The job was to add this revision, by its entry over the history h: it follows by that entry each history that goes on from what was seen and that it
+-- follows at all.
+pub record WasToAdd (moment : ℕ) (h : List Revision) (job : Job) (seen : List Recorded) (c : Coming) : Type 0 where
+  pub commit : CommitJob
+  pub is : job ≡ jobs.Commit commit
+  pub entry : Entry
+  pub made : IsEntryOf moment h commit entry
+  pub lands : (g : List Recorded) → Begins g seen → IsHistory (revisions g) → Follows g c → IsNext (revisions g) entry c.revision
 
 -- what is left in doubt is what was, or the revision that the job was to add
 abbrev pub LeftBy : ℕ → Job → View → View → Type 0
-LeftBy moment job v u = (u.left ≡ v.left) ⊎ ((c : Coming) × (u.left ≡ Some c) × WasToAdd moment (revisions v.seen) job c.revision)
+LeftBy moment job v u = (u.left ≡ v.left) ⊎ ((c : Coming) × (u.left ≡ Some c) × WasToAdd moment (revisions v.seen) job u.seen c)
 
 -- A JOB IS DONE over all that the pass has seen, where that is all that there is: by the definition of jobs, or it failed.
 pub record RunsJob (moment : ℕ) (job : Job) (answer : JobAnswer) (v u : View) : Type 0 where

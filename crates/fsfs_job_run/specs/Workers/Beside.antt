@@ -50,14 +50,12 @@ pub record IsDone (moment : ℕ) (h : List Revision) (k : ℕ) (job : Job) (answ
   pub runs : RunsBeside before date k job answer behind
   pub part : GoesOnFrom behind h
 
--- The job was to add this revision to a first part of this history that has revision k, with a date of the moment.
+-- The job was to add this revision to this history, which has revision k, with a date of the moment: what it would have added to that by its entry.
 pub record WasToAddTo (moment : ℕ) (h : List Revision) (k : ℕ) (job : Job) (next : Revision) : Type 0 where
-  pub before : List Revision
-  pub known : k < length before
+  pub known : k < length h
   pub date : List ℕ
   pub dated : IsDateAt moment date
-  pub runs : RunsBeside before date k job (Committed (length before)) (before ++ next ∷ [])
-  pub part : GoesOnFrom before h
+  pub runs : RunsBeside h date k job (Committed (length h)) (h ++ next ∷ [])
 
 -- one of these was
 pub record IsOfOne (moment : ℕ) (h : List Revision) (k : ℕ) (js : List Job) (next : Revision) : Type 0 where

@@ -4,7 +4,6 @@ use Rattle.fsfs_tree.specs.Revisions.{Revision}
 use Rattle.fsfs_tree.specs.Dated.{last_of}
 use Rattle.fsfs_machine.specs.declared.machine.Coming.{Coming}
 use Rattle.fsfs_machine.specs.declared.machine.Recorded.{Recorded}
-use Rattle.fsfs_machine.specs.Machine.{revisions}
 use Rattle.fsfs_turn.specs.Views.{View, Begins}
 use Rattle.fsfs_script.specs.declared.job_lines.job.Job.{Job}
 use Rattle.fsfs_jobs.specs.Serial.{Runs, last_name}
@@ -12,7 +11,7 @@ use Rattle.fsfs_jobs.specs.declared.answer.JobAnswer.{JobAnswer}
 use Rattle.fsfs_job_run.specs.Serial.Jobs.{own_of_all, tell_full}
 use Rattle.fsfs_job_run.specs.Workers.Beside.{IsOfOne, RunsBeside, LineHolds}
 use Rattle.fsfs_job_run.specs.Workers.Lines.{TellNoneStuck, WorkerLines}
-use Rattle.fsfs_job_run.specs.Workers.Passes.{last_known, IsOnward, WorksJob, WorkJobs}
+use Rattle.fsfs_job_run.specs.Workers.Passes.{last_known, IsOnward, OfFollowed, WorksJob, WorkJobs}
 
 -- a line that holds of a history holds of each that goes on from it, and of a worker that knew less
 abbrev pub LinesStay : Type 0
@@ -41,7 +40,7 @@ pub record Worked (moment : ℕ) (js : List Job) (answers : List JobAnswer) (v u
   -- the pass's own revisions are those that its lines tell
   pub own : u.pass.mine ≡ v.pass.mine ++ own_of_all answers
   -- what is left in doubt is what was, or a revision that one of them was to add
-  pub left : (u.left ≡ v.left) ⊎ ((c : Coming) × (u.left ≡ Some c) × ((h : List Recorded) → IsOnward u h → IsOfOne moment (revisions h) (last_known v) js c.revision))
+  pub left : (u.left ≡ v.left) ⊎ ((c : Coming) × (u.left ≡ Some c) × OfFollowed u c (λ h. IsOfOne moment h (last_known v) js c.revision))
   -- none of them tells that the lock is stuck, where the pass has not found it so
   pub stuck : is_some u.pass.stuck ≡ false → TellNoneStuck answers
   -- nor that no name is left, where it has not met the last number of a name

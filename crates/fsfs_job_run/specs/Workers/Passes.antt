@@ -1,7 +1,10 @@
 -- What jobs of a worker do to what its pass knows. Between its turns others add revisions.
 use Rattle.std.specs.Prelude.{◌≡◌, ◌⊎◌, ◌-◌, ◌<◌, ◌≤◌, ◌++◌, max, ℕ, List, [], ◌∷◌, length, true, false, Option, Some, None, is_some}
+use Rattle.fsfs_tree.specs.Histories.{IsHistory}
+use Rattle.fsfs_tree.specs.Revisions.{Revision}
 use Rattle.fsfs_machine.specs.declared.machine.Coming.{Coming}
 use Rattle.fsfs_machine.specs.declared.machine.Recorded.{Recorded}
+use Rattle.fsfs_machine.specs.Kept.{Follows}
 use Rattle.fsfs_machine.specs.Machine.{revisions}
 use Rattle.fsfs_turn.specs.Alone.{BringsNoDoubt}
 use Rattle.fsfs_turn.specs.Views.{View, Begins}
@@ -19,9 +22,13 @@ pub record IsOnward (v : View) (h : List Recorded) : Type 0 where
   pub begins : Begins h v.seen
   pub has : last_known v < length h
 
+-- of each history that goes on from what the pass knows, and that this revision follows
+abbrev pub OfFollowed : View → Coming → (List Revision → Type 0) → Type 0
+OfFollowed u c P = (h : List Recorded) → IsOnward u h → IsHistory (revisions h) → Follows h c → P (revisions h)
+
 -- what is left in doubt is what was, or the revision that the job was to add to the history, however it goes on
 abbrev pub LeftBeside : ℕ → ℕ → Job → View → View → Type 0
-LeftBeside moment k job v u = (u.left ≡ v.left) ⊎ ((c : Coming) × (u.left ≡ Some c) × ((h : List Recorded) → IsOnward u h → WasToAddTo moment (revisions h) k job c.revision))
+LeftBeside moment k job v u = (u.left ≡ v.left) ⊎ ((c : Coming) × (u.left ≡ Some c) × OfFollowed u c (λ h. WasToAddTo moment h k job c.revision))
 
 -- A JOB IS DONE beside others: its line holds of the history, however it goes on. The pass is in no section, its own revisions grew by the one that
 -- the line tells, and no revision is left in doubt but where the line tells of that. Where it tells that the lock is stuck the pass has found it so,

@@ -3,6 +3,7 @@ use Rattle.std.specs.Prelude.{◌≡◌, ◌≤◌, ◌<◌, ℕ, List, length, 
 use Rattle.fsfs_base.specs.Files.{Files}
 use Rattle.fsfs_begin.specs.Steps.{LeavesNoName}
 use Rattle.fsfs_disk.specs.Trace.{Trace, IsImage, ImageSince, files_now}
+use Rattle.fsfs_tree.specs.Histories.{IsHistory}
 use Rattle.fsfs_stands.specs.Files.{StandsFor}
 use Rattle.fsfs_machine.specs.declared.machine.Recorded.{Recorded}
 use Rattle.fsfs_machine.specs.declared.machine.Coming.{Coming}
@@ -22,6 +23,7 @@ use Rattle.fsfs_pass.specs.Kinship.{all_own}
 -- was at the opening. Each image now has all of it.
 pub record Leaves (v : SeatView) (t : Trace) : Type 0 where
   pub history : List Recorded
+  pub is_history : IsHistory (revisions history)
   pub begins : Begins history v.seen
   -- the last that it was told of is in it
   pub least : v.pass.least < length history
