@@ -125,5 +125,6 @@ Cause base (DiskFault place.Remove) u = ⊥
 Cause base (DiskFault (place.Open call)) u = ⊥
 Cause base (DiskFault (place.Create call)) u = ⊥
 Cause base (DiskFault (place.Commit call)) u = ⊥
+Cause base (DiskFault (place.Pack call)) u = ⊥
 Cause base BenchFault u = Unit {0}
 Cause base Memory u = Unit {0}

@@ -4,6 +4,7 @@ use Rattle.fsfs_base.specs.declared.places.place.OpenPlace.TheVariants as openin
 use Rattle.fsfs_base.specs.declared.places.place.CreatePlace.TheVariants as creation
 use Rattle.fsfs_base.specs.declared.places.place.BeginPlace.TheVariants as begin
 use Rattle.fsfs_base.specs.declared.places.place.CommitPlace.TheVariants as commit
+use Rattle.fsfs_base.specs.declared.places.place.PackPlace.TheVariants as pack
 use Rattle.fsfs_base.specs.declared.places.place.DiskPlace.{DiskPlace}
 use Rattle.fsfs_base.specs.declared.places.place.DiskPlace.TheVariants as place
 use Rattle.fsfs_machine.specs.declared.machine.Coming.{Coming}
@@ -33,6 +34,12 @@ place_back (place.Commit commit.FirmRev) = refl
 place_back (place.Commit commit.PutCurrent) = refl
 place_back (place.Commit commit.RenameCurrent) = refl
 place_back (place.Commit commit.FirmCurrent) = refl
+place_back (place.Pack pack.AdoptPack) = refl
+place_back (place.Pack pack.AdoptManifest) = refl
+place_back (place.Pack pack.FirmPack) = refl
+place_back (place.Pack pack.PutFloor) = refl
+place_back (place.Pack pack.RenameFloor) = refl
+place_back (place.Pack pack.FirmFloor) = refl
 
 pub place_above : (p : DiskPlace) → 2 ≤ place_number p
 place_above place.Read = omega arith
@@ -55,6 +62,12 @@ place_above (place.Commit commit.FirmRev) = omega arith
 place_above (place.Commit commit.PutCurrent) = omega arith
 place_above (place.Commit commit.RenameCurrent) = omega arith
 place_above (place.Commit commit.FirmCurrent) = omega arith
+place_above (place.Pack pack.AdoptPack) = omega arith
+place_above (place.Pack pack.AdoptManifest) = omega arith
+place_above (place.Pack pack.FirmPack) = omega arith
+place_above (place.Pack pack.PutFloor) = omega arith
+place_above (place.Pack pack.RenameFloor) = omega arith
+place_above (place.Pack pack.FirmFloor) = omega arith
 
 pub word_free : (l : Lock) → is_up l ≡ true → lock_word l ≡ 0 → l ≡ Free
 word_free Free up e = refl

@@ -4,6 +4,7 @@ use Rattle.fsfs_base.specs.declared.places.place.OpenPlace.TheVariants as openin
 use Rattle.fsfs_base.specs.declared.places.place.CreatePlace.TheVariants as creation
 use Rattle.fsfs_base.specs.declared.places.place.BeginPlace.TheVariants as begin
 use Rattle.fsfs_base.specs.declared.places.place.CommitPlace.TheVariants as commit
+use Rattle.fsfs_base.specs.declared.places.place.PackPlace.TheVariants as pack
 use Rattle.fsfs_base.specs.declared.places.place.DiskPlace.{DiskPlace}
 use Rattle.fsfs_base.specs.declared.places.place.DiskPlace.TheVariants as place
 use Rattle.fsfs_machine.specs.declared.machine.Lock.{Lock}
@@ -30,12 +31,23 @@ place_number (place.Commit commit.FirmRev) = 18
 place_number (place.Commit commit.PutCurrent) = 19
 place_number (place.Commit commit.RenameCurrent) = 20
 place_number (place.Commit commit.FirmCurrent) = 21
+place_number (place.Pack pack.AdoptPack) = 22
+place_number (place.Pack pack.AdoptManifest) = 23
+place_number (place.Pack pack.FirmPack) = 24
+place_number (place.Pack pack.PutFloor) = 25
+place_number (place.Pack pack.RenameFloor) = 26
+place_number (place.Pack pack.FirmFloor) = 27
 
 -- the place of a number; above the last one it is the last place
+abbrev pub pack_place_at : ℕ → DiskPlace
+pack_place_at n =
+    if n == 22 then place.Pack pack.AdoptPack else (if n == 23 then place.Pack pack.AdoptManifest else (if n == 24 then place.Pack pack.FirmPack else
+    (if n == 25 then place.Pack pack.PutFloor else (if n == 26 then place.Pack pack.RenameFloor else place.Pack pack.FirmFloor))))
+
 abbrev pub commit_place_at : ℕ → DiskPlace
 commit_place_at n =
     if n == 16 then place.Commit commit.PutRev else (if n == 17 then place.Commit commit.PutProps else (if n == 18 then place.Commit commit.FirmRev else
-    (if n == 19 then place.Commit commit.PutCurrent else (if n == 20 then place.Commit commit.RenameCurrent else place.Commit commit.FirmCurrent))))
+    (if n == 19 then place.Commit commit.PutCurrent else (if n == 20 then place.Commit commit.RenameCurrent else (if n == 21 then place.Commit commit.FirmCurrent else pack_place_at n)))))
 
 abbrev pub begin_place_at : ℕ → DiskPlace
 begin_place_at n =

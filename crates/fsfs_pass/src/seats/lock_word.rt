@@ -1,8 +1,8 @@
 //! The numbers by which the write lock is stuck at a place.
 ghost use Rattle.std.specs.Prelude.{◌≡◌};
-ghost use Rattle.fsfs_pass.specs.LockWords.{place_number, place_at, create_place_at, begin_place_at, commit_place_at};
+ghost use Rattle.fsfs_pass.specs.LockWords.{place_number, place_at, create_place_at, begin_place_at, commit_place_at, pack_place_at};
 
-use fsfs_base::{BeginPlace, CommitPlace, CreatePlace, DiskPlace, OpenPlace};
+use fsfs_base::{BeginPlace, CommitPlace, CreatePlace, DiskPlace, OpenPlace, PackPlace};
 
 /// The number of a place.
 pub(crate) fn number_of_place(place: DiskPlace) -> u64
@@ -29,21 +29,41 @@ pub(crate) fn number_of_place(place: DiskPlace) -> u64
         DiskPlace::Commit(CommitPlace::PutCurrent) => 19,
         DiskPlace::Commit(CommitPlace::RenameCurrent) => 20,
         DiskPlace::Commit(CommitPlace::FirmCurrent) => 21,
+        DiskPlace::Pack(PackPlace::AdoptPack) => 22,
+        DiskPlace::Pack(PackPlace::AdoptManifest) => 23,
+        DiskPlace::Pack(PackPlace::FirmPack) => 24,
+        DiskPlace::Pack(PackPlace::PutFloor) => 25,
+        DiskPlace::Pack(PackPlace::RenameFloor) => 26,
+        DiskPlace::Pack(PackPlace::FirmFloor) => 27,
     }
+}
+
+fn pack_place_of(number: u64) -> DiskPlace
+    ensures { result ≡ pack_place_at number }
+{
+    let place = match number {
+        22 => PackPlace::AdoptPack,
+        23 => PackPlace::AdoptManifest,
+        24 => PackPlace::FirmPack,
+        25 => PackPlace::PutFloor,
+        26 => PackPlace::RenameFloor,
+        _ => PackPlace::FirmFloor,
+    };
+    DiskPlace::Pack(place)
 }
 
 fn commit_place_of(number: u64) -> DiskPlace
     ensures { result ≡ commit_place_at number }
 {
-    let place = match number {
-        16 => CommitPlace::PutRev,
-        17 => CommitPlace::PutProps,
-        18 => CommitPlace::FirmRev,
-        19 => CommitPlace::PutCurrent,
-        20 => CommitPlace::RenameCurrent,
-        _ => CommitPlace::FirmCurrent,
-    };
-    DiskPlace::Commit(place)
+    match number {
+        16 => DiskPlace::Commit(CommitPlace::PutRev),
+        17 => DiskPlace::Commit(CommitPlace::PutProps),
+        18 => DiskPlace::Commit(CommitPlace::FirmRev),
+        19 => DiskPlace::Commit(CommitPlace::PutCurrent),
+        20 => DiskPlace::Commit(CommitPlace::RenameCurrent),
+        21 => DiskPlace::Commit(CommitPlace::FirmCurrent),
+        _ => pack_place_of(number),
+    }
 }
 
 fn begin_place_of(number: u64) -> DiskPlace

@@ -61,6 +61,7 @@ FailsAt place.Remove v u = ⊥
 FailsAt (place.Begin call) v u = ⊥
 FailsAt (place.Open call) v u = ⊥
 FailsAt (place.Create call) v u = ⊥
+FailsAt (place.Pack call) v u = ⊥
 
 -- nothing was added, and the transaction is no more
 abbrev pub IsNoMore : (View → Type 0) → View → View → Txn → Type 0
