@@ -165,6 +165,8 @@ fn do_command<H: Host, O: Sink, E: Sink, C: Clock, R: Dice, G: Gate>(
 ///
 /// `known`: where the host tells the files at the path of the words, they are known to stand for a history, which two workers of svnjobs
 /// rest on. Who doesn't know hands in false; then less is told of these.
+///
+/// `gate`: it is passed at places of a run of jobs, and behind each revision that is dumped. No clause speaks of it.
 pub fn command<
     T: Threads + Wait + Sync,
     H: Host,
