@@ -2,6 +2,7 @@
 //! revisions as Subversion's dumpfile format, version 2, with full texts; and the laws of this text.
 #![tactic(auto)]
 
+mod again;
 mod block;
 mod facts;
 mod headers;

@@ -12,9 +12,10 @@ ghost use Rattle.fsfs_dump.specs.Records.{record_end};
 ghost use Rattle.fsfs_dump.specs.Readings.{IfSet, ContentOf};
 ghost use Rattle.fsfs_dump.specs.Views.{text_value, IsLong};
 
+use crate::again::write_again;
 use fsfs_base::{Kind, Sink};
 use fsfs_dag::{PlacedNode, text_of};
-use fsfs_look::{LookError, write_piece, write_rep};
+use fsfs_look::{LookError, write_piece};
 use fsfs_noderev::Rep;
 use fsfs_revision::{Book, ReadError};
 use std::alloc::Global;
@@ -89,7 +90,7 @@ pub(crate) fn write_long<B: Book, S: Sink>(
 {
     write_piece(sink, lines)?;
     lines.clear();
-    write_rep(book, rep, piece, sink)?;
+    write_again(book, rep, piece, sink)?;
     lines.extend_from_slice(b"\n\n")?;
     Ok(())
 }

@@ -7,7 +7,7 @@ ghost use Rattle.fsfs_dump.specs.Records.{dump_head};
 ghost use Rattle.fsfs_dump.specs.Texts.{RevisionsText, DumpText};
 
 use crate::revision::write_revision;
-use fsfs_base::{RevNum, Sink};
+use fsfs_base::{Gate, GatePlace, RevNum, Sink};
 use fsfs_look::{LookError, write_full, write_last};
 use fsfs_revision::StillProps;
 use std::alloc::{AllocError, Global};
@@ -23,12 +23,13 @@ fn put_front(lines: &mut Vec<u8>, uuid: &[u8]) -> Result<(), AllocError>
 }
 
 // Writes all revisions up to the youngest, but for what is kept.
-fn write_revisions<B: StillProps, S: Sink>(
+fn write_revisions<B: StillProps, S: Sink, G: Gate>(
     alloc: Global,
     book: &mut B,
     youngest: RevNum,
     lines: &mut Vec<u8>,
     sink: &mut S,
+    gate: &G,
 ) -> Result<(), LookError>
     ensures told { (look : RevisionBytes) → Knows (B.told book.old).revs youngest look
         → Walks (RevisionsText look (B.may_read book.old) 0 (suc youngest)) lines.old.items lines.new.items (S.written sink.old) (S.written sink.new) result }
@@ -44,19 +45,21 @@ fn write_revisions<B: StillProps, S: Sink>(
         };
         write_full(sink, lines)?;
         write_revision(alloc, book, rev, lines, sink)?;
+        gate.at(GatePlace::AfterJob, next);
         next += 1;
     }
     Ok(())
 }
 
 // Writes all of a dump, but for what is kept.
-fn write_all<B: StillProps, S: Sink>(
+fn write_all<B: StillProps, S: Sink, G: Gate>(
     alloc: Global,
     book: &mut B,
     uuid: &[u8],
     youngest: RevNum,
     lines: &mut Vec<u8>,
     sink: &mut S,
+    gate: &G,
 ) -> Result<(), LookError>
     ensures told { (look : RevisionBytes) → Knows (B.told book.old).revs youngest look
         → Walks (DumpText look (B.may_read book.old) uuid.now youngest) lines.old.items lines.new.items (S.written sink.old) (S.written sink.new) result }
@@ -65,7 +68,7 @@ fn write_all<B: StillProps, S: Sink>(
     ensures sink { HasSinkCause (S.faults sink.old) (S.faults sink.new) result }
 {
     put_front(lines, uuid)?;
-    write_revisions(alloc, book, youngest, lines, sink)
+    write_revisions(alloc, book, youngest, lines, sink, gate)
 }
 
 /// Writes a dump of all revisions up to the youngest, of a repository of this identifier: Subversion's dumpfile format, version
@@ -73,13 +76,17 @@ fn write_all<B: StillProps, S: Sink>(
 /// told before a byte of its path's records.
 ///
 /// In memory are the changed-path data of one revision, the properties of one node, and a text of at most 8,192 bytes; a longer one
-/// is read twice, since its digests stand in front of it.
-pub fn dump<B: StillProps, S: Sink>(
+/// is read twice, since its digests stand in front of it; by the second reading it isn't checked again.
+///
+/// Behind each revision the gate is passed with its number (`AfterJob`): it is to a dump what a job is to a script. Up to a piece of
+/// what was dumped may not be written yet then.
+pub fn dump<B: StillProps, S: Sink, G: Gate>(
     alloc: Global,
     book: &mut B,
     uuid: &[u8],
     youngest: RevNum,
     sink: &mut S,
+    gate: &G,
 ) -> Result<(), LookError>
     ensures told { (look : RevisionBytes) → Knows (B.told book.old).revs youngest look → Writes (DumpText look (B.may_read book.old) uuid.now youngest) (S.written sink.old) (S.written sink.new) result }
     ensures kept { Keeps (B.told book.old) (B.told book.new) }
@@ -87,6 +94,6 @@ pub fn dump<B: StillProps, S: Sink>(
     ensures sink { HasSinkCause (S.faults sink.old) (S.faults sink.new) result }
 {
     let mut lines = Vec::new(alloc);
-    let walked = write_all(alloc, book, uuid, youngest, &mut lines, sink);
+    let walked = write_all(alloc, book, uuid, youngest, &mut lines, sink, gate);
     write_last(sink, &mut lines, walked)
 }

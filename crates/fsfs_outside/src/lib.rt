@@ -9,5 +9,5 @@ mod standard;
 
 pub use arguments::words;
 pub use once::{SystemClock, SystemDice};
-pub use progress::ProgressGate;
+pub use progress::{Progress, ProgressGate};
 pub use standard::{StreamSink, StreamSource};

@@ -7,6 +7,15 @@ use std::sync::atomic::AtomicU64;
 use std::sync::atomic::Ordering::SeqCst;
 use std::time::{Clock, Duration, Instant};
 
+/// What a gate tells of.
+#[derive(Clone, Copy, PartialEq, Eq)]
+pub enum Progress {
+    /// How many jobs are done, at most once a second.
+    Jobs,
+    /// Each revision that was dumped.
+    Revisions,
+}
+
 // The stream of a gate, and when it told the last line.
 #[derive(Drop)]
 struct Told<W: Write + Drop> {
@@ -29,19 +38,21 @@ impl<W: Write + Drop> Told<W> {
     }
 }
 
-/// A gate that holds nobody, and tells on a stream how many jobs are done, at most once a second. That a line isn't written is passed over.
-/// Of workers that end jobs at the same time one tells it; the others don't wait for that.
+/// A gate that holds nobody, and tells on a stream how far a run has come: how many jobs are done, at most once a second, or each
+/// revision that was dumped. That a line isn't written is passed over. Of workers that end jobs at the same time one tells it; the others
+/// don't wait for that.
 #[derive(Drop)]
 pub struct ProgressGate<C: Clock + Drop, W: Write + Drop> {
     clock: C,
+    progress: Progress,
     done: AtomicU64,
     // None where nothing is told.
     told: Option<Mutex<Told<W>>>,
 }
 
 impl<C: Clock + Drop, W: Write + Drop> ProgressGate<C, W> {
-    /// A gate that tells on this stream, or nothing. The first line comes a second behind this call at the earliest.
-    pub fn new(clock: C, stream: Option<W>) -> ProgressGate<C, W> {
+    /// A gate that tells this on a stream, or nothing. How many jobs are done comes a second behind this call at the earliest.
+    pub fn new(clock: C, progress: Progress, stream: Option<W>) -> ProgressGate<C, W> {
         let last = Instant::now(&clock).ok();
         let told = match stream {
             Some(stream) => Some(Mutex::new(Told { stream, last })),
@@ -49,6 +60,7 @@ impl<C: Clock + Drop, W: Write + Drop> ProgressGate<C, W> {
         };
         ProgressGate {
             clock,
+            progress,
             done: AtomicU64::new(0),
             told,
         }
@@ -56,7 +68,7 @@ impl<C: Clock + Drop, W: Write + Drop> ProgressGate<C, W> {
 }
 
 impl<C: Clock + Drop, W: Write + Drop> Gate for ProgressGate<C, W> {
-    fn at(&self, place: GatePlace, _who: u64) {
+    fn at(&self, place: GatePlace, who: u64) {
         let Some(told) = &self.told else {
             return;
         };
@@ -67,8 +79,15 @@ impl<C: Clock + Drop, W: Write + Drop> Gate for ProgressGate<C, W> {
         let Some(mut told) = told.try_lock() else {
             return;
         };
-        if told.is_due(&self.clock) {
-            let _ = writeln!(told.stream, "{done} jobs done");
+        match self.progress {
+            Progress::Revisions => {
+                let _ = writeln!(told.stream, "* Dumped revision {who}.");
+            }
+            Progress::Jobs => {
+                if told.is_due(&self.clock) {
+                    let _ = writeln!(told.stream, "{done} jobs done");
+                }
+            }
         }
     }
 }

@@ -15,7 +15,7 @@ ghost use Rattle.fsfs_top.specs.Looks.{AllBytes, KnowsAll, TextOf, LacksRevision
 ghost use Rattle.fsfs_top.specs.Scenes.{SourceScene, scene, sink_scene};
 
 use crate::output::{line_fault, print_revision, print_uuid};
-use fsfs_base::{DiskPlace, FsPath, RevNum, Sink};
+use fsfs_base::{DiskPlace, FsPath, Gate, RevNum, Sink};
 use fsfs_cli::{Fault, Look, OutsideFault, Printed, RequestFault, RevisionLook};
 use fsfs_create::open;
 use fsfs_disk::{Access, Disk, Host};
@@ -118,11 +118,12 @@ fn fault_dumped(alloc: Global, error: LookError) -> Fault
 }
 
 // Prints all revisions of an opened repository, and gives its disk back.
-fn dump_into<D: Disk, O: Sink>(
+fn dump_into<D: Disk, O: Sink, G: Gate>(
     alloc: Global,
     disk: D,
     opened: &Opened,
     out: &mut O,
+    gate: &G,
 ) -> (D, Result<(), Fault>)
     requires { IfSome (option_map files_now (D.trace disk)) (λ m. IsOpened (small_texts m) opened.now) }
     ensures printed { LooksInto (Rose (D.faults disk) (D.faults result.0)) Dump opened.now (option_map files_now (D.trace disk)) (sink_scene O.Sink out.old) (sink_scene O.Sink out.new) (fault_of result.1) }
@@ -143,6 +144,7 @@ fn dump_into<D: Disk, O: Sink>(
         opened.uuid.as_bytes(),
         opened.youngest,
         out,
+        gate,
     );
     let disk = disk_of(book);
     match dumped {
@@ -185,12 +187,13 @@ fn look_at_revision<D: Disk, O: Sink>(
 }
 
 // Prints of an opened repository what is looked at, and gives its disk back.
-fn look_into<D: Disk, O: Sink>(
+fn look_into<D: Disk, O: Sink, G: Gate>(
     alloc: Global,
     disk: D,
     opened: &Opened,
     look: &Look,
     out: &mut O,
+    gate: &G,
 ) -> (D, Result<(), Fault>)
     requires { IfSome (option_map files_now (D.trace disk)) (λ m. IsOpened (small_texts m) opened.now) }
     ensures printed { LooksInto (Rose (D.faults disk) (D.faults result.0)) look.now opened.now (option_map files_now (D.trace disk)) (sink_scene O.Sink out.old) (sink_scene O.Sink out.new) (fault_of result.1) }
@@ -201,18 +204,19 @@ fn look_into<D: Disk, O: Sink>(
     match look {
         Look::Youngest => (disk, line_fault(print_revision(out, opened.youngest))),
         Look::Uuid => (disk, line_fault(print_uuid(out, &opened.uuid))),
-        Look::Dump => dump_into(alloc, disk, opened, out),
+        Look::Dump => dump_into(alloc, disk, opened, out, gate),
         Look::AtRevision(look) => look_at_revision(alloc, disk, opened, look, out),
     }
 }
 
 /// Mounts a path to read it, and prints what is looked at of the repository there.
-pub(crate) fn look_at<H: Host, O: Sink>(
+pub(crate) fn look_at<H: Host, O: Sink, G: Gate>(
     alloc: Global,
     repos: &str,
     look: &Look,
     host: &mut H,
     out: &mut O,
+    gate: &G,
 ) -> Result<(), Fault>
     ensures printed { (input : SourceScene) → PrintsLook repos.now look.now (scene H.Host O.Sink host.old out.old input) (scene H.Host O.Sink host.new out.new input) (fault_of result) }
     ensures decided { LookIsDecided look.now (H.disk_at host.old repos.now) (fault_of result) }
@@ -227,7 +231,7 @@ pub(crate) fn look_at<H: Host, O: Sink>(
     };
     match open(alloc, &mut disk) {
         Ok(opened) => {
-            let (disk, looked) = look_into(alloc, disk, &opened, look, out);
+            let (disk, looked) = look_into(alloc, disk, &opened, look, out, gate);
             host.unmount(disk);
             looked
         }

@@ -63,7 +63,7 @@ fn create_at<H: Host, C: Clock, R: Dice>(
 }
 
 // Reads the words of a program that has commands, and does what they ask for.
-fn run<H: Host, O: Sink, C: Clock, R: Dice>(
+fn run<H: Host, O: Sink, C: Clock, R: Dice, G: Gate>(
     alloc: Global,
     tool: Tool,
     words: &[String],
@@ -71,6 +71,7 @@ fn run<H: Host, O: Sink, C: Clock, R: Dice>(
     out: &mut O,
     clock: &mut C,
     dice: &mut R,
+    gate: &G,
 ) -> Result<(), Fault>
     requires { tool ≢ Jobs }
     ensures did { (input : SourceScene) → Did tool (map string_bytes words.now) (C.next clock.old) (R.next dice.old) (scene H.Host O.Sink host.old out.old input) (scene H.Host O.Sink host.new out.new input) (fault_of result) }
@@ -90,7 +91,7 @@ fn run<H: Host, O: Sink, C: Clock, R: Dice>(
         Task::Create { shard } => create_at(alloc, request.repos, *shard, host, clock, dice),
         Task::ListTxns => list_at(alloc, request.repos, host, out),
         Task::RemoveTxns { names } => remove_at(alloc, request.repos, names, host),
-        Task::Look(look) => look_at(alloc, request.repos, look, host, out),
+        Task::Look(look) => look_at(alloc, request.repos, look, host, out, gate),
         // It is svnjobs' own.
         Task::RunJobs(_) => unreachable!(),
     }
@@ -106,7 +107,7 @@ fn tell<E: Sink>(err: &mut E, tool: Tool, fault: &Fault) -> u8
 }
 
 // The call of a program that has commands.
-fn do_command<H: Host, O: Sink, E: Sink, C: Clock, R: Dice>(
+fn do_command<H: Host, O: Sink, E: Sink, C: Clock, R: Dice, G: Gate>(
     alloc: Global,
     tool: Tool,
     words: &[String],
@@ -115,6 +116,7 @@ fn do_command<H: Host, O: Sink, E: Sink, C: Clock, R: Dice>(
     err: &mut E,
     clock: &mut C,
     dice: &mut R,
+    gate: &G,
 ) -> u8
     requires { tool ≢ Jobs }
     // One fault or none, to which belong the status, the line, and what was done and printed; whatever the input is, it isn't read.
@@ -152,7 +154,7 @@ fn do_command<H: Host, O: Sink, E: Sink, C: Clock, R: Dice>(
     ensures labels { (path : List ℕ) → ((shard : ℕ) → Asks tool (map string_bytes words.now) path (Create shard) → ⊥) → ((txns : List (ℕ × ℕ)) → Asks tool (map string_bytes words.now) path (RemoveTxns txns) → ⊥)
         → HasSameLabels (H.disk_at host.old path) (H.disk_at host.new path) }
 {
-    match run(alloc, tool, words, host, out, clock, dice) {
+    match run(alloc, tool, words, host, out, clock, dice, gate) {
         Ok(()) => 0,
         Err(fault) => tell(err, tool, &fault),
     }
@@ -163,6 +165,8 @@ fn do_command<H: Host, O: Sink, E: Sink, C: Clock, R: Dice>(
 ///
 /// `known`: where the host tells the files at the path of the words, they are known to stand for a history, which two workers of svnjobs
 /// rest on. Who doesn't know hands in false; then less is told of these.
+///
+/// `gate`: it is passed at places of a run of jobs, and behind each revision that is dumped. No clause speaks of it.
 pub fn command<
     T: Threads + Wait + Sync,
     H: Host,
@@ -244,6 +248,6 @@ where
             Ok(status) => status,
             Err(fault) => tell(err, tool, &fault),
         },
-        _ => do_command(alloc, tool, words, host, out, err, clock, dice),
+        _ => do_command(alloc, tool, words, host, out, err, clock, dice, gate),
     }
 }

@@ -20,18 +20,18 @@ returns-in_err-write_piece-clause-told g c = λ bytes e whole.
     let part = subst (λ (t : List ℕ). AddsFront old new t) c.deref.ensures.value c.in_err-write_piece.ensures.part in
     rw (p.1, p.2, c.in_err-write_piece.ensures.failed) (walks_unwritten (IsWholeText text) c.args.lines.now.items c.args.lines.now.items text Whole old new (refl, refl) part)
 
-pub returns-in_err-write_rep-clause-told : goal.returns-in_err-write_rep-clause-told
-returns-in_err-write_rep-clause-told g c = λ bytes e whole.
-    let p = err_from_is_err_and c.from_residual-in_err-write_rep.result c.from_residual-in_err-write_rep.ensures.1 in
+pub returns-in_err-write_again-clause-told : goal.returns-in_err-write_again-clause-told
+returns-in_err-write_again-clause-told g c = λ bytes e whole.
+    let p = err_from_is_err_and c.from_residual-in_err-write_again.result c.from_residual-in_err-write_again.ensures.1 in
     let text = text_of c.args.rep.now bytes in
     let lines = c.args.lines.now.items in
     let now = c.clear.new.self.items in
     let old = g.S.Sink.written c.args.sink.now in
     let mid = g.S.Sink.written c.write_piece.new.sink in
-    let new = g.S.Sink.written c.write_rep.new.sink in
+    let new = g.S.Sink.written c.write_again.new.sink in
     let adds = subst (λ (t : List ℕ). Adds old mid t) c.deref.ensures.value c.in_ok-write_piece.ensures.added in
-    let r = c.in_err-write_rep.field-0.0 in
-    let written = walks_written text mid new now now (Err r) c.clear.ensures.items refl (c.in_err-write_rep.ensures.told bytes e whole) in
+    let r = c.in_err-write_again.field-0.0 in
+    let written = walks_written text mid new now now (Err r) c.clear.ensures.items refl (c.in_err-write_again.ensures.told bytes e whole) in
     rw (p.1, p.2)
     (walks_flushed (IsWholeText (text ++ record_end)) lines [] now lines old mid new (Err r) adds (sym (append-nil lines))
     (subst (λ (b : List ℕ). Walks (IsWholeText (text ++ record_end)) b now mid new (Err r)) c.clear.ensures.items (walks_tail text record_end now now now mid new r written)))
@@ -44,9 +44,9 @@ returns-in_err-extend_from_slice-clause-told g c = λ bytes e whole.
     let now = c.extend_from_slice.new.self.items in
     let old = g.S.Sink.written c.args.sink.now in
     let mid = g.S.Sink.written c.write_piece.new.sink in
-    let new = g.S.Sink.written c.write_rep.new.sink in
+    let new = g.S.Sink.written c.write_again.new.sink in
     let adds = subst (λ (t : List ℕ). Adds old mid t) c.deref.ensures.value c.in_ok-write_piece.ensures.added in
-    let more = whole_adds text mid new tt (c.in_ok-write_rep.ensures.told bytes e whole) in
+    let more = whole_adds text mid new tt (c.in_ok-write_again.ensures.told bytes e whole) in
     rw (p.1, p.2) (walks_flushed (IsWholeText (text ++ record_end)) lines [] now lines old mid new (Err errors.OutOfMemory) adds (sym (append-nil lines)) (walks_cut text record_end [] now mid new refl more))
 
 pub returns-clause-told : goal.returns-clause-told
@@ -56,8 +56,8 @@ returns-clause-told g c = λ bytes e whole.
     let now = c.extend_from_slice.new.self.items in
     let old = g.S.Sink.written c.args.sink.now in
     let mid = g.S.Sink.written c.write_piece.new.sink in
-    let new = g.S.Sink.written c.write_rep.new.sink in
+    let new = g.S.Sink.written c.write_again.new.sink in
     let adds = subst (λ (t : List ℕ). Adds old mid t) c.deref.ensures.value c.in_ok-write_piece.ensures.added in
-    let more = whole_adds text mid new tt (c.in_ok-write_rep.ensures.told bytes e whole) in
+    let more = whole_adds text mid new tt (c.in_ok-write_again.ensures.told bytes e whole) in
     let is : now ≡ record_end = c.in_ok-extend_from_slice.ensures.items ∙ ap (λ (t : List ℕ). t ++ record_end) c.clear.ensures.items in
     walks_flushed (IsWholeText (text ++ record_end)) lines [] now lines old mid new (Ok tt) adds (sym (append-nil lines)) (walks_both text record_end [] now mid new tt refl is more)
