@@ -70,7 +70,7 @@ fn play_image<T: Threads + Wait + Sync>(
     let crash = play_front(rt, stage, block, start)?;
     stage.out.clear();
     stage.crash_to(block.first.saturating_add(crash), image);
-    for (at, line) in block.lines.iter().enumerate().skip(crash).skip(1) {
+    for (at, line) in block.lines.iter().enumerate().skip(crash.saturating_add(1)) {
         stage.play(rt, block.first.saturating_add(at), line);
     }
     mem::replace(&mut stage.out, out).finish()

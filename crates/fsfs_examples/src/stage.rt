@@ -15,11 +15,11 @@ use std::thread::Threads;
 /// So many changes of one command can be left by a stop.
 const MOST_CHANGES: usize = 4096;
 
-// An image is told by so many bits, one for each of changes beside one another.
-const IMAGE_BITS: usize = 5;
+// An image is told by so many binary digits, one for each of changes beside one another.
+const IMAGE_DIGITS: usize = 5;
 
 /// So many images are there: one for each way in which five changes beside one another are left or not.
-pub const IMAGES: u64 = 1 << IMAGE_BITS;
+pub const IMAGES: u64 = 32;
 
 /// What is known of the output of a block's first command where no call fails.
 #[derive(Drop)]
@@ -216,13 +216,15 @@ impl Stage {
         Ok(())
     }
 
-    /// Stops the machine after the last command: of its changes those are left that this image has.
+    // Stops the machine after the last command: of its changes those are left that this image has.
+    fn stop_at(&mut self, image: u64) -> Result<()> {
+        let picked = picks_in(self.alloc, image)?;
+        self.stop(&picked)
+    }
+
+    /// Does that. Where it can't be done, the number of the line is printed, and why.
     pub fn crash_to(&mut self, number: usize, image: u64) {
-        let done = match picks_in(self.alloc, image) {
-            Ok(picked) => self.stop(&picked),
-            Err(error) => Err(error.into()),
-        };
-        if let Err(error) = done {
+        if let Err(error) = self.stop_at(image) {
             self.out.refuse(number, &error);
         }
     }
@@ -243,11 +245,16 @@ impl Stage {
     }
 }
 
-// The changes that an image has: of each five beside one another those whose bits are set.
+// The changes that an image has: of each five beside one another those whose digits are 1.
 fn picks_in(alloc: Global, image: u64) -> Result<Vec<bool>, AllocError> {
     let mut picks = Vec::new(alloc);
+    let mut digits = image;
     for at in 0..MOST_CHANGES {
-        picks.push((image >> (at % IMAGE_BITS)) & 1 == 1)?;
+        if at % IMAGE_DIGITS == 0 {
+            digits = image;
+        }
+        picks.push(digits % 2 == 1)?;
+        digits /= 2;
     }
     Ok(picks)
 }

@@ -106,9 +106,12 @@ pub fn put_ended(out: &mut Transcript, text: &str, end: &str) {
     for line in text.lines() {
         match around_end(line, end) {
             Some((tool, revision, what)) => {
-                for piece in ["!", tool, " Corrupt ", revision, " end ", what] {
-                    out.say(piece);
-                }
+                out.say("!");
+                out.say(tool);
+                out.say(" Corrupt ");
+                out.say(revision);
+                out.say(" end ");
+                out.say(what);
             }
             None => out.say(line),
         }
