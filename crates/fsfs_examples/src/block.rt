@@ -5,7 +5,7 @@ use crate::stage::{IMAGES, Stage, Whole};
 use crate::transcript::put_ended;
 use fsfs_memory::Transcript;
 use std::alloc::AllocError;
-use std::collections::BTreeMap;
+use std::collections::{BTreeMap, BTreeSet};
 use std::fmt::Display;
 use std::mem;
 use std::sync::Wait;
@@ -83,12 +83,12 @@ fn play_images<T: Threads + Wait + Sync>(
     block: Block<'_>,
     start: Start<'_>,
 ) -> Result<(), AllocError> {
-    let mut texts = BTreeMap::new(stage.alloc);
+    let mut texts = BTreeSet::new(stage.alloc);
     for image in 0..IMAGES {
-        texts.insert(play_image(rt, stage, block, start, image)?, ())?;
+        texts.insert(play_image(rt, stage, block, start, image)?)?;
     }
     let mut between = "crash each\n";
-    for text in texts.keys() {
+    for text in texts.iter() {
         stage.out.say(between);
         stage.out.say(text.as_str());
         between = "or\n";
