@@ -50,7 +50,8 @@ impl Given {
     // A disk with these files.
     fn disk(&self, alloc: Global, files: &Files) -> Result<MemDisk> {
         let calls = Vec::from_slice(alloc, self.calls_at(Place::Disk))?;
-        let disk = firm_disk(alloc, files)?.failing(calls, Vec::new(alloc));
+        let bench_calls = Vec::from_slice(alloc, self.calls_at(Place::Bench))?;
+        let disk = firm_disk(alloc, files)?.failing(calls, bench_calls);
         match self.calls_at(Place::Stop).first() {
             Some(call) => Ok(disk.fuse(call.saturating_sub(1))),
             None => Ok(disk),

@@ -9,6 +9,8 @@ pub enum Place {
     Disk,
     /// A call of the disk, and each behind it.
     Stop,
+    /// A call of each bench.
+    Bench,
     /// A read of the input.
     Input,
     /// A write of the output.
@@ -22,6 +24,7 @@ impl Place {
         match word {
             "disk" => Ok(Place::Disk),
             "stop" => Ok(Place::Stop),
+            "bench" => Ok(Place::Bench),
             "input" => Ok(Place::Input),
             "output" => Ok(Place::Output),
             "errors" => Ok(Place::Errors),
@@ -33,9 +36,30 @@ impl Place {
         match self {
             Place::Disk => "disk",
             Place::Stop => "stop",
+            Place::Bench => "bench",
             Place::Input => "input",
             Place::Output => "output",
             Place::Errors => "errors",
+        }
+    }
+}
+
+/// What a block is run for, again and again.
+#[derive(Clone, Copy)]
+pub enum Each {
+    /// A call at this place fails: the first, then the second, and so on.
+    Call(Place),
+    /// The file that bytes go to is cut at this length, then at one more, and so on.
+    Length(usize),
+}
+
+impl Each {
+    fn read(text: &str) -> Result<Each> {
+        let (word, rest) = cut(text);
+        if word == "length" {
+            Ok(Each::Length(rest.parse::<usize>()?))
+        } else {
+            Ok(Each::Call(Place::read(text)?))
         }
     }
 }
@@ -96,8 +120,10 @@ pub enum Line<'a> {
     Changes,
     /// Prints how many files there are.
     Count,
-    /// Begins a block that is run with each call failing in turn.
-    Each(Place),
+    /// The same, in a block, for each image that may be left.
+    CrashEach,
+    /// Begins a block.
+    Each(Each),
     /// Ends it.
     End,
 }
@@ -150,12 +176,13 @@ impl<'a> Line<'a> {
                 let (place, calls) = cut(rest);
                 Ok(Line::Failing(Place::read(place)?, calls))
             }
+            "crash" if rest == "each" => Ok(Line::CrashEach),
             "crash" => Ok(Line::Crash(rest)),
             "files" => Ok(Line::Files),
             "show" => Ok(Line::Show(rest)),
             "changes" => Ok(Line::Changes),
             "count" => Ok(Line::Count),
-            "each" => Ok(Line::Each(Place::read(rest)?)),
+            "each" => Ok(Line::Each(Each::read(rest)?)),
             "end" => Ok(Line::End),
             "moment" => Ok(Line::Moment(rest.parse::<u64>()?)),
             "dice" => Ok(Line::Dice(rest)),

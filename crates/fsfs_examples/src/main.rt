@@ -3,6 +3,7 @@
 //! allowed. `docs/EXAMPLES.md` has the form of the text.
 #![tactic(auto)]
 
+mod block;
 mod command;
 mod edit;
 mod example;

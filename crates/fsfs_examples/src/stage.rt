@@ -15,6 +15,12 @@ use std::thread::Threads;
 /// So many changes of one command can be left by a stop.
 const MOST_CHANGES: usize = 4096;
 
+// An image is told by so many binary digits, one for each of changes beside one another.
+const IMAGE_DIGITS: usize = 5;
+
+/// So many images are there: one for each way in which five changes beside one another are left or not.
+pub const IMAGES: u64 = 32;
+
 /// What is known of the output of a block's first command where no call fails.
 #[derive(Drop)]
 pub enum Whole {
@@ -38,6 +44,8 @@ pub struct Stage {
     disk: Option<MemDisk>,
     /// How many calls of the disk the last command made in which a call was to fail.
     pub calls: u64,
+    /// How often benches failed in it.
+    pub bench_faults: u64,
     pub whole: Whole,
     pub out: Transcript,
 }
@@ -53,6 +61,7 @@ impl Stage {
             given: Given::new(alloc),
             disk: None,
             calls: 0,
+            bench_faults: 0,
             whole: Whole::NotAsked,
             out: Transcript::new(alloc),
         }
@@ -82,6 +91,7 @@ impl Stage {
             Line::InputTimes(count, text) => return self.give(count, text, b""),
             Line::Run(line) => return self.run(rt, line),
             Line::Crash(picks) => return self.crash(picks),
+            Line::CrashEach => bail!("no block, or a crash before this"),
             Line::Each(_) => bail!("a block in a block"),
             Line::End => bail!("no block ends here"),
             other => self.note(other),
@@ -175,6 +185,7 @@ impl Stage {
     fn leave(&mut self, disk: MemDisk) -> Result<(), AllocError> {
         if !self.given.calls.is_empty() {
             self.calls = disk.calls();
+            self.bench_faults = disk.bench_faults();
         }
         self.given.calls = Vec::new(self.alloc);
         self.given.input = Vec::new(self.alloc);
@@ -184,21 +195,68 @@ impl Stage {
         Ok(())
     }
 
-    // Stops the machine after the last command.
-    fn crash(&mut self, picks: &str) -> Result<()> {
+    // Stops the machine after the last command: of its changes those are left that are picked.
+    fn stop(&mut self, picked: &[bool]) -> Result<()> {
         let Some(disk) = self.disk.take() else {
             bail!("no command before this");
         };
+        let left = disk.crash(picked)?;
+        self.files = files_of(self.alloc, &left)?;
+        Ok(())
+    }
+
+    fn crash(&mut self, picks: &str) -> Result<()> {
         // The disk was made by a change for each file and one that made them firm.
         let before = self.before.len().saturating_add(1);
         let picked = picks_of(self.alloc, picks, ' ', before, MOST_CHANGES)?;
-        let left = disk.crash(&picked)?;
-        self.files = files_of(self.alloc, &left)?;
+        self.stop(&picked)?;
         self.out.say("crash ");
         self.out.say(picks);
         self.out.say("\n");
         Ok(())
     }
+
+    // Stops the machine after the last command: of its changes those are left that this image has.
+    fn stop_at(&mut self, image: u64) -> Result<()> {
+        let picked = picks_in(self.alloc, image)?;
+        self.stop(&picked)
+    }
+
+    /// Does that. Where it can't be done, the number of the line is printed, and why.
+    pub fn crash_to(&mut self, number: usize, image: u64) {
+        if let Err(error) = self.stop_at(image) {
+            self.out.refuse(number, &error);
+        }
+    }
+
+    /// The length of the file that bytes go to.
+    pub fn length(&self) -> usize {
+        match self.files.get(self.open.as_str()) {
+            Some(bytes) => bytes.len(),
+            None => 0,
+        }
+    }
+
+    /// Leaves the first bytes of the file that bytes go to, so many.
+    pub fn cut(&mut self, length: usize) {
+        if let Some(bytes) = self.files.get_mut(self.open.as_str()) {
+            bytes.truncate(length);
+        }
+    }
+}
+
+// The changes that an image has: of each five beside one another those whose digits are 1.
+fn picks_in(alloc: Global, image: u64) -> Result<Vec<bool>, AllocError> {
+    let mut picks = Vec::new(alloc);
+    let mut digits = image;
+    for at in 0..MOST_CHANGES {
+        if at % IMAGE_DIGITS == 0 {
+            digits = image;
+        }
+        picks.push(digits % 2 == 1)?;
+        digits /= 2;
+    }
+    Ok(picks)
 }
 
 // Whether the output of a run in which a call failed is a first part of the whole, and that is all that can be known of it.

@@ -1,7 +1,7 @@
 // What is printed of a run.
 use crate::command::Ran;
 use crate::files::Files;
-use fsfs_memory::Transcript;
+use fsfs_memory::{Transcript, cut};
 use md5::{Digest, Md5};
 
 /// Output that is longer than this is told by its length and its MD5.
@@ -85,4 +85,36 @@ pub fn put_run(out: &mut Transcript, ran: &Ran, is_first_part: bool) {
     out.lines(ran.err.bytes(), "!", ";");
     out.tell("= ", &ran.status);
     out.say("\n");
+}
+
+// The words of an error line around the offset of damage, where that is this one.
+fn around_end<'a>(line: &'a str, end: &str) -> Option<(&'a str, &'a str, &'a str)> {
+    let text = line.strip_prefix('!')?;
+    let (tool, fault) = cut(text);
+    let (word, places) = cut(fault);
+    let (revision, place) = cut(places);
+    let (offset, what) = cut(place);
+    if word == "Corrupt" && offset == end {
+        Some((tool, revision, what))
+    } else {
+        None
+    }
+}
+
+/// Writes what was printed; of damage at this offset it is said that it is at the end.
+pub fn put_ended(out: &mut Transcript, text: &str, end: &str) {
+    for line in text.lines() {
+        match around_end(line, end) {
+            Some((tool, revision, what)) => {
+                out.say("!");
+                out.say(tool);
+                out.say(" Corrupt ");
+                out.say(revision);
+                out.say(" end ");
+                out.say(what);
+            }
+            None => out.say(line),
+        }
+        out.say("\n");
+    }
 }
