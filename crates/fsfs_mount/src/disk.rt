@@ -6,13 +6,13 @@ ghost use Rattle.fsfs_disk.specs.Trace.{DropLabel, labels_now, PerformsIfThere, 
 ghost use Rattle.fsfs_folders.specs.Standing.{told};
 ghost use Rattle.fsfs_folders.specs.Told.{LeavesImages};
 ghost use Rattle.fsfs_folders.specs.Keeping.{are_rooted};
-ghost use Rattle.fsfs_folders.specs.OpenFiles.{is_still};
+ghost use Rattle.fsfs_mount.specs.OpenFiles.{AreStill};
 
 use crate::found::Found;
-use crate::last_read::{read_last, size_last};
+use crate::open_files::OpenFiles;
 use fsfs_base::{Failed, Name, counted};
 use fsfs_disk::{Disk, Label, ListFault};
-use fsfs_folders::{CallError, Calls, FolderBench, Folders, Opened};
+use fsfs_folders::{CallError, Calls, FolderBench, Folders};
 use std::alloc::Global;
 
 /// The files of a repository below a folder, over the calls of the system. It tells the operations that its calls come to.
@@ -23,19 +23,19 @@ use std::alloc::Global;
 ///
 /// Where a mount was to change a repository and found none, each change fails: nothing is locked there.
 ///
-/// The file that was read last stays open: a read of it that doesn't begin at its beginning costs no call but the read. Each call but
-/// reads and sizes closes it.
+/// The files that were read last stay open: a read of one of them that doesn't begin at its beginning costs no call but the read. Each call
+/// but reads and sizes closes them.
 #[derive(Drop)]
 pub struct FolderDisk<C: Calls + Drop> {
     alloc: Global,
     folders: Folders<C>,
-    last_read: Option<Opened<C>>,
+    open_files: OpenFiles<C>,
     found: Found,
     path: String,
     writes: bool,
     faults: u64,
     bench_faults: u64,
-    ghost still: { is_still last_read (λ opened. opened.name) (λ opened. C.File.OpenFile.number opened.file) (C.Calls.history folders.calls) ≡ true },
+    ghost still: { AreStill open_files.last open_files.others.items (λ opened. opened.name) (λ opened. C.File.OpenFile.number opened.file) (C.Calls.history folders.calls) },
 }
 
 impl<C: Calls + Drop> FolderDisk<C> {
@@ -69,7 +69,7 @@ impl<C: Calls + Drop> FolderDisk<C> {
         FolderDisk {
             alloc,
             folders,
-            last_read: None,
+            open_files: OpenFiles::new(alloc),
             found,
             path,
             writes,
@@ -86,7 +86,7 @@ impl<C: Calls + Drop> FolderDisk<C> {
         let FolderDisk {
             alloc: _,
             folders,
-            last_read: _,
+            open_files: _,
             found,
             path,
             writes: _,
@@ -161,17 +161,19 @@ impl<C: Calls + Drop> Disk for FolderDisk<C> {
         offset: u64,
         buffer: &mut [u8],
     ) -> Result<Option<usize>, Failed> {
-        let found = read_last(&mut self.folders, &mut self.last_read, name, offset, buffer);
+        let found = self
+            .open_files
+            .read(&mut self.folders, name, offset, buffer);
         counted(&mut self.faults, found)
     }
 
     fn size(&mut self, name: &Name) -> Result<Option<u64>, Failed> {
-        let found = size_last(&mut self.folders, &mut self.last_read, name);
+        let found = self.open_files.size(&mut self.folders, name);
         counted(&mut self.faults, found)
     }
 
     fn put(&mut self, name: &Name, bytes: &[u8]) -> Result<(), Failed> {
-        self.last_read = None;
+        self.open_files.close();
         if self.found.is_barred() {
             return self.refuse();
         }
@@ -180,7 +182,7 @@ impl<C: Calls + Drop> Disk for FolderDisk<C> {
     }
 
     fn rename(&mut self, from: &Name, to: &Name) -> Result<(), Failed> {
-        self.last_read = None;
+        self.open_files.close();
         if self.found.is_barred() {
             return self.refuse();
         }
@@ -189,7 +191,7 @@ impl<C: Calls + Drop> Disk for FolderDisk<C> {
     }
 
     fn remove(&mut self, name: &Name) -> Result<bool, Failed> {
-        self.last_read = None;
+        self.open_files.close();
         if self.found.is_barred() {
             return self.refuse();
         }
@@ -198,13 +200,13 @@ impl<C: Calls + Drop> Disk for FolderDisk<C> {
     }
 
     fn firm_names(&mut self) -> Result<(), Failed> {
-        self.last_read = None;
+        self.open_files.close();
         let done = self.folders.firm_names();
         counted(&mut self.faults, done)
     }
 
     fn make_folder(&mut self, name: &Name) -> Result<(), Failed> {
-        self.last_read = None;
+        self.open_files.close();
         if self.found.is_barred() {
             return self.refuse();
         }
@@ -213,7 +215,7 @@ impl<C: Calls + Drop> Disk for FolderDisk<C> {
     }
 
     fn drop_folder(&mut self, name: &Name) -> Result<(), Failed> {
-        self.last_read = None;
+        self.open_files.close();
         if self.found.is_barred() {
             return self.refuse();
         }
@@ -222,7 +224,7 @@ impl<C: Calls + Drop> Disk for FolderDisk<C> {
     }
 
     fn list(&mut self, alloc: Global, _folder: &Name) -> Result<Vec<Name>, ListFault> {
-        self.last_read = None;
+        self.open_files.close();
         match self.folders.txn_entries(alloc) {
             Ok(found) => Ok(found),
             Err(CallError::Memory) => Err(ListFault::Memory),
@@ -234,7 +236,7 @@ impl<C: Calls + Drop> Disk for FolderDisk<C> {
     }
 
     fn bench(&mut self, label: &Label) -> Result<FolderBench<C>, Failed> {
-        self.last_read = None;
+        self.open_files.close();
         if self.found.is_barred() {
             return self.refuse();
         }
@@ -254,7 +256,7 @@ impl<C: Calls + Drop> Disk for FolderDisk<C> {
         if let Some(bench) = bench {
             self.bench_faults = self.bench_faults.saturating_add(bench.faults());
         }
-        self.last_read = None;
+        self.open_files.close();
         if self.found.is_barred() {
             return self.refuse();
         }
@@ -263,7 +265,7 @@ impl<C: Calls + Drop> Disk for FolderDisk<C> {
     }
 
     fn adopt(&mut self, bench: &mut FolderBench<C>, file: &Name, to: &Name) -> Result<(), Failed> {
-        self.last_read = None;
+        self.open_files.close();
         if self.found.is_barred() {
             return self.refuse();
         }

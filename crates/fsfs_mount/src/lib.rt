@@ -1,4 +1,4 @@
-//! The disks and the host over folders of a system: mounting, the lock, and the file that was read last.
+//! The disks and the host over folders of a system: mounting, the lock, and the files that stay open.
 #![tactic(auto)]
 
 mod disk;
@@ -7,8 +7,8 @@ mod file_system;
 mod found;
 mod ground;
 mod host;
-mod last_read;
 mod mounting;
+mod open_files;
 mod places;
 
 pub use disk::FolderDisk;
