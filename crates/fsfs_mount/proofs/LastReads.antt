@@ -1,4 +1,4 @@
--- What is told of the file that was read last.
+-- What is told of the files that stay open.
 use Rattle.std.proofs.Common.{◌≡◌, ℕ, List, true, refl, sym, ap, subst, ◌∙◌}
 use Rattle.std.specs.Prelude.{Option, Some, None, IfSome}
 use Rattle.fsfs_disk.specs.Trace.{Trace, IsRead, IsSize, file_at}
@@ -13,3 +13,11 @@ told_at P a b calls more same named h = subst (λ q. IfSome (told calls) (λ t. 
 pub read_none : (ts : Option Trace) (name : List ℕ) (offset : ℕ) (b : List ℕ) → IfSome ts (λ t. file_at t name ≡ None) → IfSome ts (λ t. IsRead (file_at t name) offset b b None)
 read_none None name offset b e = tt
 read_none (Some t) name offset b e = subst (λ f. IsRead f offset b b None) (sym e) (refl, refl)
+
+-- a file that is made the one used last still has its name
+pub still_moved : {A : Type 0} (name_of : A → List ℕ) (number_of : A → ℕ) (calls : Option CallRecord) (last kept : Option A) → last ≡ kept → IfSome kept (λ it. is_file_of calls (name_of it) (number_of it) ≡ true) → is_still last name_of number_of calls ≡ true
+still_moved name_of number_of calls last None same h = ap (λ o. is_still o name_of number_of calls) same
+still_moved name_of number_of calls last (Some it) same h = ap (λ o. is_still o name_of number_of calls) same ∙ h
+
+pub still_same : {A : Type 0} (name_of : A → List ℕ) (number_of : A → ℕ) (calls : Option CallRecord) (last before : Option A) → last ≡ before → is_still before name_of number_of calls ≡ true → is_still last name_of number_of calls ≡ true
+still_same name_of number_of calls last before same h = ap (λ o. is_still o name_of number_of calls) same ∙ h

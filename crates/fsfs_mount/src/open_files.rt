@@ -1,5 +1,5 @@
 // The files that were read stay open for the reads that follow.
-ghost use Rattle.std.specs.Prelude.{◌≡◌, ◌≤◌, ◌×◌, ℕ, List, Option, None, Some, [], All, length, true, IfOk, IfSome, OnOk, MatchOption, IsTrue};
+ghost use Rattle.std.specs.Prelude.{◌≡◌, ◌≤◌, ℕ, List, Option, None, Some, [], All, length, true, IfOk, IfSome, OnOk, MatchOption, IsTrue};
 ghost use Rattle.fsfs_disk.specs.Trace.{IsRead, IsSize, file_at};
 ghost use Rattle.fsfs_folders.specs.System.CallRecord.{CallRecord};
 ghost use Rattle.fsfs_folders.specs.Standing.{told};
