@@ -9,6 +9,7 @@ use Rattle.fsfs_model.specs.Flat.Transactions.{IsNext}
 use Rattle.fsfs_machine.specs.declared.machine.Recorded.{Recorded}
 use Rattle.fsfs_machine.specs.declared.machine.Txn.{Txn}
 use Rattle.fsfs_base.specs.declared.places.place.DiskPlace.{DiskPlace}
+use Rattle.fsfs_base.specs.declared.places.place.DiskPlace.TheVariants.{Commit}
 use Rattle.fsfs_base.specs.declared.places.place.CommitPlace.{CommitPlace}
 use Rattle.fsfs_machine.specs.declared.machine.Section.TheVariants.{Begun, Doubtful, Over}
 use Rattle.fsfs_machine.specs.declared.machine.Outcome.{Outcome}
@@ -304,7 +305,7 @@ pub lost : (holds : Txn → Revision → List ℕ → Type 0) (young : ℕ) (rea
 lost holds young ready properties v u m n o x y none r t l g = record {
   moved = record { drifted = drifted_on v n o (drifted_in holds young ready properties v u m n x y r t l) (by_giving (step.GiveLock n.number) n o g); section = ap {A = View} (λ z. z.section) g.is ∙ sym none };
   doubtless = λ few. given_doubtless (step.GiveLock n.number) n o g (doubtless_in holds young ready properties v u m n x y r t l few);
-  left = given_left Begun n o (step.GiveLock n.number) (may_let_go young u m n t l).is refl g ∙ left_in holds young ready properties v u m n x y r t l;
+  left = given_left Begun n o (step.GiveLock n.number) (ap {A = View} (λ z. z.section) l.is ∙ ap {A = View} (λ z. z.section) t.is) refl g ∙ left_in holds young ready properties v u m n x y r t l;
   from = r.from;
   landings = landings_later u.seen o.seen x y (none_more o.seen u.seen (ap {A = View} (λ z. z.seen) g.is ∙ ap {A = View} (λ z. z.seen) l.is ∙ ap {A = View} (λ z. z.seen) t.is)) r.landings;
   can = can_same u o y properties (ap {A = View} (λ z. z.seen) g.is ∙ ap {A = View} (λ z. z.seen) l.is ∙ ap {A = View} (λ z. z.seen) t.is) (ap {A = View} (λ z. z.given) g.is ∙ ap {A = View} (λ z. z.given) l.is ∙ ap {A = View} (λ z. z.given) t.is) r.can;

@@ -1,5 +1,5 @@
 -- A transaction that has begun, and why none was begun.
-use Rattle.std.proofs.Common.{◌≡◌, ◌≤◌, ◌<◌, ◌∷◌, ℕ, List, [], length, true, ap, inr, arith}
+use Rattle.std.proofs.Common.{◌≡◌, ◌≤◌, ◌<◌, ◌∷◌, ℕ, List, [], length, true, ap, inl, inr, arith}
 use Rattle.std.specs.Prelude.{Err}
 use Rattle.fsfs_base.specs.declared.fields.txn_name.TxnName.{TxnName}
 use Rattle.fsfs_draft.specs.Drafts.{Folder}
