@@ -58,22 +58,38 @@ fn play_front<T: Threads + Wait + Sync>(
     Ok(block.lines.len())
 }
 
-// Runs a block anew, and of its lines those behind the crash at this place over what this image has left. What these print.
+// Runs the lines of a block behind the one that crashes.
+fn play_behind<T: Threads + Wait + Sync>(
+    rt: &T,
+    stage: &mut Stage,
+    block: Block<'_>,
+    crash: usize,
+) {
+    for (at, line) in block.lines.iter().enumerate().skip(crash.saturating_add(1)) {
+        stage.play(rt, block.first.saturating_add(at), line);
+    }
+}
+
+// Runs a block anew, its last lines over the files that this image has left, and what these print; none where the same files were seen
+// before.
 fn play_image<T: Threads + Wait + Sync>(
     rt: &T,
     stage: &mut Stage,
     block: Block<'_>,
     start: Start<'_>,
     image: u64,
-) -> Result<String, AllocError> {
+    seen: &mut BTreeSet<String>,
+) -> Result<Option<String>, AllocError> {
     let out = mem::replace(&mut stage.out, Transcript::new(stage.alloc));
     let crash = play_front(rt, stage, block, start)?;
     stage.out.clear();
     stage.crash_to(block.first.saturating_add(crash), image);
-    for (at, line) in block.lines.iter().enumerate().skip(crash.saturating_add(1)) {
-        stage.play(rt, block.first.saturating_add(at), line);
+    let is_new = seen.insert(stage.files_as_text()?)?;
+    if is_new {
+        play_behind(rt, stage, block, crash);
     }
-    mem::replace(&mut stage.out, out).finish()
+    let told = mem::replace(&mut stage.out, out).finish()?;
+    Ok(if is_new { Some(told) } else { None })
 }
 
 // Prints what the lines behind a crash print over each image that it may leave: each text once, in the order of their bytes.
@@ -83,9 +99,12 @@ fn play_images<T: Threads + Wait + Sync>(
     block: Block<'_>,
     start: Start<'_>,
 ) -> Result<(), AllocError> {
+    let mut seen = BTreeSet::new(stage.alloc);
     let mut texts = BTreeSet::new(stage.alloc);
     for image in 0..IMAGES {
-        texts.insert(play_image(rt, stage, block, start, image)?)?;
+        if let Some(text) = play_image(rt, stage, block, start, image, &mut seen)? {
+            texts.insert(text)?;
+        }
     }
     let mut between = "crash each\n";
     for text in texts.iter() {

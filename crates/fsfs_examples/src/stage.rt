@@ -16,10 +16,10 @@ use std::thread::Threads;
 const MOST_CHANGES: usize = 4096;
 
 // An image is told by so many binary digits, one for each of changes beside one another.
-const IMAGE_DIGITS: usize = 5;
+const IMAGE_DIGITS: usize = 4;
 
-/// So many images are there: one for each way in which five changes beside one another are left or not.
-pub const IMAGES: u64 = 32;
+/// So many images are there: one for each way in which four changes beside one another are left or not.
+pub const IMAGES: u64 = 16;
 
 /// What is known of the output of a block's first command where no call fails.
 #[derive(Drop)]
@@ -229,6 +229,13 @@ impl Stage {
         }
     }
 
+    /// All files, as they are printed.
+    pub fn files_as_text(&self) -> Result<String, AllocError> {
+        let mut text = Transcript::new(self.alloc);
+        put_files(&mut text, &self.files);
+        text.finish()
+    }
+
     /// The length of the file that bytes go to.
     pub fn length(&self) -> usize {
         match self.files.get(self.open.as_str()) {
@@ -245,7 +252,7 @@ impl Stage {
     }
 }
 
-// The changes that an image has: of each five beside one another those whose digits are 1.
+// The changes that an image has: of each four beside one another those whose digits are 1.
 fn picks_in(alloc: Global, image: u64) -> Result<Vec<bool>, AllocError> {
     let mut picks = Vec::new(alloc);
     let mut digits = image;
