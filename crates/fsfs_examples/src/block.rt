@@ -106,11 +106,12 @@ fn play_images<T: Threads + Wait + Sync>(
             texts.insert(text)?;
         }
     }
-    let mut between = "crash each\n";
-    for text in texts.iter() {
-        stage.out.say(between);
+    stage.out.say("crash each\n");
+    for (at, text) in texts.iter().enumerate() {
+        if at > 0 {
+            stage.out.say("or\n");
+        }
         stage.out.say(text.as_str());
-        between = "or\n";
     }
     Ok(())
 }
