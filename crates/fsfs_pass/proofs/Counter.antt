@@ -55,9 +55,9 @@ drawn_turn me d t base same begun least told old is young w store sees safe = �
     (λ few. inl (
       old,
       same ∙ is,
-      after_more me.layout young (stuck_place w.lock) old w v (λ u. CounterRead base at.0 went v u) (λ u. StaysSure v u × DrawnBy base d.trace went v u)
+      after_more me.layout me.low young (stuck_place w.lock) old w v (λ u. CounterRead base at.0 went v u) (λ u. StaysSure v u × DrawnBy base d.trace went v u)
           (λ u _ k. (drawn_stays base at.0 went v u k, drawn u (λ _. k) (λ many. absurd (omega (arith, few, many)))))
-          (counter_turns me.layout young (stuck_place w.lock) old w v store sees safe base begun least few went),
+          (counter_turns me.layout me.low young (stuck_place w.lock) old w v store sees safe base begun least few went),
       lasts_same me.layout (length w.history) (files_now old),
       λ own. own,
     ))
@@ -70,10 +70,10 @@ drawn_turn me d t base same begun least told old is young w store sees safe = �
     went = went_of d.failed
 
     at : (k : ℕ) × (found w.disk Counter ≡ Some (Number k)) × AllBelow k w.given
-    at = counter me.layout young (stuck_place w.lock) old w v store sees safe base begun least
+    at = counter me.layout me.low young (stuck_place w.lock) old w v store sees safe base begun least
 
     file : (text : List ℕ) × (file_at old (only_name TxnCurrent) ≡ Some text) × IsBase36Line text at.0
-    file = counter_file me.layout young (stuck_place w.lock) old w v store sees safe base begun least
+    file = counter_file me.layout me.low young (stuck_place w.lock) old w v store sees safe base begun least
 
     drawn : (u : View) → (at.0 < last_name → CounterRead base at.0 went v u) → (last_name ≤ at.0 → u ≡ record v { full = true }) → DrawnBy base d.trace went v u
     drawn u turned full = record { trace = old; told_is = same ∙ is; text = file.0; number = at.0; line = file.2; there = file.1; turned = turned; full = full }

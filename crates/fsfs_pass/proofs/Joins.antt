@@ -15,7 +15,7 @@ use Rattle.fsfs_machine.specs.declared.machine.Outcome.TheVariants as outcome
 use Rattle.fsfs_machine.specs.declared.machine.Step.TheVariants as step
 use Rattle.fsfs_base.specs.declared.places.place.DiskPlace.{DiskPlace}
 use Rattle.fsfs_machine.specs.Machine.{either_place, World, did, barred, at_place, held_by, is_there, join_with, joined, stuck_place}
-use Rattle.fsfs_machine.specs.Kept.{Kept, IsSeen}
+use Rattle.fsfs_machine.specs.Kept.{Kept, IsSeen, most_floor, may_rise}
 use Rattle.fsfs_machine.proofs.Answering.{seen_of}
 use Rattle.fsfs_machine.proofs.Steps.{step_keeps}
 use Rattle.fsfs_machine.proofs.Whose.{length_at}
@@ -130,11 +130,11 @@ module _ (first : SeatView) (views : List SeatView) (lock young : ℕ) (t : Trac
   knows : Sees w (view_of it)
   knows = its.sees
 
-  here : IsSeen (length w.history) w.floor me.pass
-  here = seen_of (length w.history) w.floor w.passes me.number me.pass s.store.kept.seen sees.pass
+  here : IsSeen (length w.history) w.low (most_floor (may_rise w.lock) w.size w.floor) me.pass
+  here = seen_of (length w.history) w.low (most_floor (may_rise w.lock) w.size w.floor) w.passes me.number me.pass s.store.kept.seen sees.pass
 
-  there : IsSeen (length w.history) w.floor it.pass
-  there = seen_of (length w.history) w.floor w.passes it.number it.pass s.store.kept.seen knows.pass
+  there : IsSeen (length w.history) w.low (most_floor (may_rise w.lock) w.size w.floor) it.pass
+  there = seen_of (length w.history) w.low (most_floor (may_rise w.lock) w.size w.floor) w.passes it.number it.pass s.store.kept.seen knows.pass
 
   numbers_apart : it.number ≢ me.number
   numbers_apart e = apart (sym its.number ∙ e ∙ own.number)
@@ -191,12 +191,12 @@ module _ (first : SeatView) (views : List SeatView) (lock young : ℕ) (t : Trac
       (λ lt. subst (λ (l : List Recorded). Begins it.seen l) (sym sees.seen) (subst (λ (l : List Recorded). Begins l (take me.pass.seen w.history)) (sym knows.seen) (part_begins w.history me.pass.seen it.pass.seen (omega (arith, lt)))))
 
   join_leaves : Spares me.number w join_on
-  join_leaves = record { passes = λ q far. at_other w.passes me.number q (joined it.pass) far; count = length_at w.passes me.number (joined it.pass); grows = begins_itself w.history; locks = λ q far. refl; still = λ q z far held. (refl, refl); floor = refl; given = λ k i. i; full = λ last. last; disk = λ q z far held. refl }
+  join_leaves = record { passes = λ q far. at_other w.passes me.number q (joined it.pass) far; count = length_at w.passes me.number (joined it.pass); grows = begins_itself w.history; locks = λ q far. refl; still = λ q z far held. (refl, refl); floor = refl; low = refl; given = λ k i. i; full = λ last. last; disk = λ q z far held. refl }
 
   -- ---- what it has met
 
   met_join : (z : SeatView) → HasMet first.layout w t z → HasMet first.layout join_on t z
-  met_join z k = let m = k.2 in (k.0, k.1, record { world = m.world; store = m.store; grown = m.grown; seen = m.seen; least = m.least; lasts = m.lasts })
+  met_join z k = let m = k.2 in (k.0, k.1, record { world = m.world; store = m.store; low = m.low; grown = m.grown; seen = m.seen; least = m.least; lasts = m.lasts })
 
   no_longer : (n : ℕ) → length me.seen ≤ n → length it.seen ≤ n → length u.seen ≤ n
   no_longer n a b = by_seen (λ more less. length more ≤ n) me it (λ le. a) (λ lt. b)
@@ -204,7 +204,7 @@ module _ (first : SeatView) (views : List SeatView) (lock young : ℕ) (t : Trac
   -- the state that the one met which knew of more has all that either knew
   met_by : (z : SeatView) (tr : Trace) (m : Met first.layout w t z tr) → length me.seen ≤ length m.world.history → length it.seen ≤ length m.world.history → me.pass.least < length m.world.history → it.pass.least < length m.world.history
       → Met first.layout join_on t u tr
-  met_by z tr m a b c d = record { world = m.world; store = m.store; grown = m.grown; seen = no_longer (length m.world.history) a b; least = omega (arith, c, d); lasts = m.lasts }
+  met_by z tr m a b c d = record { world = m.world; store = m.store; low = m.low; grown = m.grown; seen = no_longer (length m.world.history) a b; least = omega (arith, c, d); lasts = m.lasts }
 
   met_so : HasMet first.layout join_on t u
   met_so = elim (nat_le (last_of it) (last_of me)) as (λ b. nat_le (last_of it) (last_of me) ≡ b → (tr : Trace) × (cond b me.met it.met ≡ Some tr) × Met first.layout join_on t u tr) [
@@ -223,13 +223,13 @@ module _ (first : SeatView) (views : List SeatView) (lock young : ℕ) (t : Trac
   ] refl
 
   met_before : (z : SeatView) → HasMet first.layout w t z → HasMet first.layout join_on t (as_before u (before z))
-  met_before z k = let m = k.2 in (k.0, k.1, record { world = m.world; store = m.store; grown = m.grown; seen = m.seen; least = m.least; lasts = m.lasts })
+  met_before z k = let m = k.2 in (k.0, k.1, record { world = m.world; store = m.store; low = m.low; grown = m.grown; seen = m.seen; least = m.least; lasts = m.lasts })
 
   joining : Placed first join_on t id u (Joining (before me) (before it))
   joining = (
-    record { number = own.number; sees = join_sees; sure = own.sure; layout = own.layout; since = own.since; opened = own.opened; met = met_so },
-    record { layout = own.layout; told = told; least = omega arith; line = (both_begin me it lines).0; met = met_before me own.met },
-    record { layout = its.layout; told = its_told; least = omega arith; line = (both_begin me it lines).1; met = met_before it its.met },
+    record { number = own.number; sees = join_sees; sure = own.sure; layout = own.layout; low = own.low; since = own.since; opened = own.opened; met = met_so },
+    record { layout = own.layout; low = own.low; told = told; least = omega arith; line = (both_begin me it lines).0; met = met_before me own.met },
+    record { layout = its.layout; low = its.low; told = its_told; least = omega arith; line = (both_begin me it lines).1; met = met_before it its.met },
   )
 
   -- its pass is as it was
@@ -391,7 +391,7 @@ module _ (first : SeatView) (views : List SeatView) (lock young : ℕ) (t : Trac
   pub join_goes : Store first left_on lock young t
   join_goes = record {
     world = join_on;
-    store = (let k = s.store in record { trace = k.trace; whole = k.whole; kept = join_kept; shown = k.shown; coming = k.coming; young_is = k.young_is; stuck_is = k.stuck_is });
+    store = (let k = s.store in record { trace = k.trace; size = k.size; whole = k.whole; kept = join_kept; shown = k.shown; coming = k.coming; low_is = k.low_is; floor_is = k.floor_is; level = k.level; young_is = k.young_is; stuck_is = k.stuck_is });
     safe = s.safe;
     own = s.own;
     up = s.up;
@@ -485,9 +485,10 @@ module _ (began : DiskSeen) (first : SeatView) where
         sees = p.sees;
         sure = p.sure;
         layout = p.layout;
+        low = p.low;
         since = p.since;
         opened = p.opened;
-        met = (t, is, met_now first.layout r.young (stuck_place k.world.lock) t k.world (settled_view r.disk.trace me.0) k.store (seen_within k.world (view_of me.0) p.sees) (seen_of (length k.world.history) k.world.floor k.world.passes me.0.number me.0.pass k.store.kept.seen p.sees.pass).least);
+        met = (t, is, met_now first.layout first.low r.young (stuck_place k.world.lock) t k.world (settled_view r.disk.trace me.0) k.store (seen_within k.world (view_of me.0) p.sees) (seen_of (length k.world.history) k.world.low (most_floor (may_rise k.world.lock) k.world.size k.world.floor) k.world.passes me.0.number me.0.pass k.store.kept.seen p.sees.pass).least);
       }
 
       same : branch_of (settled_view r.disk.trace me.0) ≡ branch_of me.0
@@ -499,7 +500,7 @@ module _ (began : DiskSeen) (first : SeatView) where
       goes_so : (x : Before) (t : Trace) → r.disk.trace ≡ Some t → me.0.told ≡ true → (k : Store first s.views r.lock r.young t) → Seated first k.world t id me.0 → Knew first k.world t me.0 x → GoesOn me.0 (settled_view r.disk.trace me.0) x
       goes_so x t is told k p knew = (
         knew.line,
-        later_now k.world t knew.met.0 (as_before me.0 x) (settled_view r.disk.trace me.0) (subst (λ l. Met l k.world t (as_before me.0 x) knew.met.0) (sym knew.layout) knew.met.2) knew.told knew.met.1 is (p.layout ∙ sym knew.layout)
+        later_now k.world t knew.met.0 (as_before me.0 x) (settled_view r.disk.trace me.0) (subst (λ l. Met l k.world t (as_before me.0 x) knew.met.0) (sym knew.layout) knew.met.2) knew.told knew.met.1 is (p.layout ∙ sym knew.layout) (p.low ∙ sym knew.low)
             (last_grows (as_before me.0 x) (settled_view r.disk.trace me.0) knew.told told knew.least (grown_long me.0.seen x.seen knew.line)),
       )
 

@@ -45,7 +45,7 @@ benched_turn me d t l x may made told old is young w store sees safe =
     inl (
       c.0,
       c.2,
-      after_more me.layout young (stuck_place w.lock) c.0 w v (λ u. BenchMade x c.1 v u) (λ u. StaysSure v u × BenchedBy d.failed v u)
+      after_more me.layout me.low young (stuck_place w.lock) c.0 w v (λ u. BenchMade x c.1 v u) (λ u. StaysSure v u × BenchedBy d.failed v u)
           (λ u all k. (
             learned_stays _ _ _ (λ n. learns n place.MakeBench c.1) v u (λ n x. (refl, refl, refl)) (λ n x few. harmless_before c.1 x.faults place.MakeBench few) k,
             λ y its. let e = comes y its in (
@@ -66,8 +66,8 @@ benched_turn me d t l x may made told old is young w store sees safe =
     here : Made d.failed (KeepLabel l) (Some old) d.trace
     here = subst (λ o. Made d.failed (KeepLabel l) o d.trace) is made
 
-    comes : (y : Drawn) → MayMake v y → Comes me.layout young (stuck_place w.lock) d.trace w v (result_of d.failed) (λ went u. BenchMade y went v u)
-    comes y its = make_comes me.layout young (stuck_place w.lock) old w v store sees safe y its d.trace l (result_of d.failed) (made_well d.failed (KeepLabel l) (Some old) d.trace here) (keep_ill d.failed l (Some old) d.trace here)
+    comes : (y : Drawn) → MayMake v y → Comes me.layout me.low young (stuck_place w.lock) d.trace w v (result_of d.failed) (λ went u. BenchMade y went v u)
+    comes y its = make_comes me.layout me.low young (stuck_place w.lock) old w v store sees safe y its d.trace l (result_of d.failed) (made_well d.failed (KeepLabel l) (Some old) d.trace here) (keep_ill d.failed l (Some old) d.trace here)
 
 -- a call that dropped a label, or failed to, by its answer
 record Drops (failed : Bool) (l : Label) (old new : Option Trace) : Type 0 where
@@ -86,7 +86,7 @@ purged_turn me d t l may dropped told old is young w store sees safe =
     inl (
       c.0,
       c.2,
-      after_more me.layout young (stuck_place w.lock) c.0 w v (λ u. SpentPurged may.0 c.1 v u) (λ u. StaysSure v u × PurgedBy d.failed v u)
+      after_more me.layout me.low young (stuck_place w.lock) c.0 w v (λ u. SpentPurged may.0 c.1 v u) (λ u. StaysSure v u × PurgedBy d.failed v u)
           (λ u all k. (learned_stays _ _ _ (λ n. learns n place.Remove c.1) v u (λ n x. (refl, refl, refl)) (λ n x few. harmless_before c.1 x.faults place.Remove few) k, purged u c.1 (call.ended c.1 c.3) (learned_is _ _ _ (λ n. learns n place.Remove c.1) w.history v u all k))) c.4,
       dropped_lasts me.layout (length w.history) old c.0 d.failed l (subst (λ o. Dropped d.failed l (Some old) o) c.2 here),
       dropped_own me.layout me.since old c.0 d.failed l (subst (λ o. Dropped d.failed l (Some old) o) c.2 here),
@@ -101,11 +101,11 @@ purged_turn me d t l may dropped told old is young w store sees safe =
     call : Drops d.failed l (Some old) d.trace
     call = drops d.failed l (Some old) d.trace here
 
-    purges : (txn : Txn) → MayPurge v txn → Comes me.layout young (stuck_place w.lock) d.trace w v call.result (λ went u. Purged txn went v u)
-    purges txn its = purge_comes me.layout young (stuck_place w.lock) old w v store sees safe d.trace l txn its call.result call.ok call.err
+    purges : (txn : Txn) → MayPurge v txn → Comes me.layout me.low young (stuck_place w.lock) d.trace w v call.result (λ went u. Purged txn went v u)
+    purges txn its = purge_comes me.layout me.low young (stuck_place w.lock) old w v store sees safe d.trace l txn its call.result call.ok call.err
 
-    spends : (name : ℕ) → v.section ≡ None → IsIn name v.given → Comes me.layout young (stuck_place w.lock) d.trace w v call.result (λ went u. SpentPurged name went v u)
-    spends name outside given = spent_comes me.layout young (stuck_place w.lock) old w v store sees safe d.trace l name outside given call.result call.ok call.err
+    spends : (name : ℕ) → v.section ≡ None → IsIn name v.given → Comes me.layout me.low young (stuck_place w.lock) d.trace w v call.result (λ went u. SpentPurged name went v u)
+    spends name outside given = spent_comes me.layout me.low young (stuck_place w.lock) old w v store sees safe d.trace l name outside given call.result call.ok call.err
 
     -- whichever label it was, the pass knows the same then
     purged : (u : View) (went : Went) → Ended d.failed went → u ≡ seen_view w.history (learns (length w.history) place.Remove went) v → PurgedBy d.failed v u

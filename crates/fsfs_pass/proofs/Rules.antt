@@ -20,9 +20,9 @@ use Rattle.fsfs_machine.specs.declared.machine.Recorded.{Recorded}
 use Rattle.fsfs_machine.specs.declared.machine.Section.{Section}
 use Rattle.fsfs_machine.specs.declared.machine.Section.TheVariants.{CurrentFirm}
 use Rattle.fsfs_machine.specs.declared.machine.Lock.{Lock}
-use Rattle.fsfs_machine.specs.declared.machine.Lock.TheVariants.{Free, Held, Stuck, Down, DownDoubtful}
+use Rattle.fsfs_machine.specs.declared.machine.Lock.TheVariants.{Free, Held, Stuck, StuckFloor, Down, DownDoubtful, DownFloor}
 use Rattle.fsfs_machine.specs.Machine.{held_by, is_up, stuck_place}
-use Rattle.fsfs_machine.specs.Kept.{IsHolder, IsIn, AreOnce}
+use Rattle.fsfs_machine.specs.Kept.{IsHolder, IsIn, AreOnce, most_floor, may_rise}
 use Rattle.fsfs_machine.proofs.Answering.{seen_of}
 use Rattle.fsfs_turn.specs.Past.{doubt, stuck_with, Safe}
 use Rattle.fsfs_turn.specs.Standing.{IsStore}
@@ -88,8 +88,10 @@ not_held_doubt : (lock : Lock) → is_up lock ≡ true → ((q : ℕ) (s : Secti
 not_held_doubt Free up not = refl
 not_held_doubt (Held q s) up not = absurd (not q s refl)
 not_held_doubt (Stuck place x) up not = refl
+not_held_doubt (StuckFloor place) up not = refl
 not_held_doubt Down up not = refl
 not_held_doubt (DownDoubtful x) up not = absurd cc
+not_held_doubt DownFloor up not = absurd cc
 
 held_none : (lock : Lock) (q : ℕ) (s : Section) → held_by q lock ≡ None → held_by q lock ≡ Some s → ⊥
 held_none lock q s nobody it = let no : None ≡ Some s = sym nobody ∙ it in absurd cc
@@ -107,7 +109,7 @@ restored first views lock young t id me u at s own same seen turns left_is = rep
 
 -- only what is known of the disk was changed
 rehand : (first : SeatView) (views : List SeatView) (lock young : ℕ) (t : Trace) (id : ℕ) (me : SeatView) (h : Hand) → Sits views id me → Store first views lock young t → Store first (slice_set views id (record me { hand = h })) lock young t
-rehand first views lock young t id me h at s = restored first views lock young t id me (record me { hand = h }) at s (reseated first s.world t id me (record me { hand = h }) refl refl (seated first views lock young t s id me at)) refl (omega arith) (quiet_turn me (record me { hand = h }) lock refl refl refl) refl
+rehand first views lock young t id me h at s = restored first views lock young t id me (record me { hand = h }) at s (reseated first s.world t id me (record me { hand = h }) refl refl refl (seated first views lock young t s id me at)) refl (omega arith) (quiet_turn me (record me { hand = h }) lock refl refl refl) refl
 
 -- a seat stays as it was
 unseated : (first : SeatView) (views : List SeatView) (lock young : ℕ) (t : Trace) (id : ℕ) (me : SeatView) → get_elem? views id ≡ some me → Store first views lock young t → Store first (slice_set views id me) lock young t
@@ -168,8 +170,8 @@ module _ (began : DiskSeen) (first : SeatView) where
 
       by_told : (b : Bool) → me.0.told ≡ b → Later (seat_store me.0) (seat_store (look_view r.young r.disk.trace me.0))
       by_told true told = let t = trace_of s r id me.0 at (seat_stays me.0 sits) told in
-          stores.later first s.views r.lock r.young t.0 (r.store t.0 t.1) id me.0 (at, sits) (look_view r.young r.disk.trace me.0) told t.1 refl (stores.looks_further first s.views r.lock r.young t.0 (r.store t.0 t.1) id me.0 (at, sits) told)
-      by_told false told = later_untold me.0 (look_view r.young r.disk.trace me.0) told (none_of me.0.met (r.met id me.0 at (seat_stays me.0 sits) ∙ sym (r.told id me.0 at (seat_stays me.0 sits)) ∙ told)) refl
+          stores.later first s.views r.lock r.young t.0 (r.store t.0 t.1) id me.0 (at, sits) (look_view r.young r.disk.trace me.0) told t.1 refl refl (stores.looks_further first s.views r.lock r.young t.0 (r.store t.0 t.1) id me.0 (at, sits) told)
+      by_told false told = later_untold me.0 (look_view r.young r.disk.trace me.0) told (none_of me.0.met (r.met id me.0 at (seat_stays me.0 sits) ∙ sym (r.told id me.0 at (seat_stays me.0 sits)) ∙ told)) refl refl
 
       tells_it : TellsIt (look_view r.young r.disk.trace me.0)
       tells_it = (
@@ -217,16 +219,14 @@ module _ (began : DiskSeen) (first : SeatView) where
         ),
       )))
     where
-      stuck_at : (lock : ℕ) → 2 ≤ lock → (t : Trace) (k : Store first s.views lock r.young t) → (x : Coming) × (k.world.lock ≡ Stuck (place_at lock) x)
-      stuck_at lock above t k =
-          let x = word_stuck k.world.lock k.up (subst (λ n. 2 ≤ n) k.lock_is above) in
-          (x.0, x.1 ∙ ap (λ n. Stuck (place_at n) x.0) (sym k.lock_is))
+      stuck_at : (lock : ℕ) → 2 ≤ lock → (t : Trace) (k : Store first s.views lock r.young t) → stuck_place k.world.lock ≡ Some (place_at lock)
+      stuck_at lock above t k = word_stuck k.world.lock k.up (subst (λ n. 2 ≤ n) k.lock_is above) ∙ ap (λ n. Some (place_at n)) (sym k.lock_is)
 
       stays : (lock : ℕ) → 2 ≤ lock → (t : Trace) → Store first s.views lock r.young t → Store first (slice_set s.views id (stuck_view (place_at lock) me.0)) lock r.young t
-      stays lock above t k = let x = stuck_at lock above t k in (stores.finds first s.views lock r.young t k id me.0 (at, sits) (place_at lock) x.0 x.1).1
+      stays lock above t k = (stores.finds first s.views lock r.young t k id me.0 (at, sits) (place_at lock) (stuck_at lock above t k)).1
 
       found_so : (lock : ℕ) → 2 ≤ lock → (t : Trace) → Store first s.views lock r.young t → FoundStuck (place_at lock) (view_of me.0) (view_of (stuck_view (place_at lock) me.0))
-      found_so lock above t k = let x = stuck_at lock above t k in (stores.finds first s.views lock r.young t k id me.0 (at, sits) (place_at lock) x.0 x.1).0
+      found_so lock above t k = (stores.finds first s.views lock r.young t k id me.0 (at, sits) (place_at lock) (stuck_at lock above t k)).0
 
   pub gives_lock : (slots id : ℕ) (me : Sat) → IsSitting me.0 → CanGive me.0 → Allows (Rule began first) slots id me 1 (λ _. 0) (λ _. gave_lock (step slots 1 0 0 none) me 0)
   gives_lock slots id me sits may s r long at small = (
@@ -373,9 +373,9 @@ module _ (began : DiskSeen) (first : SeatView) where
       met : (t : Trace) → Store first s.views r.lock r.young t → IsMet me.0 t
       met t k = record {
         world = k.world;
-        store = subst (λ l. IsStore l k.world.young (stuck_place k.world.lock) t k.world) (sym o.layout) (subst (λ n. IsStore first.layout n (stuck_place k.world.lock) t k.world) (sym k.store.young_is) k.store);
+        store = subst (λ (y : Layout × ℕ). IsStore y.0 y.1 k.world.young (stuck_place k.world.lock) t k.world) (λ i. (sym o.layout i, sym o.low i)) (subst (λ n. IsStore first.layout first.low n (stuck_place k.world.lock) t k.world) (sym k.store.young_is) k.store);
         sees = o.sees;
-        least = (seen_of (length k.world.history) k.world.floor k.world.passes me.0.number me.0.pass k.store.kept.seen o.sees.pass).least;
+        least = (seen_of (length k.world.history) k.world.low (most_floor (may_rise k.world.lock) k.world.size k.world.floor) k.world.passes me.0.number me.0.pass k.store.kept.seen o.sees.pass).least;
         joined = its_own;
         once = its_once;
         apart = all_once k.world me.0 k.store.kept.whose o.sees.pass its_own its_once;
@@ -405,7 +405,7 @@ module _ (began : DiskSeen) (first : SeatView) where
             let here : c.0 ≡ id = only_one (branches s.views) k.kin id (branch_of me.0) (map_there s.views id me.0 at) all c.0 (branch_of c.1) (map_there s.views c.0 c.1 c.2) c.3 in
             let same : c.1 ≡ me.0 = some-injective c.1 me.0 (sym c.2 ∙ ap (λ n. get_elem? s.views n) here ∙ at) in
             ap (λ (v : SeatView). v.left) (sym same) ∙ c.4);
-        safe = subst (λ (y : Layout × (Since × ℕ)). Safe y.0 y.1.0 t y.1.1 k.world.floor k.world.history (doubt k.world.lock)) (λ i. (sym o.layout i, (sym o.since i, sym o.opened i))) k.safe;
+        safe = subst (λ (y : Layout × (Since × ℕ)). Safe y.0 y.1.0 t y.1.1 k.world.history (doubt k.world.lock)) (λ i. (sym o.layout i, (sym o.since i, sym o.opened i))) k.safe;
         own = subst (λ (y : Layout × Since). OwnFilesLast y.0 y.1 (Some t)) (λ i. (sym o.layout i, sym o.since i)) k.own;
       }
         where

@@ -177,7 +177,7 @@ called_turn me d t place change due made told old is young w store sees safe =
     inl (
       c.0,
       c.2,
-      after_more me.layout young (stuck_place w.lock) c.0 w v (λ u. Called place c.1 v u) (λ u. StaysSure v u × CalledBy d.failed v u)
+      after_more me.layout me.low young (stuck_place w.lock) c.0 w v (λ u. Called place c.1 v u) (λ u. StaysSure v u × CalledBy d.failed v u)
           (λ u _ call. (called_stays place change c.1 v u due call, λ other its its_due. (c.1, ended_so d.failed c.1 c.3, subst (λ p. Called p c.1 v u) (one_place v place other (at_place v place change due) (at_place v other its its_due)) call))) c.4,
       made_lasts me.layout (length w.history) old c.0 d.failed change (due_passes (length w.history) v place change due (λ x coming. let e : length v.seen ≡ length w.history = ap length (sees.whole x coming) in omega (arith, e))) (subst (λ o. Made d.failed change (Some old) o) c.2 here),
       made_own me.layout me.since old c.0 d.failed change (due_spares v place change due) (subst (λ o. Made d.failed change (Some old) o) c.2 here),
@@ -186,12 +186,12 @@ called_turn me d t place change due made told old is young w store sees safe =
     v : View
     v = view_of me
 
-    comes : (change : real.NameChange) → IsDue v place change → IsSections change → Made d.failed change (Some old) d.trace → Comes me.layout young (stuck_place w.lock) d.trace w v (result_of d.failed) (λ went u. Called place went v u)
-    comes (real.Put name bytes) due its made = put_comes me.layout young (stuck_place w.lock) old w v store sees refl safe d.trace place name bytes (result_of d.failed) due
+    comes : (change : real.NameChange) → IsDue v place change → IsSections change → Made d.failed change (Some old) d.trace → Comes me.layout me.low young (stuck_place w.lock) d.trace w v (result_of d.failed) (λ went u. Called place went v u)
+    comes (real.Put name bytes) due its made = put_comes me.layout me.low young (stuck_place w.lock) old w v store sees refl safe d.trace place name bytes (result_of d.failed) due
         (made_well d.failed (real.Put name bytes) (Some old) d.trace made) (put_ill d.failed name bytes (Some old) d.trace made)
-    comes (real.Rename from to) due its made = rename_comes me.layout young (stuck_place w.lock) old w v store sees refl safe d.trace place from to (result_of d.failed) due
+    comes (real.Rename from to) due its made = rename_comes me.layout me.low young (stuck_place w.lock) old w v store sees refl safe d.trace place from to (result_of d.failed) due
         (made_well d.failed (real.Rename from to) (Some old) d.trace made) (rename_ill d.failed from to (Some old) d.trace made)
-    comes real.FirmNames due its made = firm_comes me.layout young (stuck_place w.lock) old w v store sees refl safe d.trace place (result_of d.failed) due
+    comes real.FirmNames due its made = firm_comes me.layout me.low young (stuck_place w.lock) old w v store sees refl safe d.trace place (result_of d.failed) due
         (made_well d.failed real.FirmNames (Some old) d.trace made) (firm_ill d.failed (Some old) d.trace made)
     comes change due its made = absurd its
 
@@ -206,14 +206,14 @@ unmade_turn me d t due same told old is young w store sees safe = ⊎_elim
     inl (
       old,
       same ∙ is,
-      after_more me.layout young (stuck_place w.lock) old w v (λ u. Called x.0 Before v u) (λ u. StaysSure v u × Unmade v u)
+      after_more me.layout me.low young (stuck_place w.lock) old w v (λ u. Called x.0 Before v u) (λ u. StaysSure v u × Unmade v u)
           (λ u _ call. (
             called_stays x.0 (real.Put x.1 x.2) Before v u x.3 call,
             record {
               call = λ other file bytes its. subst (λ p. Called p Before v u) (one_place v x.0 other here (at_place v other (real.Put file bytes) its)) call;
               first = λ txn properties next bytes may. absurd (none_due v x.0 here may.begun);
             },
-          )) (folder_fails me.layout young (stuck_place w.lock) old w v store sees refl safe x.0 x.1 x.2 x.3),
+          )) (folder_fails me.layout me.low young (stuck_place w.lock) old w v store sees refl safe x.0 x.1 x.2 x.3),
       lasts_same me.layout (length w.history) (files_now old),
       λ own. own,
     ))
@@ -221,7 +221,7 @@ unmade_turn me d t due same told old is young w store sees safe = ⊎_elim
     inl (
       old,
       same ∙ is,
-      after_more me.layout young (stuck_place w.lock) old w v (λ u. Adopted x.0 x.1 x.2 x.3 Before v u) (λ u. StaysSure v u × Unmade v u)
+      after_more me.layout me.low young (stuck_place w.lock) old w v (λ u. Adopted x.0 x.1 x.2 x.3 Before v u) (λ u. StaysSure v u × Unmade v u)
           (λ u _ one. (
             adopted_stays x.0 x.1 x.2 x.3 Before v u one,
             record {
@@ -236,8 +236,8 @@ unmade_turn me d t due same told old is young w store sees safe = ⊎_elim
     v : View
     v = view_of me
 
-    unmade : (txn : Txn) (properties : List (List ℕ × List ℕ)) (next : Revision) (bytes : List ℕ) → MayAdopt v txn properties next bytes → IsAfter me.layout young (stuck_place w.lock) old w v (λ u. Adopted txn properties next bytes Before v u)
-    unmade txn properties next bytes may = adopt_fails me.layout young (stuck_place w.lock) old w v store sees refl safe txn properties next bytes may
+    unmade : (txn : Txn) (properties : List (List ℕ × List ℕ)) (next : Revision) (bytes : List ℕ) → MayAdopt v txn properties next bytes → IsAfter me.layout me.low young (stuck_place w.lock) old w v (λ u. Adopted txn properties next bytes Before v u)
+    unmade txn properties next bytes may = adopt_fails me.layout me.low young (stuck_place w.lock) old w v store sees refl safe txn properties next bytes may
 
 pub gives_called : (began : DiskSeen) (first : SeatView) (slots id : ℕ) (me : Sat) (d : DiskSeen) → IsSitting me.0 → IsShort d → (was : DiskSeen) (change : real.NameChange) → 0 < slots → me.1 ≡ (0, Some d) ∷ [] → me.0.hand ≡ Out was → IsLater (once d.failed) 0 was d → Made d.failed change was.trace d.trace → (me.0.told ≡ true → (place : DiskPlace) × IsDue (view_of me.0) place change)
     → Allows (Rule began first) slots id me 0 (λ _. 0) (λ _. called_back (step slots 0 0 0 none) me 0)

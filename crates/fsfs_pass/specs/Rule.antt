@@ -33,6 +33,7 @@ pub record Seated (first : SeatView) (w : World) (now : Trace) (j : ℕ) (v : Se
   -- who is sure of the youngest number holds the lock
   pub sure : v.sure ≡ true → is_held v.section ≡ true
   pub layout : v.layout ≡ first.layout
+  pub low : v.low ≡ first.low
   pub since : v.since ≡ first.since
   pub opened : v.opened ≡ first.opened
   -- it met the files of an earlier state
@@ -41,6 +42,7 @@ pub record Seated (first : SeatView) (w : World) (now : Trace) (j : ℕ) (v : Se
 -- before the joining it knew this
 pub record Knew (first : SeatView) (w : World) (now : Trace) (v : SeatView) (b : Before) : Type 0 where
   pub layout : b.layout ≡ first.layout
+  pub low : b.low ≡ first.low
   pub told : b.told ≡ true
   pub least : b.least ≤ v.pass.least
   pub line : Begins v.seen b.seen
@@ -70,8 +72,8 @@ IsSeenBySome views n = (j : ℕ) × (v : SeatView) × (get_elem? views j ≡ som
 -- each moment since the opening stands for a first part of its history, or for it with the revision in doubt.
 pub record Store (first : SeatView) (views : List SeatView) (lock young : ℕ) (t : Trace) : Type 0 where
   pub world : World
-  pub store : IsStore first.layout young (stuck_place world.lock) t world
-  pub safe : Safe first.layout first.since t first.opened world.floor world.history (doubt world.lock)
+  pub store : IsStore first.layout first.low young (stuck_place world.lock) t world
+  pub safe : Safe first.layout first.since t first.opened world.history (doubt world.lock)
   -- the files that no turn changes are in their formats, with the bytes of the opening, in each of these images
   pub own : OwnFilesLast first.layout first.since (Some t)
   pub up : is_up world.lock ≡ true

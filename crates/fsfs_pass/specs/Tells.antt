@@ -38,7 +38,7 @@ At = Step (Option DiskSeen)
 
 -- where the disk tells, what the seat has met tells what its pass has seen; and its files are short
 abbrev pub TellsIt : SeatView → Type 0
-TellsIt v = (is_some v.met ≡ v.told) × (v.told ≡ true → TellsSeen (seat_store v) (view_of v)) × IfSome (seat_store v).files HasShortFiles
+TellsIt v = (is_some v.met ≡ v.told) × (v.told ≡ true → TellsSeen v.low (seat_store v) (view_of v)) × IfSome (seat_store v).files HasShortFiles
 
 -- YOUNG was loaded: where the disk tells, this is the machine's look
 abbrev pub looked : At → Sat → ℕ → Sat → Type 0
@@ -87,7 +87,7 @@ pub record IsOwn (w : World) (number : ℕ) (x : ℕ × List ℕ) : Type 0 where
 -- has the files that no turn changes in their formats, with the bytes of the opening.
 pub record IsMet (v : SeatView) (t : Trace) : Type 0 where
   pub world : World
-  pub store : IsStore v.layout world.young (stuck_place world.lock) t world
+  pub store : IsStore v.layout v.low world.young (stuck_place world.lock) t world
   pub sees : Sees world (view_of v)
   -- the last revision that it was told of is there
   pub least : v.pass.least < length world.history
@@ -105,7 +105,7 @@ pub record IsMet (v : SeatView) (t : Trace) : Type 0 where
   pub calm : v.kin.parts ≡ all_parts → v.section ≡ None → are_harmless v.pass.faults ≡ true → (doubt world.lock ≡ None) × (v.pass.stuck ≡ None)
   -- and in no section the revision in doubt is the one that it left so
   pub left : v.kin.parts ≡ all_parts → v.section ≡ None → doubt world.lock ≡ v.left
-  pub safe : Safe v.layout v.since t v.opened world.floor world.history (doubt world.lock)
+  pub safe : Safe v.layout v.since t v.opened world.history (doubt world.lock)
   pub own : OwnFilesLast v.layout v.since (Some t)
 
 -- the disk was taken where it was there: that with which the table began, of which as many calls have failed as failed of the seat's, or more, and as many of its benches'

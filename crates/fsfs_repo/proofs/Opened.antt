@@ -14,7 +14,6 @@ use Rattle.fsfs_create.specs.OpenFaults.{OpensBecause}
 use Rattle.fsfs_stands.specs.Files.{StandsFor}
 use Rattle.fsfs_create.specs.Known.{HasSeenAll}
 use Rattle.fsfs_turn.specs.Alone.{are_harmless, KnowsAlone}
-use Rattle.fsfs_turn.specs.Opening.{LeftoversAgree}
 use Rattle.fsfs_turn.specs.Standing.{Knows}
 use Rattle.fsfs_turn.specs.Views.{View}
 use Rattle.fsfs_machine.specs.declared.machine.Pass.{Pass}
@@ -22,6 +21,7 @@ use Rattle.fsfs_machine.specs.Machine.{first_pass}
 use Rattle.fsfs_pass.specs.declared.seats.seat_view.Hand.TheVariants.{Empty}
 use Rattle.fsfs_pass.specs.declared.seats.seat_view.SeatView.{SeatView}
 use Rattle.fsfs_pass.specs.First.{IsFirst}
+use Rattle.fsfs_pass.specs.Met.{ground_of}
 use Rattle.fsfs_pass.specs.Seats.{alone, look_view}
 use Rattle.fsfs_repo.specs.Shared.FirstPass.{SeesAll, SeesAllOf}
 
@@ -32,59 +32,60 @@ if_ok_map P Q (Err e) f p = tt
 -- ---- the first seat
 
 -- where the disk tells, the seat's view of what is known
-abbrev seat_of : Trace → View → SeatView
-seat_of t v = record { layout = v.layout; since = v.since; opened = v.opened; number = v.number; pass = v.pass; seen = v.seen; section = v.section; sure = false; left = v.left; given = v.given; full = v.full; told = true; hand = Empty; met = Some t; failures = 0; bench_failures = 0; kin = alone }
+abbrev seat_of : ℕ → Trace → View → SeatView
+seat_of low t v = record { layout = v.layout; low = low; since = v.since; opened = v.opened; number = v.number; pass = v.pass; seen = v.seen; section = v.section; sure = false; left = v.left; given = v.given; full = v.full; told = true; hand = Empty; met = Some t; failures = 0; bench_failures = 0; kin = alone }
 
-abbrev untold : Layout → SeatView
-untold layout = record { layout = layout; since = record { operations = 0; files = empty }; opened = 0; number = 0; pass = first_pass 0 0; seen = []; section = None; sure = false; left = None; given = []; full = false; told = false; hand = Empty; met = None; failures = 0; bench_failures = 0; kin = alone }
+abbrev untold : Layout → ℕ → SeatView
+untold layout low = record { layout = layout; low = low; since = record { operations = 0; files = empty }; opened = 0; number = 0; pass = first_pass 0 0; seen = []; section = None; sure = false; left = None; given = []; full = false; told = false; hand = Empty; met = None; failures = 0; bench_failures = 0; kin = alone }
 
 -- who isn't sure knows no more
-unsure : (layout : Layout) (young : ℕ) (t : Trace) (v : View) → Knows layout young None (Some t) v → Knows layout young None (Some t) (record v { sure = false })
-unsure layout young t v k = (k.0, k.1, (let s = k.2 in record { pass = s.pass; seen = s.seen; section = s.section; up = s.up; sure = λ e. absurd cc; whole = s.whole; given = s.given; opened = s.opened; shown = s.shown; names = s.names }), k.3, k.4, k.5, k.6, k.7)
+unsure : (layout : Layout) (low young : ℕ) (t : Trace) (v : View) → Knows layout low young None (Some t) v → Knows layout low young None (Some t) (record v { sure = false })
+unsure layout low young t v k = (k.0, k.1, (let s = k.2 in record { pass = s.pass; seen = s.seen; section = s.section; up = s.up; sure = λ e. absurd cc; whole = s.whole; given = s.given; opened = s.opened; shown = s.shown; names = s.names }), k.3, k.4, k.5, k.6, k.7)
 
 -- a view of the first seat, of a store that was just opened
-abbrev IsBegun : Layout → ℕ → Option Trace → Option Trace → SeatView → Type 0
-IsBegun layout young before now v = IsFirst layout young now v × SeesAllOf before v
+abbrev IsBegun : Layout → ℕ → ℕ → Option Trace → Option Trace → SeatView → Type 0
+IsBegun layout low young before now v = IsFirst layout low young now v × SeesAllOf before v
 
 -- nobody holds the lock of such a store, and it isn't stuck
-begun : (layout : Layout) (young : ℕ) (stuck : Option DiskPlace) (before now : Option Trace) → Performs FirmNames before now
-    → IfSome before (λ t. (h : List Revision) × (stands : StandsFor (files_now t) h) × LeftoversAgree stands)
-    → IfSome before (λ t. (h : List Revision) (stands : StandsFor (files_now t) h) → LeftoversAgree stands → HasSeenAll (λ v. KnowsAlone layout young stuck now v) t stands.opened.min_unpacked_rev stands.opened.next_txn.number h)
-    → (v : SeatView) × IsBegun layout young before now v
-begun layout young stuck None now firm stands known = (untold layout, (subst (λ o. IsFirst layout young o (untold layout)) (sym firm) (refl, refl, refl, refl, refl, refl, refl), tt))
-begun layout young stuck (Some t) now firm stands known =
-    let k = known stands.0 stands.1 stands.2 in
+begun : (layout : Layout) (low young : ℕ) (stuck : Option DiskPlace) (before now : Option Trace) → Performs FirmNames before now
+    → IfSome before (λ t. (h : List Revision) × StandsFor (files_now t) h)
+    → IfSome before (λ t. (h : List Revision) (stands : StandsFor (files_now t) h) → HasSeenAll (λ v. KnowsAlone layout low young stuck now v) t stands.opened.min_unpacked_rev stands.opened.next_txn.number h)
+    → (v : SeatView) × IsBegun layout low young before now v
+begun layout low young stuck None now firm stands known = (untold layout low, (subst (λ o. IsFirst layout low young o (untold layout low)) (sym firm) (refl, refl, refl, refl, refl, refl, refl, refl), tt))
+begun layout low young stuck (Some t) now firm stands known =
+    let k = known stands.0 stands.1 in
     let new : Trace = add_operation (Done FirmNames) t in
-    let all : KnowsAlone layout young stuck (Some new) k.0 = subst (λ o. KnowsAlone layout young stuck o k.0) firm k.1 in
+    let all : KnowsAlone layout low young stuck (Some new) k.0 = subst (λ o. KnowsAlone layout low young stuck o k.0) firm k.1 in
     let unstuck : stuck ≡ None = all.1.free (ap (λ (p : Pass). are_harmless p.faults) k.3) in
     let mine : k.0.pass.mine ≡ [] = ap (λ (p : Pass). p.mine) k.3 in
     let faults : k.0.pass.faults ≡ [] = ap (λ (p : Pass). p.faults) k.3 in
     let found : k.0.pass.stuck ≡ None = ap (λ (p : Pass). p.stuck) k.3 in
     let opened : k.0.opened ≡ length k.0.seen = (let own = all.1.own in let none : length k.0.pass.mine ≡ 0 = ap length mine in omega (arith, own, none)) in (
-      seat_of new k.0,
+      seat_of low new k.0,
       (
-        subst (λ o. IsFirst layout young o (seat_of new k.0)) (sym firm)
-            (refl, refl, refl, k.2, refl, refl, unsure layout young new k.0 (subst (λ o. Knows layout young o (Some new) k.0) unstuck all.0), all.1.all, all.2, refl, opened, mine, faults, found, refl),
+        subst (λ o. IsFirst layout low young o (seat_of low new k.0)) (sym firm)
+            (refl, refl, refl, k.2, refl, refl, unsure layout low young new k.0 (subst (λ o. Knows layout low young o (Some new) k.0) unstuck all.0), all.1.all, all.2, refl, opened, mine, faults, found, refl, refl),
         record { told = refl; outside = k.2; since = k.5; opened = opened; stands = subst (λ l. StandsFor (files_now t) l) (sym k.4) stands.1; bytes = k.8; mine = mine; faults = faults; stuck = found; left = k.9 },
       ),
     )
 
 -- as the small files said it is laid out
-pub begun_as : (layout at : Layout) (young last : ℕ) (stuck : Option DiskPlace) (before was now given : Option Trace) → layout ≡ at → young ≡ last → given ≡ now → was ≡ before → Performs FirmNames before now
-    → IfSome before (λ t. (h : List Revision) × (stands : StandsFor (files_now t) h) × LeftoversAgree stands)
-    → IfSome before (λ t. (h : List Revision) (stands : StandsFor (files_now t) h) → LeftoversAgree stands → HasSeenAll (λ v. KnowsAlone layout young stuck now v) t stands.opened.min_unpacked_rev stands.opened.next_txn.number h)
-    → (v : SeatView) × IsBegun at last was given v
-begun_as layout at young last stuck before was now given laid is told first firm stands known =
-    subst (λ o. (v : SeatView) × IsBegun at last o given v) (sym first) (subst (λ o. (v : SeatView) × IsBegun at last before o v) (sym told)
-    (subst (λ n. (v : SeatView) × IsBegun at n before now v) is (subst (λ l. (v : SeatView) × IsBegun l young before now v) laid (begun layout young stuck before now firm stands known))))
+pub begun_as : (layout at : Layout) (low floor young last : ℕ) (stuck : Option DiskPlace) (before was now given : Option Trace) → layout ≡ at → low ≡ floor → young ≡ last → given ≡ now → was ≡ before → Performs FirmNames before now
+    → IfSome before (λ t. (h : List Revision) × StandsFor (files_now t) h)
+    → IfSome before (λ t. (h : List Revision) (stands : StandsFor (files_now t) h) → HasSeenAll (λ v. KnowsAlone layout low young stuck now v) t stands.opened.min_unpacked_rev stands.opened.next_txn.number h)
+    → (v : SeatView) × IsBegun at floor last was given v
+begun_as layout at low floor young last stuck before was now given laid lower is told first firm stands known =
+    subst (λ o. (v : SeatView) × IsBegun at floor last o given v) (sym first) (subst (λ o. (v : SeatView) × IsBegun at floor last before o v) (sym told)
+    (subst (λ n. (v : SeatView) × IsBegun at floor n before now v) is (subst (λ f. (v : SeatView) × IsBegun at f young before now v) lower
+    (subst (λ l. (v : SeatView) × IsBegun l low young before now v) laid (begun layout low young stuck before now firm stands known)))))
 
-pub first_kin : (layout : Layout) (young : ℕ) (told : Option Trace) (v : SeatView) → IsFirst layout young told v → v.kin ≡ alone
-first_kin layout young None v k = k.3
-first_kin layout young (Some t) v k = k.5
+pub first_kin : (layout : Layout) (low young : ℕ) (told : Option Trace) (v : SeatView) → IsFirst layout low young told v → v.kin ≡ alone
+first_kin layout low young None v k = k.3
+first_kin layout low young (Some t) v k = k.5
 
-pub first_laid : (layout : Layout) (young : ℕ) (told : Option Trace) (v : SeatView) → IsFirst layout young told v → v.layout ≡ layout
-first_laid layout young None v k = k.4
-first_laid layout young (Some t) v k = k.6.3
+pub first_laid : (layout : Layout) (low young : ℕ) (told : Option Trace) (v : SeatView) → IsFirst layout low young told v → ground_of v ≡ record { layout = layout; low = low }
+first_laid layout low young None v k = λ i. record { layout = k.4 i; low = k.7 i }
+first_laid layout low young (Some t) v k = λ i. record { layout = k.6.3 i; low = k.15 i }
 
 -- behind a look the pass has seen what it had
 sees_on : (t : Trace) (young : ℕ) (met : Option Trace) (v : SeatView) → SeesAll t v → SeesAll t (look_view young met v)

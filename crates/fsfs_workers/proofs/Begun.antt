@@ -9,6 +9,7 @@ use Rattle.fsfs_machine.specs.Machine.{revisions}
 use Rattle.fsfs_turn.specs.Opening.{opened_at}
 use Rattle.fsfs_turn.specs.declared.since.Since.{Since}
 use Rattle.fsfs_pass.specs.declared.seats.seat_view.SeatView.{SeatView}
+use Rattle.fsfs_pass.specs.Met.{ground_of}
 use Rattle.fsfs_pass.specs.Seats.{IsSitting}
 use Rattle.fsfs_pass.specs.Tells.{TellsIt}
 use Rattle.fsfs_repo.specs.Known.{HoldBytes}
@@ -34,8 +35,8 @@ module _ (before told : Option Trace) (v : SeatView) (firm : Performs FirmNames 
       at None f s = let no : v.told ≡ false = tells_it ∙ ap (λ o. is_some o) f in absurd cc
       at (Some t) f s = (t, s)
 
-  pub is_ready : (layout : Layout) → IsSitting v → v.layout ≡ layout → IsReady layout (is_some told) v
-  is_ready layout sitting laid = record {
+  pub is_ready : (layout : Layout) (low : ℕ) → IsSitting v → ground_of v ≡ record { layout = layout; low = low } → IsReady layout low (is_some told) v
+  is_ready layout low sitting laid = record {
     sitting = sitting;
     laid = laid;
     met = tells.0;

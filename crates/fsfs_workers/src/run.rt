@@ -35,7 +35,7 @@ where
     D::Bench: Send,
     requires moment { micros ≤ 4102444799999999 }
     requires sits { (seat.table_id ≡ repo.board.shared.table_id) × (seat.me.1 ≡ []) }
-    requires ready { IsReady repo.layout (is_some (D.trace repo.first.value)) seat.me.0 }
+    requires ready { IsReady repo.layout repo.floor (is_some (D.trace repo.first.value)) seat.me.0 }
     requires alone { seat.me.0.kin ≡ alone }
     // It has seen all that there was as images began to be spoken of, with the bytes of each, has added nothing since, and met no fault; and it
     // has met the disk as it was first.
@@ -55,8 +55,11 @@ where
 {
     let first = repo.first();
     let layout = repo.layout();
+    let floor = repo.floor();
     let board = repo.board();
-    let (mut seat, done) = do_beside(rt, alloc, board, seat, layout, &first, jobs, micros, gate);
+    let (mut seat, done) = do_beside(
+        rt, alloc, board, seat, layout, floor, &first, jobs, micros, gate,
+    );
     match done {
         Ok(answers) => {
             let youngest = look(board, &mut seat);

@@ -16,7 +16,7 @@ use Rattle.fsfs_machine.specs.declared.machine.Went.{Went}
 use Rattle.fsfs_machine.specs.declared.machine.Went.TheVariants.{Before}
 use Rattle.fsfs_machine.specs.Kept.{IsIn}
 use Rattle.fsfs_machine.specs.Machine.{last_name}
-use Rattle.fsfs_turn.specs.Views.{View, IsDue, Answers, Called, MayAdopt, Adopted, ReadTurn}
+use Rattle.fsfs_turn.specs.Views.{View, IsDue, Answers, Called, MayAdopt, Adopted}
 use Rattle.fsfs_turn.specs.declared.adoption.Adoption.{Adoption}
 use Rattle.fsfs_turn.specs.Learning.{PropsRead, FloorRead, CounterRead, Listed, MayMake, BenchMade, MayPurge, Purged, SpentPurged}
 use Rattle.fsfs_pass.specs.declared.seats.seat_view.Hand.TheVariants.{Empty}
@@ -54,7 +54,6 @@ called_back = Back (λ m u. CalledBy (failed_of (carried m.1)) (view_of m.0) u)
 
 -- whatever was read: the file of a revision that the pass has seen, its properties, the floor
 pub record ReadBy (went : Went) (v u : View) : Type 0 where
-  pub bytes : (r offset size : ℕ) (x : Recorded) → slice_get v.seen r ≡ Some x → ReadTurn r offset size x went v u
   pub properties : (r : ℕ) (x : Recorded) → slice_get v.seen r ≡ Some x → PropsRead r x went v u
   pub floor : FloorRead v.pass.floor went v u
 

@@ -32,11 +32,12 @@ pub fn start<D: Disk + Drop>(
     alloc: Global,
     disk: D,
     layout: Layout,
+    floor: RevNum,
     young: RevNum,
     about: &Note<SeatView>,
 ) -> Result<(Board<D>, SharedSeat<D>), D>
     requires right { IsTrue (D.may_write disk) }
-    requires known { IsFirst layout young (D.trace disk) about.now.value }
+    requires known { IsFirst layout floor young (D.trace disk) about.now.value }
     ensures sized { IfOk result (λ r. (r.1.table_id ≡ r.0.shared.table_id) × (r.0.shared.table_id.words ≡ 3) × (r.0.shared.table_id.slots ≡ 1) × (r.1.me ≡ (about.now.value, []))) }
     ensures began { IfOk result (λ r. (r.0.shared.key.value.disk.mount_path ≡ D.mount_path disk) × (r.0.shared.key.value.disk.faults ≡ D.faults disk) × (r.0.shared.key.value.disk.bench_faults ≡ D.bench_faults disk)) }
     ensures back { IfErr result (λ d. (D.mount_path d ≡ D.mount_path disk) × (D.trace d ≡ D.trace disk) × (D.faults d ≡ D.faults disk) × (D.bench_faults d ≡ D.bench_faults disk)) }

@@ -15,8 +15,9 @@ do_beside-seat-requires-clause-parts g c = let e = ap (λ (k : Kin). k.parts) c.
 
 pub do_beside-seat-requires-clause-ready : goal.do_beside-seat-requires-clause-ready
 do_beside-seat-requires-clause-ready g c κs within =
-    subst (λ l. IsReady l (is_some (g.D.Disk.trace c.first-first.result.value)) c.args.seat.me.0) (sym c.layout-layout.ensures)
-    (subst (λ d. IsReady c.args.repo.layout (is_some (g.D.Disk.trace d)) c.args.seat.me.0) (sym c.first-first.ensures) c.requires.ready)
+    subst (λ l. IsReady l c.floor-floor.result (is_some (g.D.Disk.trace c.first-first.result.value)) c.args.seat.me.0) (sym c.layout-layout.ensures)
+    (subst (λ f. IsReady c.args.repo.layout f (is_some (g.D.Disk.trace c.first-first.result.value)) c.args.seat.me.0) (sym c.floor-floor.ensures)
+    (subst (λ d. IsReady c.args.repo.layout c.args.repo.floor (is_some (g.D.Disk.trace d)) c.args.seat.me.0) (sym c.first-first.ensures) c.requires.ready))
 
 pub look-youngest-requires-clause-sits : goal.look-youngest-requires-clause-sits
 look-youngest-requires-clause-sits g c = c.do_beside-seat.ensures.rests.sitting

@@ -17,7 +17,7 @@ run_two-disk-requires-clause-ready g c κs within =
     let o = c.in-Ok.opened in
     let e = c.in-Ok.ensures in
     let told = g.D.Disk.trace in
-    is_ready (told c.args.disk) (told o.repo.first.value) o.seat.me.0 e.firm e.fresh.0 e.tells e.seen o.repo.layout e.sits.2 (e.laid.1 ∙ sym e.laid.0)
+    is_ready (told c.args.disk) (told o.repo.first.value) o.seat.me.0 e.firm e.fresh.0 e.tells e.seen o.repo.layout o.repo.floor e.sits.2 (e.laid.2 ∙ sym (λ i. record { layout = e.laid.0 i; low = e.laid.1 i }))
 
 pub run_two-disk-requires-clause-seen : goal.run_two-disk-requires-clause-seen
 run_two-disk-requires-clause-seen g c κs within =

@@ -17,4 +17,4 @@ new-requires g c =
     subst (λ (b : Beginning). Rule b.disk b.seat (opening (0 ∷ 0 ∷ c.get.result ∷ []) c.push.new.self.items b.seat)) (sym c.of-first.ensures)
     (subst (λ (l : List (Option DiskSeen)). Rule d first (opening (0 ∷ 0 ∷ c.get.result ∷ []) l first)) (sym items)
     (subst (λ (n : ℕ). Rule d first (opening (0 ∷ 0 ∷ n ∷ []) (Some d ∷ []) first)) (sym c.get.ensures.same)
-    (begins c.args.layout c.args.young d first c.get.ensures.limit c.files_are_short.ensures (subst (λ o. IsFirst c.args.layout c.args.young o first) (sym trace) c.requires.known))))
+    (begins c.args.layout c.args.floor c.args.young d first c.get.ensures.limit c.files_are_short.ensures (subst (λ o. IsFirst c.args.layout c.args.floor c.args.young o first) (sym trace) c.requires.known))))

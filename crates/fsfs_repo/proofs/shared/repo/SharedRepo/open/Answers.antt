@@ -11,8 +11,8 @@ share-requires-clause-right g c = subst (λ d. IsTrue (g.D.Disk.may_write d)) (s
 
 pub some-about-requires : goal.some-about-requires
 some-about-requires g c =
-    begun_as c.in-Ok.field-0.store.layout c.in-Ok.field-0.said.layout c.in-Ok.field-0.store.young c.in-Ok.field-0.said.youngest c.in-Ok.field-0.store.stuck (g.D.Disk.trace c.args.disk) (g.D.Disk.trace c.of-before.result.value) (g.D.Disk.trace c.in-Ok.field-0.store.disk) (g.D.Disk.trace c.into_disk-disk.result)
-    c.in-Ok.ensures.same.0 c.in-Ok.ensures.same.1 (ap (λ d. g.D.Disk.trace d) c.into_disk-disk.ensures) (ap (λ d. g.D.Disk.trace d) c.of-before.ensures) c.in-Ok.ensures.firm c.requires.stands c.in-Ok.ensures.known
+    begun_as c.in-Ok.field-0.store.layout c.in-Ok.field-0.said.layout c.in-Ok.field-0.store.floor c.in-Ok.field-0.said.min_unpacked_rev c.in-Ok.field-0.store.young c.in-Ok.field-0.said.youngest c.in-Ok.field-0.store.stuck (g.D.Disk.trace c.args.disk) (g.D.Disk.trace c.of-before.result.value) (g.D.Disk.trace c.in-Ok.field-0.store.disk) (g.D.Disk.trace c.into_disk-disk.result)
+    c.in-Ok.ensures.same.0 c.in-Ok.ensures.same.1 c.in-Ok.ensures.same.2 (ap (λ d. g.D.Disk.trace d) c.into_disk-disk.ensures) (ap (λ d. g.D.Disk.trace d) c.of-before.ensures) c.in-Ok.ensures.firm c.requires.stands c.in-Ok.ensures.known
 
 pub share-requires-clause-known : goal.share-requires-clause-known
 share-requires-clause-known g c = c.some-about.ensures.0
