@@ -6,7 +6,7 @@ use Rattle.clap.specs.declared.builder.action.ArgAction.TheVariants.{Set, Append
 use Rattle.fsfs_cli.specs.declared.tool.Tool.{Tool}
 use Rattle.fsfs_cli.specs.declared.tool.Tool.TheVariants.{Admin, Look, Jobs}
 use Rattle.fsfs_cli.specs.declared.verb.Verb.{Verb}
-use Rattle.fsfs_cli.specs.declared.verb.Verb.TheVariants.{Create, ListTxns, RemoveTxns, Dump, Youngest, Uuid, Tree, Cat, Author, Date, Log, Info, Changed, History}
+use Rattle.fsfs_cli.specs.declared.verb.Verb.TheVariants.{Create, ListTxns, RemoveTxns, Dump, Verify, Youngest, Uuid, Tree, Cat, Author, Date, Log, Info, Changed, History}
 
 abbrev pub tool_name : Tool → List ℕ
 tool_name Admin = codes "svnadmin"
@@ -39,6 +39,7 @@ admin_verb word =
     else if bytes_eq word (codes "lstxns") then Some ListTxns
     else if bytes_eq word (codes "rmtxns") then Some RemoveTxns
     else if bytes_eq word (codes "dump") then Some Dump
+    else if bytes_eq word (codes "verify") then Some Verify
     else None
 
 abbrev pub verb_named : Tool → List ℕ → Option Verb
@@ -101,6 +102,10 @@ rmtxns_app = with_rule (with_rule (bare (codes "rmtxns")) repos_rule) txns_rule
 -- dump REPOS
 abbrev pub dump_app : App
 dump_app = with_rule (bare (codes "dump")) repos_rule
+
+-- verify REPOS
+abbrev pub verify_app : App
+verify_app = with_rule (bare (codes "verify")) repos_rule
 
 -- svnjobs REPOS [-j N], which has no word of its own
 abbrev pub jobs_app : App

@@ -4,13 +4,13 @@ use Rattle.std.specs.Option.{option_map_or}
 use Rattle.std.specs.Str.{bytes_eq}
 use Rattle.clap.specs.Words.{App, Row, all_of, fault_of, first_of, matches_of}
 use Rattle.clap.specs.Walk.{is_empty}
-use Rattle.fsfs_cli.specs.Commands.{verb_named, create_app, jobs_app, lstxns_app, rmtxns_app, dump_app, youngest_app, uuid_app, revision_app, tree_app, history_app, cat_app}
+use Rattle.fsfs_cli.specs.Commands.{verb_named, create_app, jobs_app, lstxns_app, rmtxns_app, dump_app, verify_app, youngest_app, uuid_app, revision_app, tree_app, history_app, cat_app}
 use Rattle.fsfs_cli.specs.Grammars.{revision_of, shard_of, workers_of, txns_named}
 use Rattle.fsfs_base.specs.Paths.{Path}
 use Rattle.fsfs_cli.specs.declared.request.JobRun.{JobRun}
 use Rattle.fsfs_cli.specs.declared.request.Task.{Task}
 use Rattle.fsfs_cli.specs.declared.request.Task.TheVariants.{Create, ListTxns, RemoveTxns, Look, RunJobs}
-use Rattle.fsfs_cli.specs.declared.request.Look.TheVariants.{Youngest, Uuid, Dump, AtRevision}
+use Rattle.fsfs_cli.specs.declared.request.Look.TheVariants.{Youngest, Uuid, Dump, Verify, AtRevision}
 use Rattle.fsfs_cli.specs.declared.request.Printed.{Printed}
 use Rattle.fsfs_cli.specs.declared.request.Printed.TheVariants.{Tree, Text, Author, Date, Log, Info, Changed, History}
 use Rattle.fsfs_cli.specs.declared.tool.Tool.{Tool}
@@ -138,6 +138,7 @@ asked_by verb.Create words = option_and_then create_asked (taken create_app word
 asked_by verb.ListTxns words = option_map (λ rows. pathless rows ListTxns) (taken lstxns_app words)
 asked_by verb.RemoveTxns words = option_and_then rmtxns_asked (taken rmtxns_app words)
 asked_by verb.Dump words = option_map (λ rows. pathless rows (Look Dump)) (taken dump_app words)
+asked_by verb.Verify words = option_map (λ rows. pathless rows (Look Verify)) (taken verify_app words)
 asked_by verb.Youngest words = option_map (λ rows. pathless rows (Look Youngest)) (taken youngest_app words)
 asked_by verb.Uuid words = option_map (λ rows. pathless rows (Look Uuid)) (taken uuid_app words)
 asked_by verb.Tree words = option_and_then tree_asked (taken tree_app words)

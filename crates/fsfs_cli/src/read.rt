@@ -184,6 +184,15 @@ fn read_dump<'a>(alloc: Global, words: &'a [String]) -> Result<Request<'a>, Word
     Ok(Request { repos, task })
 }
 
+fn read_verify<'a>(alloc: Global, words: &'a [String]) -> Result<Request<'a>, WordsFault>
+    ensures { Reads (asked_by Verb.Verify (map string_bytes words.entry.now)) result }
+{
+    let matches = matches_of(look_command(alloc, "verify")?, words)?;
+    let repos = required(&matches, "REPOS");
+    let task = Task::Look(Look::Verify);
+    Ok(Request { repos, task })
+}
+
 fn read_youngest<'a>(alloc: Global, words: &'a [String]) -> Result<Request<'a>, WordsFault>
     ensures { Reads (asked_by Verb.Youngest (map string_bytes words.entry.now)) result }
 {
@@ -273,6 +282,7 @@ fn read_command<'a>(
         Some(Verb::ListTxns) => read_lstxns(alloc, words),
         Some(Verb::RemoveTxns) => read_rmtxns(alloc, words),
         Some(Verb::Dump) => read_dump(alloc, words),
+        Some(Verb::Verify) => read_verify(alloc, words),
         Some(Verb::Youngest) => read_youngest(alloc, words),
         Some(Verb::Uuid) => read_uuid(alloc, words),
         Some(Verb::Tree) => read_tree(alloc, words),

@@ -27,7 +27,7 @@ pub enum Task {
     RemoveTxns {
         names: TxnNames,
     },
-    /// A command of `svnlook`, or `svnadmin dump`: it reads and prints.
+    /// A command of `svnlook`, or `svnadmin dump` or `verify`: it reads and prints.
     Look(Look),
     /// `svnjobs`: the jobs of the script in the input are done.
     RunJobs(JobRun),
@@ -49,6 +49,8 @@ pub enum Look {
     Uuid,
     /// `svnadmin dump`: all revisions, as Subversion's `svnadmin load` takes them.
     Dump,
+    /// `svnadmin verify`: all revisions are checked, and each is told.
+    Verify,
     /// One of the commands that look at a revision.
     AtRevision(RevisionLook),
 }

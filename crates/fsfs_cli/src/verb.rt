@@ -15,6 +15,8 @@ pub enum Verb {
     RemoveTxns,
     /// `svnadmin dump`.
     Dump,
+    /// `svnadmin verify`.
+    Verify,
     /// `svnlook youngest`.
     Youngest,
     /// `svnlook uuid`.
@@ -59,6 +61,8 @@ fn admin_verb(word: &str) -> Option<Verb>
         Some(Verb::RemoveTxns)
     } else if word == "dump" {
         Some(Verb::Dump)
+    } else if word == "verify" {
+        Some(Verb::Verify)
     } else {
         None
     }

@@ -110,7 +110,7 @@ pub fn race(alloc: Global, disk: MemDisk, rest: &str, out: &mut Transcript) -> M
     };
     match open(alloc, &mut disk) {
         Ok(opened) => {
-            let store = Owned::new(disk, opened.layout, base);
+            let store = Owned::new(disk, opened.layout, opened.min_unpacked_rev, base);
             race_from(alloc, store, base, opened.youngest, edits, out)
         }
         Err(_) => {

@@ -22,6 +22,7 @@ use std::alloc::Global;
 #[derive(Drop)]
 pub struct Rivals {
     inner: Owned<MemDisk>,
+    floor: RevNum,
     young: RevNum,
     /// The last of them.
     last: RevNum,
@@ -33,6 +34,7 @@ impl Rivals {
     /// The store, its youngest revision, and the last that stands on its disk.
     pub fn new(inner: Owned<MemDisk>, young: RevNum, last: RevNum) -> Rivals {
         Rivals {
+            floor: <Owned<MemDisk> as Turns<()>>::floor(&inner),
             inner,
             young,
             last,
@@ -60,9 +62,11 @@ impl Turns<()> for Rivals {
 
     ghost in_use = { λ s name. ⟦<Owned<MemDisk> as Turns<()>>⟧.in_use s.inner name };
 
-    ghost Lasting = { Option (List KeptLabel) × Mounting (List ℕ) };
+    ghost Lasting = { Option (List KeptLabel) × Mounting (List ℕ) × ℕ };
 
-    ghost store = { λ s. record { layout = s.inner.layout; reach = (⟦<Owned<MemDisk> as Turns<()>>⟧.store s.inner).reach; files = None; below = (⟦<Owned<MemDisk> as Turns<()>>⟧.labels s.inner, ⟦<Owned<MemDisk> as Turns<()>>⟧.mounting s.inner) } };
+    ghost low = { λ s. s.2 };
+
+    ghost store = { λ s. record { layout = s.inner.layout; reach = (⟦<Owned<MemDisk> as Turns<()>>⟧.store s.inner).reach; files = None; below = (⟦<Owned<MemDisk> as Turns<()>>⟧.labels s.inner, ⟦<Owned<MemDisk> as Turns<()>>⟧.mounting s.inner, s.floor) } };
 
     ghost labels = { λ s. ⟦<Owned<MemDisk> as Turns<()>>⟧.labels s.inner };
 
@@ -74,6 +78,10 @@ impl Turns<()> for Rivals {
 
     fn layout(&self) -> Layout {
         <Owned<MemDisk> as Turns<()>>::layout(&self.inner)
+    }
+
+    fn floor(&self) -> RevNum {
+        self.floor
     }
 
     fn look(&mut self) -> RevNum {

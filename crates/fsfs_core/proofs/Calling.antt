@@ -29,9 +29,9 @@ use Rattle.fsfs_base.specs.declared.places.place.CommitPlace.TheVariants.{PutRev
 use Rattle.fsfs_machine.specs.declared.machine.Recorded.{Recorded}
 use Rattle.fsfs_machine.specs.declared.machine.Txn.{Txn}
 use Rattle.fsfs_machine.specs.declared.machine.Section.{Section}
-use Rattle.fsfs_machine.specs.declared.machine.Section.TheVariants.{Begun, CountRead, CountPut, CountRenamed, RevPut, PropsPut, RevFirm, CurrentPut, CurrentRenamed, CurrentFirm, Doubtful, Over}
+use Rattle.fsfs_machine.specs.declared.machine.Section.TheVariants.{Begun, CountRead, CountPut, CountRenamed, RevPut, PropsPut, RevFirm, CurrentPut, CurrentRenamed, CurrentFirm, Doubtful, PackPut, ManifestPut, PackFirm, FloorPut, FloorRenamed, Packed, FloorDoubtful, Over}
 use Rattle.fsfs_machine.specs.declared.machine.Lock.{Lock}
-use Rattle.fsfs_machine.specs.declared.machine.Lock.TheVariants.{Free, Held, Stuck, Down, DownDoubtful}
+use Rattle.fsfs_machine.specs.declared.machine.Lock.TheVariants.{Free, Held, Stuck, Down, DownDoubtful, StuckFloor, DownFloor}
 use Rattle.fsfs_machine.specs.declared.machine.Went.{Went}
 use Rattle.fsfs_machine.specs.declared.machine.Went.TheVariants.{Fine, Before, After, Torn}
 use Rattle.fsfs_machine.specs.declared.machine.Outcome.{Outcome}
@@ -52,6 +52,13 @@ free_due w (CurrentPut x) = refl
 free_due w (CurrentRenamed x) = refl
 free_due w (CurrentFirm x) = refl
 free_due w (Doubtful place x) = refl
+free_due w PackPut = refl
+free_due w ManifestPut = refl
+free_due w PackFirm = refl
+free_due w FloorPut = refl
+free_due w FloorRenamed = refl
+free_due w Packed = refl
+free_due w (FloorDoubtful place) = refl
 free_due w Over = refl
 
 free_call : (w : World) (p : ℕ) (place : DiskPlace) (went : Went) (s : Section) (change : NameChange) → called_by (record w { lock = Free }) p place went s (Some change) ≡ called_by w p place went s (Some change)
@@ -59,6 +66,10 @@ free_call w p place Fine (CountRenamed x) change = refl
 free_call w p place Before (CountRenamed x) change = refl
 free_call w p place After (CountRenamed x) change = refl
 free_call w p place (Torn any) (CountRenamed x) change = refl
+free_call w p place Fine FloorRenamed change = refl
+free_call w p place Before FloorRenamed change = refl
+free_call w p place After FloorRenamed change = refl
+free_call w p place (Torn any) FloorRenamed change = refl
 free_call w p place went s change = refl
 
 -- the change of the call, where its place is the one that is due
@@ -98,6 +109,8 @@ held_lock p (Held q x) s e =
 held_lock p (Stuck place x) s e = let bad : ◌≡◌ {A = Option Section} None (Some s) = e in cc
 held_lock p Down s e = let bad : ◌≡◌ {A = Option Section} None (Some s) = e in cc
 held_lock p (DownDoubtful x) s e = let bad : ◌≡◌ {A = Option Section} None (Some s) = e in cc
+held_lock p (StuckFloor place) s e = let bad : ◌≡◌ {A = Option Section} None (Some s) = e in cc
+held_lock p DownFloor s e = let bad : ◌≡◌ {A = Option Section} None (Some s) = e in cc
 
 -- with the section put back, the state is the one from before
 put_back : (w u : World) (p : ℕ) (s : Section) → held_by p w.lock ≡ Some s → u ≡ record w { lock = Free } → record u { lock = Held p s } ≡ w

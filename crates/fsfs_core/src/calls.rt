@@ -1,12 +1,15 @@
 //! The words, and the calls of a section.
-ghost use Rattle.std.specs.Prelude.{◌≡◌, ◌+◌, ◌&&◌, length, OnOk, IfOk, MatchOption, Some, None, if◌then◌else◌};
+ghost use Rattle.std.specs.Prelude.{◌≡◌, ◌+◌, ◌/◌, ◌&&◌, true, length, OnOk, IfOk, MatchOption, Some, None, if◌then◌else◌};
+ghost use Rattle.std.specs.NonZero.{non_zero_u64_get};
 ghost use Rattle.fsfs_machine.specs.Disk.{found};
-ghost use Rattle.fsfs_machine.specs.Machine.{did, barred, answer, is_there, taken, inside, let_go, stuck_at, held_by, has_begun_by, is_up, looked, ended, at_place, learns, rename_of, due, is_due, gives, called, called_by, drawn, revealed};
+ghost use Rattle.fsfs_machine.specs.Machine.{did, barred, answer, is_there, taken, inside, let_go, stuck_at, held_by, has_begun_by, is_up, looked, ended, at_place, learns, rename_of, due, is_due, gives, called, called_by, drawn, revealed, first_of_pack, old_removed, turned};
+ghost use Rattle.fsfs_machine.specs.Kept.{packs};
 ghost use Rattle.fsfs_core.specs.State.{world_of};
 
 use crate::state::State;
 use fsfs_base::{BeginPlace, DiskPlace, RevNum};
 use fsfs_machine::files::{change_made, find, find_number, is_fine};
+use fsfs_machine::packs::{manifest_file, pack_file};
 use fsfs_machine::passes::{find_stuck, learn, reveal_by, see_least};
 use fsfs_machine::section::{
     answer_of, drawn_section, is_due_at, is_lock_up, is_quiet_section, next_section,
@@ -57,6 +60,11 @@ impl State {
                 find_stuck(&mut self.passes, p, place);
                 Outcome::Stuck(place)
             }
+            Lock::StuckFloor(place) => {
+                self.lock = Lock::StuckFloor(place);
+                find_stuck(&mut self.passes, p, place);
+                Outcome::Stuck(place)
+            }
             lock => {
                 self.lock = lock;
                 Outcome::Barred
@@ -86,6 +94,10 @@ impl State {
         match self.take_section(p) {
             Some(Section::Doubtful(place, coming)) => {
                 self.lock = Lock::Stuck(place, coming);
+                Outcome::Done
+            }
+            Some(Section::FloorDoubtful(place)) => {
+                self.lock = Lock::StuckFloor(place);
                 Outcome::Done
             }
             Some(section) => {
@@ -162,6 +174,55 @@ impl State {
         }
     }
 
+    // The shard at the floor.
+    fn shard(&self) -> u128
+        ensures { result ≡ self.now.floor / non_zero_u64_get self.now.size }
+    {
+        self.floor / self.size.get() as u128
+    }
+
+    // The floor behind it. A number that no file has room for counts as want of memory.
+    fn next_floor(&self) -> Result<u128, AllocError>
+        ensures { IfOk result (λ floor. floor ≡ self.now.floor + non_zero_u64_get self.now.size) }
+    {
+        match self.floor.checked_add(self.size.get() as u128) {
+            Some(floor) => Ok(floor),
+            None => Err(AllocError),
+        }
+    }
+
+    // A pack's first change, where that shard is full.
+    fn first_of_pack(&self) -> Result<Option<NameChange>, AllocError>
+        ensures { IfOk result (λ o. o ≡ first_of_pack (world_of self.now)) }
+    {
+        if self.next_floor()? <= self.count() as u128 {
+            let file = pack_file(self.alloc, &self.line, self.size.get(), self.floor)?;
+            Ok(Some(NameChange::Put(FileName::Pack(self.shard()), file)))
+        } else {
+            Ok(None)
+        }
+    }
+
+    // The change of a pack's section that is due, where it is none of the names alone.
+    fn pack_change(&self, section: &Section) -> Result<Option<NameChange>, AllocError>
+        requires packs { packs section.now ≡ true }
+        ensures { IfOk result (λ o. o ≡ due (world_of self.now) section.now) }
+    {
+        match section {
+            Section::PackPut => {
+                let file = manifest_file(self.alloc, &self.line, self.size.get(), self.floor)?;
+                Ok(Some(NameChange::Put(FileName::Manifest(self.shard()), file)))
+            }
+            Section::PackFirm => Ok(Some(NameChange::Put(
+                FileName::FloorNext,
+                Contents::Number(self.next_floor()?),
+            ))),
+            Section::FloorPut => self.renaming(FileName::FloorNext, FileName::Floor),
+            Section::ManifestPut | Section::FloorRenamed => Ok(Some(NameChange::Firm)),
+            _ => Ok(None),
+        }
+    }
+
     // The change that the call makes which is due.
     fn due_change(&self, section: &Section) -> Result<Option<NameChange>, AllocError>
         ensures { IfOk result (λ o. o ≡ due (world_of self.now) section.now) }
@@ -185,9 +246,14 @@ impl State {
             Section::CountRenamed(_) | Section::PropsPut(_) | Section::CurrentRenamed(_) => {
                 Ok(Some(NameChange::Firm))
             }
-            Section::Begun | Section::CurrentFirm(_) | Section::Doubtful(_, _) | Section::Over => {
-                Ok(None)
-            }
+            Section::Begun | Section::Packed => self.first_of_pack(),
+            Section::PackPut
+            | Section::ManifestPut
+            | Section::PackFirm
+            | Section::FloorPut
+            | Section::FloorRenamed
+            | Section::FloorDoubtful(_) => self.pack_change(section),
+            Section::CurrentFirm(_) | Section::Doubtful(_, _) | Section::Over => Ok(None),
         }
     }
 
@@ -202,12 +268,15 @@ impl State {
         }
     }
 
-    // The name is given as the names are firm.
+    // The name is given, or the floor raised, as the names are firm.
     fn give_name(&mut self, section: &Section, went: &Went) -> Result<(), AllocError>
         ensures { OnOk result (world_of self.new ≡ gives section.now went.now (world_of self.old)) }
     {
-        if let Section::CountRenamed(x) = section {
-            if is_fine(went) {
+        if !is_fine(went) {
+            return Ok(());
+        }
+        match section {
+            Section::CountRenamed(x) => {
                 self.given.push_front(x.name)?;
                 self.named.push(Drawn {
                     name: x.name,
@@ -215,6 +284,8 @@ impl State {
                     base: x.base,
                 })?;
             }
+            Section::FloorRenamed => self.floor = self.next_floor()?,
+            _ => {}
         }
         Ok(())
     }
@@ -256,6 +327,47 @@ impl State {
             }
             Some(change) => self.go_on(p, place, section, change, went),
         }
+    }
+
+    // The own file of a revision that is packed goes.
+    pub(crate) fn remove_old(&mut self, p: u64, rev: u64, went: Went) -> Result<Outcome, AllocError>
+        ensures { IfOk result (λ o. did (world_of self.new) o ≡ inside (world_of self.old) (old_removed (world_of self.old) p rev went) (held_by p self.old.lock)) }
+    {
+        match self.take_section(p) {
+            Some(Section::Packed) => {
+                if rev as u128 >= self.floor {
+                    self.lock = Lock::Held(p, Section::Packed);
+                    return Ok(Outcome::Barred);
+                }
+                let answer = answer_of(&went);
+                let change = NameChange::Remove(FileName::Rev(rev));
+                self.end_call(p, DiskPlace::Remove, change, Section::Packed, went)?;
+                Ok(answer)
+            }
+            Some(section) => {
+                self.lock = Lock::Held(p, section);
+                Ok(Outcome::Barred)
+            }
+            None => Ok(Outcome::Barred),
+        }
+    }
+
+    // A call that touches nothing of the machine's.
+    pub(crate) fn beside(
+        &mut self,
+        p: u64,
+        place: DiskPlace,
+        went: &Went,
+    ) -> Result<Outcome, AllocError>
+        ensures { IfOk result (λ o. did (world_of self.new) o
+            ≡ (if is_there (world_of self.old) p then did (turned (world_of self.old) p place went.now) (answer went.now) else barred (world_of self.old))) }
+    {
+        if !self.is_there(p) {
+            return Ok(Outcome::Barred);
+        }
+        let seen = self.count();
+        learn(&mut self.passes, p, seen, place, went)?;
+        Ok(answer_of(went))
     }
 
     fn end_read(&mut self, p: u64, section: Section, went: &Went) -> Result<(), AllocError>

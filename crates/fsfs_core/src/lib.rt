@@ -9,9 +9,10 @@ mod reads;
 mod state;
 mod txns;
 
-pub use fsfs_base::{BeginPlace, CommitPlace, DiskPlace};
+pub use fsfs_base::{BeginPlace, CommitPlace, DiskPlace, PackPlace};
 pub use fsfs_machine::{
     Bytes, Coming, Contents, Drawn, Entry, FileName, Line, Lock, Marks, NameChange, Names, Numbers,
-    Outcome, Pass, Picks, Places, Recorded, Section, Step, Txn, Went, every_run_keeps_one_history,
+    Offsets, Outcome, Part, Parts, Pass, Picks, Places, Recorded, Section, Step, Txn, Went,
+    every_run_keeps_one_history,
 };
 pub use state::State;

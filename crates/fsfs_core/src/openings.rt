@@ -1,12 +1,14 @@
 //! Ends of the object, and openings.
 ghost use Rattle.std.specs.Prelude.{◌≡◌, ◌+◌, ◌∷◌, IfOk, OnOk, if◌then◌else◌};
-ghost use Rattle.fsfs_machine.specs.Disk.{found, left};
+ghost use Rattle.std.specs.NonZero.{non_zero_u64_get};
+ghost use Rattle.fsfs_machine.specs.Disk.{found, left, shown};
 ghost use Rattle.fsfs_machine.specs.Machine.{did, barred, is_up, ends, revision_in, read_back, opened, open_at, disk_after, labels_left};
 ghost use Rattle.fsfs_core.specs.State.{world_of};
 
 use crate::state::State;
 use fsfs_machine::files::{change_made, find, find_number, is_fine, what_is_left};
 use fsfs_machine::labels::pick_labels;
+use fsfs_machine::packs::{Shown, find_shown};
 use fsfs_machine::section::{is_lock_up, lock_down};
 use fsfs_machine::{
     Contents, FileName, Line, Lock, NameChange, Outcome, Pass, Picks, Recorded, Went,
@@ -54,17 +56,23 @@ impl State {
         Ok(Outcome::Done)
     }
 
-    fn revision_at(&self, rev: u64) -> Result<Option<Recorded>, AllocError>
-        ensures { IfOk result (λ o. o ≡ revision_in (found self.now.disk.items (FileName.Rev rev)) (found self.now.disk.items (FileName.Props rev))) }
+    // A revision as its two files show it by this floor.
+    #[tactic(auto, using(crate::proofs::Reading::no_revision))]
+    fn revision_at(&self, floor: u128, rev: u64) -> Result<Option<Recorded>, AllocError>
+        ensures { IfOk result (λ o. o ≡ revision_in (shown (non_zero_u64_get self.now.size) floor self.now.disk.items rev) (found self.now.disk.items (FileName.Props rev))) }
     {
-        match (
-            find(&self.disk, &FileName::Rev(rev)),
-            find(&self.disk, &FileName::Props(rev)),
-        ) {
-            (
-                Some(Contents::RevFile(tree, changes, bytes)),
-                Some(Contents::PropsFile(properties)),
-            ) => Ok(Some(Recorded {
+        let Some(
+            Shown {
+                tree,
+                changes,
+                bytes,
+            },
+        ) = find_shown(&self.disk, self.size.get(), floor, rev)
+        else {
+            return Ok(None);
+        };
+        match find(&self.disk, &FileName::Props(rev)) {
+            Some(Contents::PropsFile(properties)) => Ok(Some(Recorded {
                 revision: Revision {
                     tree: tree.clone()?,
                     changes: changes.clone()?,
@@ -78,12 +86,12 @@ impl State {
 
     // So many revisions, as the files show them.
     #[tactic(auto, using(crate::proofs::Reading::read_more, crate::proofs::Reading::read_none))]
-    fn read_back(&self, count: u64) -> Result<Option<Line>, AllocError>
-        ensures { IfOk result (λ o. o ≡ read_back self.now.disk.items count) }
+    fn read_back(&self, floor: u128, count: u64) -> Result<Option<Line>, AllocError>
+        ensures { IfOk result (λ o. o ≡ read_back (non_zero_u64_get self.now.size) floor self.now.disk.items count) }
     {
         let mut line = Line::new(self.alloc);
         for rev in 0..count {
-            match self.revision_at(rev)? {
+            match self.revision_at(floor, rev)? {
                 Some(recorded) => {
                     let (revision, bytes) = recorded.parts();
                     line.push(revision, bytes)?;
@@ -130,9 +138,9 @@ impl State {
 
     fn open_at(&mut self, last: u64, count: u64, floor: u128) -> Result<Outcome, AllocError>
         requires { count ≡ last + 1 }
-        ensures { IfOk result (λ o. did (world_of self.new) o ≡ opened (world_of self.old) last floor (read_back self.old.disk.items (last + 1))) }
+        ensures { IfOk result (λ o. did (world_of self.new) o ≡ opened (world_of self.old) last floor (read_back (non_zero_u64_get self.old.size) floor self.old.disk.items (last + 1))) }
     {
-        match self.read_back(count)? {
+        match self.read_back(floor, count)? {
             Some(line) => {
                 self.disk.push_front(NameChange::Firm)?;
                 self.lock = Lock::Free;
@@ -140,6 +148,7 @@ impl State {
                 self.line = line;
                 self.opening = count;
                 self.since.clear();
+                self.low = floor;
                 self.floor = floor;
                 self.named.clear();
                 self.txns.clear();

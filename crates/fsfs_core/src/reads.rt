@@ -1,12 +1,14 @@
 //! Reads, and steps of passes alone.
 ghost use Rattle.std.specs.Prelude.{◌≡◌, ◌==◌, ◌&&◌, not, slice_get, IfOk, if◌then◌else◌};
-ghost use Rattle.fsfs_machine.specs.Disk.{found};
+ghost use Rattle.std.specs.NonZero.{non_zero_u64_get};
+ghost use Rattle.fsfs_machine.specs.Disk.{found, shown};
 ghost use Rattle.fsfs_machine.specs.Machine.{did, barred, is_there, either, range_of, floor_of, has_read, properties_in, has_read_props, floor_read, split_off, join_with, number_of};
 ghost use Rattle.fsfs_core.specs.State.{world_of};
 
 use crate::state::State;
 use fsfs_base::DiskPlace;
 use fsfs_machine::files::{find, find_number, is_fine};
+use fsfs_machine::packs::{Shown, find_shown};
 use fsfs_machine::passes::{join_to, learn, read_floor_by};
 use fsfs_machine::{Contents, FileName, Outcome, Went};
 use std::alloc::AllocError;
@@ -24,30 +26,35 @@ fn floor_answer(found: Option<u128>, went: &Went) -> Outcome
 }
 
 impl State {
-    fn range(&self, rev: u64, offset: u64, length: u64) -> Result<Outcome, AllocError>
-        ensures { IfOk result (λ o. o ≡ range_of offset length (found self.now.disk.items (FileName.Rev rev))) }
+    // Bytes of a revision's file, by this floor.
+    #[tactic(auto, using(crate::proofs::Reading::range_none))]
+    fn range(&self, floor: u128, rev: u64, offset: u64, length: u64) -> Result<Outcome, AllocError>
+        ensures { IfOk result (λ o. o ≡ range_of offset length (shown (non_zero_u64_get self.now.size) floor self.now.disk.items rev)) }
     {
-        match find(&self.disk, &FileName::Rev(rev)) {
-            Some(Contents::RevFile(_, _, bytes)) => {
-                Ok(Outcome::Bytes(bytes.range(self.alloc, offset, length)?))
-            }
-            Some(Contents::PropsFile(_) | Contents::Number(_) | Contents::Junk) | None => {
-                Ok(Outcome::Missing)
-            }
+        match find_shown(&self.disk, self.size.get(), floor, rev) {
+            Some(
+                Shown {
+                    tree: _tree,
+                    changes: _changes,
+                    bytes,
+                },
+            ) => Ok(Outcome::Bytes(bytes.range(self.alloc, offset, length)?)),
+            None => Ok(Outcome::Missing),
         }
     }
 
     fn range_answer(
         &self,
+        floor: u128,
         rev: u64,
         offset: u64,
         length: u64,
         went: &Went,
     ) -> Result<Outcome, AllocError>
-        ensures { IfOk result (λ o. o ≡ either went.now (range_of offset length (found self.now.disk.items (FileName.Rev rev))) Outcome.Failed) }
+        ensures { IfOk result (λ o. o ≡ either went.now (range_of offset length (shown (non_zero_u64_get self.now.size) floor self.now.disk.items rev)) Outcome.Failed) }
     {
         if is_fine(went) {
-            self.range(rev, offset, length)
+            self.range(floor, rev, offset, length)
         } else {
             Ok(Outcome::Failed)
         }
@@ -72,7 +79,7 @@ impl State {
         if !pass.knows(rev) {
             return Ok(Outcome::Barred);
         }
-        let answer = self.range_answer(rev, offset, length, went)?;
+        let answer = self.range_answer(pass.floor, rev, offset, length, went)?;
         let seen = self.count();
         learn(&mut self.passes, p, seen, DiskPlace::Read, went)?;
         Ok(answer)
@@ -83,9 +90,7 @@ impl State {
     {
         match find(&self.disk, &FileName::Props(rev)) {
             Some(Contents::PropsFile(properties)) => Ok(Outcome::Properties(properties.clone()?)),
-            Some(Contents::RevFile(_, _, _) | Contents::Number(_) | Contents::Junk) | None => {
-                Ok(Outcome::Missing)
-            }
+            _ => Ok(Outcome::Missing),
         }
     }
 

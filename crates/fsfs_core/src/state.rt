@@ -1,5 +1,6 @@
 //! The machine as data, and its steps.
 ghost use Rattle.std.specs.Prelude.{◌≡◌, ◌∷◌, ◌++◌, [], length, OnOk, IfOk, None};
+ghost use Rattle.std.specs.NonZero.{non_zero_u64_get};
 ghost use Rattle.std.specs.FinMap as finmap;
 ghost use Rattle.fsfs_tree.specs.Nodes.{empty_node};
 ghost use Rattle.fsfs_machine.specs.Machine.{Happens, Runs, did, created, first_revision, stuck_place, revisions, is_there};
@@ -13,6 +14,7 @@ use fsfs_machine::{
 use fsfs_tree::{ChangeMap, History, Node, Revision, Text, Tree};
 use std::alloc::{AllocError, Global};
 use std::collections::VecDeque;
+use std::num::NonZeroU64;
 
 /// The machine's state.
 #[derive(Drop)]
@@ -26,6 +28,10 @@ pub struct State {
     // How many revisions there were at the opening, and the entries of those since.
     pub(crate) opening: u64,
     pub(crate) since: Vec<Entry>,
+    // How many revisions a shard has.
+    pub(crate) size: NonZeroU64,
+    // The floor that the opening read, and that which is firm.
+    pub(crate) low: u128,
     pub(crate) floor: u128,
     // The newest name first.
     pub(crate) given: VecDeque<u128>,
@@ -61,7 +67,7 @@ fn first_files(
     properties: &Pairs,
     bytes: &Bytes,
 ) -> Result<VecDeque<NameChange>, AllocError>
-    ensures { IfOk result (λ disk. disk.items ≡ (created properties.now bytes.now).disk) }
+    ensures { IfOk result (λ disk. disk.items ≡ (created 0 properties.now bytes.now).disk) }
 {
     let file = Contents::RevFile(
         first_tree(alloc)?,
@@ -93,9 +99,15 @@ fn first_line(alloc: Global, properties: Pairs, bytes: Bytes) -> Result<Line, Al
 }
 
 impl State {
-    /// A repository of revision 0, open, all of it firm; revision 0 has these properties, and its file these bytes.
-    pub fn create(alloc: Global, properties: Pairs, bytes: Bytes) -> Result<State, AllocError>
-        ensures world { IfOk result (λ s. world_of s ≡ created properties bytes) }
+    /// A repository of revision 0, with shards of this size, open, all of it firm; revision 0 has these properties, and
+    /// its file these bytes.
+    pub fn create(
+        alloc: Global,
+        size: NonZeroU64,
+        properties: Pairs,
+        bytes: Bytes,
+    ) -> Result<State, AllocError>
+        ensures world { IfOk result (λ s. world_of s ≡ created (non_zero_u64_get size) properties bytes) }
         ensures kept { IfOk result (λ s. Kept (world_of s)) }
     {
         let disk = first_files(alloc, &properties, &bytes)?;
@@ -110,6 +122,8 @@ impl State {
             line,
             opening: 1,
             since: Vec::new(alloc),
+            size,
+            low: 0,
             floor: 0,
             given: VecDeque::new(alloc),
             labels: VecDeque::new(alloc),
@@ -132,8 +146,8 @@ impl State {
         ensures { result ≡ stuck_place (world_of self.now).lock }
     {
         match &self.lock {
-            Lock::Stuck(place, _) => Some(*place),
-            Lock::Free | Lock::Held(_, _) | Lock::Down | Lock::DownDoubtful(_) => None,
+            Lock::Stuck(place, _) | Lock::StuckFloor(place) => Some(*place),
+            _ => None,
         }
     }
 
@@ -174,6 +188,8 @@ impl State {
                 went,
             } => self.adopt_rev(pass, txn, properties, bytes, went),
             Step::Call { pass, place, went } => self.call(pass, place, went),
+            Step::RemoveOld { pass, rev, went } => self.remove_old(pass, rev, went),
+            Step::Beside { pass, place, went } => self.beside(pass, place, &went),
             Step::Reveal { pass } => self.reveal(pass),
             Step::Look { pass } => Ok(self.look(pass)),
             Step::Read {

@@ -9,6 +9,7 @@ use fsfs_core::{Bytes, Outcome, State, Step};
 use fsfs_memory::Transcript;
 use std::alloc::{AllocError, Global};
 use std::collections::VecDeque;
+use std::num::NonZeroU64;
 
 /// Steps that have a name.
 #[derive(Clone, Copy)]
@@ -40,10 +41,11 @@ fn place_of(alloc: Global, text: &str) -> Result<(RevNum, FsPath)> {
     Ok((rev, path))
 }
 
-// A new repository, whose revision 0 has a file of the bytes `zero`.
+// A new repository with two revisions in a shard, whose revision 0 has a file of the bytes `zero`.
 fn new_state(alloc: Global) -> Result<State, AllocError> {
     let bytes = Bytes::new(Vec::from_slice(alloc, b"zero")?);
-    State::create(alloc, Pairs::new(alloc), bytes)
+    let size = NonZeroU64::new(2).unwrap_or(NonZeroU64::MIN);
+    State::create(alloc, size, Pairs::new(alloc), bytes)
 }
 
 // The steps that these lines write.

@@ -139,6 +139,16 @@ fn calling(alloc: Global, word: &str, words: &mut Words<'_>, youngest: u64) -> S
             name: words.number(),
             went: words.went(),
         },
+        "remove-old" => Step::RemoveOld {
+            pass: words.number(),
+            rev: words.number(),
+            went: words.went(),
+        },
+        "beside" => Step::Beside {
+            pass: words.number(),
+            place: words.place(),
+            went: words.went(),
+        },
         _ => dropping(alloc, word, words, youngest),
     }
 }
@@ -200,6 +210,6 @@ pub fn step_of(alloc: Global, line: &str, youngest: u64) -> Result<Step> {
 pub fn calls_the_disk(line: &str) -> bool {
     matches!(
         Words::new(line).word(),
-        "draw" | "put-rev" | "call" | "bench" | "open"
+        "draw" | "put-rev" | "call" | "bench" | "remove-old" | "beside" | "open"
     )
 }

@@ -1,7 +1,7 @@
 // The words of a line.
 use anyhow::{Result, bail};
 use fsfs_base::{FsPath, RevNum};
-use fsfs_core::{BeginPlace, CommitPlace, Contents, DiskPlace, Went};
+use fsfs_core::{BeginPlace, CommitPlace, Contents, DiskPlace, PackPlace, Went};
 use fsfs_memory::cut;
 use std::alloc::{AllocError, Global};
 
@@ -97,6 +97,12 @@ impl<'a> Words<'a> {
             "PutCurrent" => DiskPlace::Commit(CommitPlace::PutCurrent),
             "RenameCurrent" => DiskPlace::Commit(CommitPlace::RenameCurrent),
             "FirmCurrent" => DiskPlace::Commit(CommitPlace::FirmCurrent),
+            "AdoptPack" => DiskPlace::Pack(PackPlace::AdoptPack),
+            "AdoptManifest" => DiskPlace::Pack(PackPlace::AdoptManifest),
+            "FirmPack" => DiskPlace::Pack(PackPlace::FirmPack),
+            "PutFloor" => DiskPlace::Pack(PackPlace::PutFloor),
+            "RenameFloor" => DiskPlace::Pack(PackPlace::RenameFloor),
+            "FirmFloor" => DiskPlace::Pack(PackPlace::FirmFloor),
             _ => {
                 self.is_right = false;
                 DiskPlace::Begin(BeginPlace::Put)

@@ -26,7 +26,7 @@ ok_same : {A E : Type 0} (a b : A) → ◌≡◌ {A = Result A E} (Ok a) (Ok b) 
 ok_same a b e = cc
 
 -- a floor has one reading
-one_floor : (layout : Layout) (m : Files) (a b : ℕ) → IsMinUnpackedRev layout (text_at m (codes "db/min-unpacked-rev")) a → IsMinUnpackedRev layout (text_at m (codes "db/min-unpacked-rev")) b → a ≡ b
+pub one_floor : (layout : Layout) (m : Files) (a b : ℕ) → IsMinUnpackedRev layout (text_at m (codes "db/min-unpacked-rev")) a → IsMinUnpackedRev layout (text_at m (codes "db/min-unpacked-rev")) b → a ≡ b
 one_floor layout m a b is also = ok_same {A = ℕ} {E = SmallFault} a b (sym (floor_is layout a m is) ∙ floor_is layout b m also)
 
 -- in a new repository it is 0

@@ -6,7 +6,6 @@ ghost use Rattle.fsfs_layout.specs.Opening.{IsOpened, small_texts};
 ghost use Rattle.fsfs_disk.specs.Trace.{FirmNames, files_now, FailsAt, Performs};
 ghost use Rattle.fsfs_stands.specs.Files.{StandsFor};
 ghost use Rattle.fsfs_create.specs.OpenFaults.{OpensBecause};
-ghost use Rattle.fsfs_turn.specs.Opening.{LeftoversAgree};
 ghost use Rattle.fsfs_create.specs.Known.{HasSeenAll, DecidesSo};
 
 use crate::open;
@@ -34,11 +33,11 @@ pub struct Unopened<D: Disk> {
 pub fn open_store<D: Disk>(alloc: Global, mut disk: D) -> Result<OpenedStore<D>, Unopened<D>>
     requires { IsTrue (D.may_write disk) }
     ensures opened { IfSome (D.trace disk) (λ t. IfOk result (λ o. IsOpened (small_texts (files_now t)) o.said)) }
-    // Where the files stand for a history, packed or not, and each file that is left over of a packed revision has the same bytes, its
-    // pass has seen all of that history, and is in no section. Of images it is spoken from then on.
-    ensures known { IfSome (D.trace disk) (λ t. (h : List Revision) (stands : StandsFor (files_now t) h) → LeftoversAgree stands
+    // Where the files stand for a history, packed or not, its pass has seen all of that history, and is in no section. Of images it is
+    // spoken from then on.
+    ensures known { IfSome (D.trace disk) (λ t. (h : List Revision) (stands : StandsFor (files_now t) h)
         → IfOk result (λ o. HasSeenAll (⟦<Owned<D> as Turns<()>>⟧.knows o.store) t stands.opened.min_unpacked_rev stands.opened.next_txn.number h)) }
-    ensures same { IfOk result (λ o. (o.store.layout ≡ o.said.layout) × (o.store.young ≡ o.said.youngest)) }
+    ensures same { IfOk result (λ o. (o.store.layout ≡ o.said.layout) × (o.store.floor ≡ o.said.min_unpacked_rev) × (o.store.young ≡ o.said.youngest)) }
     ensures refused { IfErr result (λ e. OpensBecause (Rose (D.faults disk) (D.faults e.disk)) (D.trace disk) e.why) }
     // Where it is opened or refused is decided by the files alone.
     ensures decided { IfSome (D.trace disk) (λ t. DecidesSo (small_texts (files_now t)) result (λ o. o.said) (λ e. e.why)) }
@@ -50,7 +49,7 @@ pub fn open_store<D: Disk>(alloc: Global, mut disk: D) -> Result<OpenedStore<D>,
 {
     match open(alloc, &mut disk) {
         Ok(said) => Ok(OpenedStore {
-            store: Owned::new(disk, said.layout, said.youngest),
+            store: Owned::new(disk, said.layout, said.min_unpacked_rev, said.youngest),
             said,
         }),
         Err(why) => Err(Unopened { why, disk }),

@@ -22,8 +22,9 @@ use fsfs_look::LookError;
 use fsfs_noderev::{ChangeItem, Rep};
 use fsfs_revision::Book;
 use std::alloc::{AllocError, Global};
+use std::thread::Threads;
 
-// How many bytes of a long text are read and written at a time.
+// How many bytes of a long text are read and written at a time; of a large one more are read for its digests.
 const PIECE: usize = 65536;
 
 // Puts the records of a path without a text.
@@ -98,7 +99,8 @@ fn put_short<B: Book>(
 }
 
 // Writes the records of a path whose text is long: read once for its digests, and once more as it is written.
-fn write_with<B: Book, S: Sink>(
+fn write_with<R: Threads, B: Book, S: Sink>(
+    rt: &R,
     alloc: Global,
     book: &mut B,
     item: &ChangeItem,
@@ -117,13 +119,14 @@ fn write_with<B: Book, S: Sink>(
     ensures sink { HasSinkCause (S.faults sink.old) (S.faults sink.new) result }
 {
     let mut piece = [0u8; PIECE];
-    let facts = facts_of_rep(book, rep, &mut piece)?;
+    let facts = facts_of_rep(rt, alloc, book, rep, &mut piece)?;
     put_head(alloc, lines, item, kind, block, &Some(facts))?;
     write_long(book, rep, &mut piece, lines, sink)
 }
 
 // Writes the records of a path at which a node stands.
-fn write_node<B: Book, S: Sink>(
+fn write_node<R: Threads, B: Book, S: Sink>(
+    rt: &R,
     alloc: Global,
     book: &mut B,
     item: &ChangeItem,
@@ -142,12 +145,13 @@ fn write_node<B: Book, S: Sink>(
     let block = block_set(alloc, &pairs)?;
     match long_text(item.text_changed, node) {
         None => put_short(alloc, book, item, kind, node, &block, lines),
-        Some(rep) => write_with(alloc, book, item, kind, node, rep, &block, lines, sink),
+        Some(rep) => write_with(rt, alloc, book, item, kind, node, rep, &block, lines, sink),
     }
 }
 
 // Writes the records of a path that was not taken away.
-fn write_there<B: Book, S: Sink>(
+fn write_there<R: Threads, B: Book, S: Sink>(
+    rt: &R,
     alloc: Global,
     book: &mut B,
     rev: RevNum,
@@ -163,7 +167,7 @@ fn write_there<B: Book, S: Sink>(
 {
     let kind = kind_of(alloc, book, rev, item)?;
     let node = node_of(alloc, book, rev, item)?;
-    write_node(alloc, book, item, kind, &node, lines, sink)
+    write_node(rt, alloc, book, item, kind, &node, lines, sink)
 }
 
 // Puts the record of a path that was taken away.
@@ -188,7 +192,8 @@ fn is_gone(action: Action) -> bool
 
 /// Writes the records of an item, but for what is kept. Nothing is written of one whose node, properties or text is damaged or a
 /// delta.
-pub(crate) fn write_item<B: Book, S: Sink>(
+pub(crate) fn write_item<R: Threads, B: Book, S: Sink>(
+    rt: &R,
     alloc: Global,
     book: &mut B,
     rev: RevNum,
@@ -205,5 +210,5 @@ pub(crate) fn write_item<B: Book, S: Sink>(
     if is_gone(item.action) {
         return put_gone(alloc, item, lines);
     }
-    write_there(alloc, book, rev, item, lines, sink)
+    write_there(rt, alloc, book, rev, item, lines, sink)
 }

@@ -15,9 +15,11 @@ use fsfs_history::{ItemsByText, ReadItems, ending, items_of};
 use fsfs_look::{LookError, rev_props, write_full};
 use fsfs_revision::{Book, RevProps, Wrong};
 use std::alloc::{AllocError, Global};
+use std::thread::Threads;
 
 // Writes the records of the items, but for what is kept.
-fn write_items<B: Book, S: Sink>(
+fn write_items<R: Threads, B: Book, S: Sink>(
+    rt: &R,
     alloc: Global,
     book: &mut B,
     rev: RevNum,
@@ -34,13 +36,14 @@ fn write_items<B: Book, S: Sink>(
 {
     for item in items.items.values() {
         write_full(sink, lines)?;
-        write_item(alloc, book, rev, item, lines, sink)?;
+        write_item(rt, alloc, book, rev, item, lines, sink)?;
     }
     ending(wrong)
 }
 
 // Writes the changed paths of a revision, but for what is kept.
-fn write_changes<B: Book, S: Sink>(
+fn write_changes<R: Threads, B: Book, S: Sink>(
+    rt: &R,
     alloc: Global,
     book: &mut B,
     rev: RevNum,
@@ -54,7 +57,7 @@ fn write_changes<B: Book, S: Sink>(
 {
     let ReadItems { items, wrong } = items_of(alloc, book, rev)?;
     let found = ItemsByText::of(alloc, items)?;
-    write_items(alloc, book, rev, &found, wrong, lines, sink)
+    write_items(rt, alloc, book, rev, &found, wrong, lines, sink)
 }
 
 // Puts the record of a revision of these properties.
@@ -73,7 +76,8 @@ fn put_props(
 
 /// Writes a revision, but for what is kept: its properties, and its changed paths in the order of the bytes of their texts. Its
 /// changed-path data are in memory.
-pub(crate) fn write_revision<B: RevProps, S: Sink>(
+pub(crate) fn write_revision<R: Threads, B: RevProps, S: Sink>(
+    rt: &R,
     alloc: Global,
     book: &mut B,
     rev: RevNum,
@@ -88,5 +92,5 @@ pub(crate) fn write_revision<B: RevProps, S: Sink>(
 {
     let pairs = rev_props(alloc, book, rev)?;
     put_props(alloc, lines, rev, &pairs)?;
-    write_changes(alloc, book, rev, lines, sink)
+    write_changes(rt, alloc, book, rev, lines, sink)
 }

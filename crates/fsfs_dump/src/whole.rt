@@ -11,6 +11,7 @@ use fsfs_base::{Gate, GatePlace, RevNum, Sink};
 use fsfs_look::{LookError, write_full, write_last};
 use fsfs_revision::StillProps;
 use std::alloc::{AllocError, Global};
+use std::thread::Threads;
 
 // Puts what stands in front of all revisions.
 fn put_front(lines: &mut Vec<u8>, uuid: &[u8]) -> Result<(), AllocError>
@@ -23,7 +24,8 @@ fn put_front(lines: &mut Vec<u8>, uuid: &[u8]) -> Result<(), AllocError>
 }
 
 // Writes all revisions up to the youngest, but for what is kept.
-fn write_revisions<B: StillProps, S: Sink, G: Gate>(
+fn write_revisions<R: Threads, B: StillProps, S: Sink, G: Gate>(
+    rt: &R,
     alloc: Global,
     book: &mut B,
     youngest: RevNum,
@@ -44,7 +46,7 @@ fn write_revisions<B: StillProps, S: Sink, G: Gate>(
             unreachable!()
         };
         write_full(sink, lines)?;
-        write_revision(alloc, book, rev, lines, sink)?;
+        write_revision(rt, alloc, book, rev, lines, sink)?;
         gate.at(GatePlace::AfterJob, next);
         next += 1;
     }
@@ -52,7 +54,8 @@ fn write_revisions<B: StillProps, S: Sink, G: Gate>(
 }
 
 // Writes all of a dump, but for what is kept.
-fn write_all<B: StillProps, S: Sink, G: Gate>(
+fn write_all<R: Threads, B: StillProps, S: Sink, G: Gate>(
+    rt: &R,
     alloc: Global,
     book: &mut B,
     uuid: &[u8],
@@ -68,7 +71,7 @@ fn write_all<B: StillProps, S: Sink, G: Gate>(
     ensures sink { HasSinkCause (S.faults sink.old) (S.faults sink.new) result }
 {
     put_front(lines, uuid)?;
-    write_revisions(alloc, book, youngest, lines, sink, gate)
+    write_revisions(rt, alloc, book, youngest, lines, sink, gate)
 }
 
 /// Writes a dump of all revisions up to the youngest, of a repository of this identifier: Subversion's dumpfile format, version
@@ -76,11 +79,13 @@ fn write_all<B: StillProps, S: Sink, G: Gate>(
 /// told before a byte of its path's records.
 ///
 /// In memory are the changed-path data of one revision, the properties of one node, and a text of at most 8,192 bytes; a longer one
-/// is read twice, since its digests stand in front of it; by the second reading it isn't checked again.
+/// is read twice, since its digests stand in front of it; by the second reading it isn't checked again. Of one longer than 1,048,576
+/// bytes a thread takes one of the digests, if the system has a thread to give, and two pieces of so many bytes are in memory.
 ///
 /// Behind each revision the gate is passed with its number (`AfterJob`): it is to a dump what a job is to a script. Up to a piece of
 /// what was dumped may not be written yet then.
-pub fn dump<B: StillProps, S: Sink, G: Gate>(
+pub fn dump<R: Threads, B: StillProps, S: Sink, G: Gate>(
+    rt: &R,
     alloc: Global,
     book: &mut B,
     uuid: &[u8],
@@ -94,6 +99,6 @@ pub fn dump<B: StillProps, S: Sink, G: Gate>(
     ensures sink { HasSinkCause (S.faults sink.old) (S.faults sink.new) result }
 {
     let mut lines = Vec::new(alloc);
-    let walked = write_all(alloc, book, uuid, youngest, &mut lines, sink, gate);
+    let walked = write_all(rt, alloc, book, uuid, youngest, &mut lines, sink, gate);
     write_last(sink, &mut lines, walked)
 }

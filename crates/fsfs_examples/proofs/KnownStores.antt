@@ -1,5 +1,5 @@
 -- A store that was just made stands for the history of a new repository, and for no other.
-use Rattle.std.proofs.Common.{◌≡◌, ℕ, sym, subst, arith}
+use Rattle.std.proofs.Common.{◌≡◌, ℕ, sym, subst}
 use Rattle.std.specs.Prelude.{Option, Some, None, Result, Ok, Err, true, is_ok, IfSome, OnOk}
 use Rattle.fsfs_tree.specs.Answers.{new_history}
 use Rattle.fsfs_disk.specs.Trace.{Trace, files_now}
@@ -23,12 +23,11 @@ is_made clock moment back new given is all = (moment, given, subst (λ (x : Opti
 
 -- ---- what it stands for
 
--- nothing of it is packed
 pub has_history : (clock : Option ℕ) (told : Option Trace) → IsMade clock told → HasHistory told
 has_history clock None made = tt
 has_history clock (Some t) (moment, given, all) =
     let new = all (files_now t) (files_are_image t.first t.operations) in
-    (new_history new.date, new.stands, λ r less. absurd (omega (arith, less, new.unpacked)))
+    (new_history new.date, new.stands)
 
 pub stands_for_new : (clock : Option ℕ) (told : Option Trace) → IsMade clock told → StandsForNew clock told
 stands_for_new clock None made = tt

@@ -20,9 +20,9 @@ const PIECE: usize = 65536;
 
 /// The changed-path data of a revision, and where they begin.
 #[derive(Drop)]
-pub(crate) struct ChangesData {
-    pub(crate) begins: u64,
-    pub(crate) bytes: Vec<u8>,
+pub struct ChangesData {
+    pub begins: u64,
+    pub bytes: Vec<u8>,
 }
 
 // What the trailer of a revision says.
@@ -88,7 +88,7 @@ fn bytes_from<B: Book>(
 }
 
 /// The changed-path data of a revision: its bytes from the place that the trailer names up to the trailer.
-pub(crate) fn changes_data<B: Book>(
+pub fn changes_data<B: Book>(
     alloc: Global,
     book: &mut B,
     rev: RevNum,

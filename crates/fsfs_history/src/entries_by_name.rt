@@ -12,7 +12,7 @@ use std::collections::BTreeMap;
 
 /// Entries by the bytes of their names, so that one is found without a look at each.
 #[derive(Drop)]
-pub(crate) struct EntriesByName {
+pub struct EntriesByName {
     entries: BTreeMap<Vec<u8>, DirEntry>,
 }
 
@@ -26,7 +26,7 @@ fn name_of(alloc: Global, entry: &DirEntry) -> Result<Vec<u8>, AllocError>
 
 impl EntriesByName {
     /// The entries; of those of one name the first.
-    pub(crate) fn of(alloc: Global, mut left: Vec<DirEntry>) -> Result<EntriesByName, AllocError>
+    pub fn of(alloc: Global, mut left: Vec<DirEntry>) -> Result<EntriesByName, AllocError>
         ensures { IfOk result (λ found. (name : List ℕ) → by_name found name ≡ named name (entry_values left.items)) }
     {
         let mut found = EntriesByName {
@@ -48,7 +48,7 @@ impl EntriesByName {
     }
 
     /// The entry of this name.
-    pub(crate) fn get(&self, name: &str) -> Option<&DirEntry>
+    pub fn get(&self, name: &str) -> Option<&DirEntry>
         ensures { option_map (λ entry. entry_value entry.now) result ≡ by_name self.now name.now }
     {
         self.entries.get(name.as_bytes())

@@ -19,6 +19,8 @@ mod taken;
 
 pub use by_text::ItemsByText;
 pub use changed::{changed_text, ending};
+pub use data::{ChangesData, changes_data};
+pub use entries_by_name::EntriesByName;
 pub use history::history_text;
 pub use items::{ReadItems, items_of};
 pub use kinds::{is_nameable, kind_of};

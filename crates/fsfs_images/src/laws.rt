@@ -14,11 +14,10 @@ pub fn machine_files_have_names(layout: Layout)
 }
 
 /// Where a real disk's operations are read as changes of the machine's disk, each file by its name, its files now are read as the
-/// machine's, and each image of it, also of a put that was torn, as an image of the machine's disk: of a revision below the floor its
-/// part of its shard's pack, which no operation touches. A file that is neither the
-/// machine's nor one of those `others` that may be changed beside is the same in each image.
+/// machine's, and each image of it, also of a put that was torn, as an image of the machine's disk; what the machine took away is not
+/// there. A file that is neither the machine's nor one of those `others` that may be changed beside is the same in each image.
 pub fn images_are_shown(layout: Layout)
-    ensures { (floor : ℕ) (others : List ℕ → Bool) → ImagesAreShown layout floor others }
+    ensures { (others : List ℕ → Bool) → ImagesAreShown layout others }
 {
     let _ = layout;
 }

@@ -16,7 +16,7 @@ use Rattle.fsfs_stands.specs.Files.{StandsFor}
 use Rattle.fsfs_repo.specs.Known.{HasSeenAll, HoldBytes}
 use Rattle.fsfs_job_run.proofs.Bytes.{bytes_stay}
 use Rattle.fsfs_turn.specs.declared.since.Since.{Since}
-use Rattle.fsfs_turn.specs.Opening.{LeftoversAgree, given_before, opened_at}
+use Rattle.fsfs_turn.specs.Opening.{given_before, opened_at}
 use Rattle.fsfs_machine.specs.Kept.{IsIn, Follows}
 use Rattle.fsfs_script.specs.Errors.{IfReadFault}
 use Rattle.fsfs_script.specs.Whole.{ReadsScript}
@@ -216,11 +216,11 @@ firm_fails change old new done = inr (inr done)
 
 -- ---- what a lone pass knows behind jobs
 
-pub ran_in : (layout : Layout) (young : ℕ) (stuck : Option DiskPlace) (told new : Option Trace) (moment : ℕ) (js : List Job) (answers : List JobAnswer) (youngest : ℕ) (v : View) → new ≡ told → v.opened ≡ length v.seen → HoldBytes v.since.files v.seen → v.left ≡ None → are_harmless v.pass.faults ≡ true
-    → (tell_full answers ≡ true → IfSome told (λ t. LeavesNoName (files_now t))) → ((u : View) → KnowsAlone layout young stuck told u → length u.seen ≡ youngest + 1) → ((u : View) → KnowsAlone layout young stuck told u → CrashesLeave layout told u)
-    → DoAll (KnowsAlone layout young stuck told) moment js answers v → Ran moment v.since js answers youngest (revisions v.seen) new
-ran_in layout young stuck told new moment js answers youngest v same opened had clear few full all leaves (u, known, none, runs, stuck_so) =
-    subst (Ran moment v.since js answers youngest (revisions v.seen)) (sym same) (ran moment js answers youngest v u layout told opened had clear few none full (stuck_so few) runs (history_seen layout young stuck told u known) (all u known) (leaves u known))
+pub ran_in : (layout : Layout) (low young : ℕ) (stuck : Option DiskPlace) (told new : Option Trace) (moment : ℕ) (js : List Job) (answers : List JobAnswer) (youngest : ℕ) (v : View) → new ≡ told → v.opened ≡ length v.seen → HoldBytes v.since.files v.seen → v.left ≡ None → are_harmless v.pass.faults ≡ true
+    → (tell_full answers ≡ true → IfSome told (λ t. LeavesNoName (files_now t))) → ((u : View) → KnowsAlone layout low young stuck told u → length u.seen ≡ youngest + 1) → ((u : View) → KnowsAlone layout low young stuck told u → CrashesLeave layout told u)
+    → DoAll (KnowsAlone layout low young stuck told) moment js answers v → Ran moment v.since js answers youngest (revisions v.seen) new
+ran_in layout low young stuck told new moment js answers youngest v same opened had clear few full all leaves (u, known, none, runs, stuck_so) =
+    subst (Ran moment v.since js answers youngest (revisions v.seen)) (sym same) (ran moment js answers youngest v u layout told opened had clear few none full (stuck_so few) runs (history_seen layout low young stuck told u known) (all u known) (leaves u known))
 
 -- ---- a run, told of a count that rose as well
 
@@ -254,21 +254,21 @@ not_read {B} moment before after a b o error fault is opens read rose firm writt
     subst (λ (f : Fault). RunsScript moment before after B a b (Err f)) (sym is) (NotRead o error opens read rose (record { disk = firm; output = written; output_faults = faults }))
 
 -- over what the opening told
-pub ran_over : (knows : View → Type 0) (moment : ℕ) (js : List Job) (answers : List JobAnswer) (youngest : ℕ) (old new : Option Trace) → IfSome old (λ t. (h : List Revision) (stands : StandsFor (files_now t) h) → LeftoversAgree stands → HasSeenAll knows t stands.opened.min_unpacked_rev stands.opened.next_txn.number h)
+pub ran_over : (knows : View → Type 0) (moment : ℕ) (js : List Job) (answers : List JobAnswer) (youngest : ℕ) (old new : Option Trace) → IfSome old (λ t. (h : List Revision) (stands : StandsFor (files_now t) h) → HasSeenAll knows t stands.opened.min_unpacked_rev stands.opened.next_txn.number h)
     → ((v : View) → knows v → v.section ≡ None → v.opened ≡ length v.seen → HoldBytes v.since.files v.seen → v.left ≡ None → are_harmless v.pass.faults ≡ true → Ran moment v.since js answers youngest (revisions v.seen) new) → RanOver moment js answers youngest old new
 ran_over knows moment js answers youngest None new opened does = tt
-ran_over knows moment js answers youngest (Some t) new opened does = λ h stands agreeing.
-    let s = opened h stands agreeing in
+ran_over knows moment js answers youngest (Some t) new opened does = λ h stands.
+    let s = opened h stands in
     let v = s.0 in
     let before : v.opened ≡ length v.seen = s.6 ∙ (ap (λ (l : List Revision). length l) (sym s.4) ∙ length-map v.seen (λ (x : Recorded). x.revision)) in
     subst (λ g. Ran moment (opened_at t.first t.operations) js answers youngest g new) s.4 (subst (λ n. Ran moment n js answers youngest (revisions v.seen) new) s.5 (does v s.1 s.2 before (subst (λ (n : Since). HoldBytes n.files v.seen) (sym s.5) s.8) s.9 (ap (λ p. are_harmless p.faults) s.3)))
 
 -- so it has the names below the number in `txn-current`
-pub opened_given : (knows : View → Type 0) (old : Option Trace) (least : ℕ) → IfSome old (λ t. (h : List Revision) (stands : StandsFor (files_now t) h) → LeftoversAgree stands → HasSeenAll knows t stands.opened.min_unpacked_rev stands.opened.next_txn.number h)
+pub opened_given : (knows : View → Type 0) (old : Option Trace) (least : ℕ) → IfSome old (λ t. (h : List Revision) (stands : StandsFor (files_now t) h) → HasSeenAll knows t stands.opened.min_unpacked_rev stands.opened.next_txn.number h)
     → IsNextName old least → HasGiven knows least
 opened_given knows old zero opened next = tt
 opened_given knows old (suc k) opened next =
-    let at = subst (λ o. IfSome o (λ t. (h : List Revision) (stands : StandsFor (files_now t) h) → LeftoversAgree stands → HasSeenAll knows t stands.opened.min_unpacked_rev stands.opened.next_txn.number h)) next.1 opened in
-    let s = at next.2 next.3 next.4 in
-    let given : s.0.given ≡ k ∷ [] = s.7 ∙ ap given_before next.5 in
+    let at = subst (λ o. IfSome o (λ t. (h : List Revision) (stands : StandsFor (files_now t) h) → HasSeenAll knows t stands.opened.min_unpacked_rev stands.opened.next_txn.number h)) next.1 opened in
+    let s = at next.2 next.3 in
+    let given : s.0.given ≡ k ∷ [] = s.7 ∙ ap given_before next.4 in
     (s.0, s.1, s.2, subst (λ (l : List ℕ). IsIn k l) (sym given) (inl refl))

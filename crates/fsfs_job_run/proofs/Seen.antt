@@ -25,12 +25,12 @@ use Rattle.fsfs_repo.specs.SeenLemmas.{shown_trees}
 use Rattle.fsfs_repo.proofs.OwnedRepoShown.{known_shown}
 use Rattle.fsfs_repo.proofs.Shown.{seen_shows}
 
-module _ (layout : Layout) (young : ℕ) (stuck : Option DiskPlace) (told : Option Trace) (v : View) (known : KnowsAlone layout young stuck told v) where
+module _ (layout : Layout) (low young : ℕ) (stuck : Option DiskPlace) (told : Option Trace) (v : View) (known : KnowsAlone layout low young stuck told v) where
   pub some_seen : 0 < length v.seen
   some_seen = omega (arith, known.1.all)
 
   pub trees_seen : ShowTrees (bytes_of v.seen) (last_of (revisions v.seen)) (tree_of (revisions v.seen))
-  trees_seen = shown_trees v.seen some_seen (seen_shows v.seen (known_shown layout young stuck told v known) some_seen)
+  trees_seen = shown_trees v.seen some_seen (seen_shows v.seen (known_shown layout low young stuck told v known) some_seen)
 
   pub revisions_seen : AreRevisions (tree_of (revisions v.seen)) (last_of (revisions v.seen))
   revisions_seen = shown_revisions (bytes_of v.seen) (last_of (revisions v.seen)) (tree_of (revisions v.seen)) trees_seen

@@ -19,7 +19,7 @@ use Rattle.fsfs_repo.specs.OpenFaults.{OpensBecause}
 use Rattle.fsfs_base.specs.declared.places.open_fault.OpenFault.{OpenFault}
 use Rattle.fsfs_machine.specs.declared.machine.Recorded.{Recorded}
 use Rattle.fsfs_machine.specs.Machine.{revisions}
-use Rattle.fsfs_turn.specs.Opening.{LeftoversAgree, opened_at}
+use Rattle.fsfs_turn.specs.Opening.{opened_at}
 use Rattle.fsfs_turn.specs.Stands.{AreLasting}
 use Rattle.fsfs_turn.specs.declared.since.Since.{Since}
 use Rattle.fsfs_turn.specs.Whole.{HasHistory, HasRevision, NamesFrom}
@@ -107,10 +107,10 @@ pub record Ran (moment : ℕ) (since : Since) (js : List Job) (answers : List Jo
   -- nothing is in doubt where no line tells of a fault as `current` was renamed or made firm
   pub certain : TellNoDoubt answers → IfSome told (λ t. AllStandFor t now)
 
--- where the files stood for a history, packed or not, and files that are left over of packed revisions have the same bytes
+-- where the files stood for a history, packed or not
 abbrev pub RanOver : ℕ → List Job → List JobAnswer → ℕ → Option Trace → Option Trace → Type 0
 RanOver moment js answers youngest old new =
-    IfSome old (λ t. (h : List Revision) (stands : StandsFor (files_now t) h) → LeftoversAgree stands → Ran moment (opened_at t.first t.operations) js answers youngest h new)
+    IfSome old (λ t. (h : List Revision) → StandsFor (files_now t) h → Ran moment (opened_at t.first t.operations) js answers youngest h new)
 
 -- no job was done and nothing was printed; of the disk no more was done than that its names were made firm
 pub record IsUntouched (a b : RunScene) : Type 0 where
@@ -127,7 +127,7 @@ PrintsRun answers youngest old new before now (Err fault) = (fault ≡ Outside W
 -- This number stands in `txn-current`, where the files stand for a history as `RanOver` has it. Of number 0 nothing is asked.
 abbrev pub IsNextName : Option Trace → ℕ → Type 0
 IsNextName told zero = Unit {0}
-IsNextName told (suc k) = (t : Trace) × (told ≡ Some t) × (h : List Revision) × (stands : StandsFor (files_now t) h) × LeftoversAgree stands × (stands.opened.next_txn.number ≡ suc k)
+IsNextName told (suc k) = (t : Trace) × (told ≡ Some t) × (h : List Revision) × (stands : StandsFor (files_now t) h) × (stands.opened.next_txn.number ≡ suc k)
 
 -- A RUN OF A SCRIPT, by its status or its fault. The disk's count of faults went from `before` to `after`, and `benches` says that so many calls of
 -- benches failed at least. The repository is opened first; so what was read, and what was done, is told only where the small files open.

@@ -14,3 +14,5 @@ pub mod Running
 pub mod Created
 pub mod LineLemmas
 pub mod OnePlace
+pub mod Floors
+pub mod PackLemmas

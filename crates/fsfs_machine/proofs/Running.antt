@@ -6,7 +6,7 @@ use Rattle.fsfs_machine.specs.declared.machine.Recorded.{Recorded}
 use Rattle.fsfs_machine.specs.declared.machine.Outcome.{Outcome}
 use Rattle.fsfs_machine.specs.declared.machine.Step.{Step}
 use Rattle.fsfs_machine.specs.Machine.{World, recorded, revisions, Runs}
-use Rattle.fsfs_machine.specs.Kept.{IsSeen, Kept, Grows, Names, SeenStays, RunsKeep}
+use Rattle.fsfs_machine.specs.Kept.{IsSeen, most_floor, may_rise, Kept, Grows, Names, SeenStays, RunsKeep}
 use Rattle.fsfs_machine.proofs.Answering.{seen_of, some_at}
 use Rattle.fsfs_machine.proofs.Growing.{revisions_next}
 use Rattle.fsfs_machine.proofs.Steps.{step_moves}
@@ -28,7 +28,7 @@ get_first (z ∷ h) more (suc r) x e = get_first h more r x e
 
 seen_stays : (w v : World) (more : List Recorded) → v.history ≡ w.history ++ more → Kept w → SeenStays w v
 seen_stays w v more e k p r pass is less =
-    let s : IsSeen (length w.history) w.floor pass = seen_of (length w.history) w.floor w.passes p pass k.seen is in
+    let s : IsSeen (length w.history) w.low (most_floor (may_rise w.lock) w.size w.floor) pass = seen_of (length w.history) w.low (most_floor (may_rise w.lock) w.size w.floor) w.passes p pass k.seen is in
     let at = some_at w.history r (omega (arith, less, s.seen)) in
     (at.0, at.1, subst (λ h. slice_get h r ≡ Some at.0) (sym e) (get_first w.history more r at.0 at.1))
 

@@ -9,7 +9,9 @@ use Rattle.fsfs_model.specs.declared.flat.mark.What.{What}
 use Rattle.fsfs_model.specs.declared.flat.mark.What.TheVariants.{Make, Gone, Text, Prop}
 use Rattle.fsfs_base.specs.Paths.{Path, path_cmp}
 use Rattle.fsfs_tree.specs.Nodes.{Node}
-use Rattle.fsfs_tree.specs.Codes.{coded_kind, coded_path, coded_node}
+use Rattle.fsfs_tree.specs.Codes.{coded_kind, coded_path, coded_node, coded_change}
+use Rattle.fsfs_tree.specs.declared.change_map.Change.{Change}
+use Rattle.fsfs_machine.specs.declared.contents.Part.{Part}
 use Rattle.fsfs_model.specs.Flat.Transactions.{Entry}
 
 abbrev pub parts_of : What → Option (Option (ℕ × Path)) ⊎ Bool
@@ -45,3 +47,13 @@ coded_entry = code_by (ℕ × (ℕ × (map.FinMap path_cmp Node × (List Mark ×
     (λ e. (e.pass, (e.base, (e.tree, (e.marks, e.properties)))))
     (λ p. record { pass = p.0; base = p.1.0; tree = p.1.1.0; marks = p.1.1.1.0; properties = p.1.1.1.1 })
     (λ _. refl)
+
+abbrev pub coded_part : Coded Part
+coded_part = code_by (map.FinMap path_cmp Node × (map.FinMap path_cmp Change × List ℕ))
+    (coded× (map.code coded_path coded_node) (coded× (map.code coded_path coded_change) (coded_list coded_ℕ)))
+    (λ x. (x.tree, (x.changes, x.bytes)))
+    (λ p. record { tree = p.0; changes = p.1.0; bytes = p.1.1 })
+    (λ _. refl)
+
+abbrev pub coded_parts : Coded (List Part)
+coded_parts = coded_list coded_part

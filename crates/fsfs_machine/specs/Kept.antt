@@ -1,61 +1,82 @@
 -- What holds after each step.
-use Rattle.std.specs.Prelude.{◌≡◌, ◌⊎◌, ◌<◌, ◌≤◌, ◌+◌, ◌==◌, if◌then◌else◌, ℕ, List, [], ◌∷◌, ◌++◌, length, take, drop, true, Option, Some, None, IfSome, slice_get}
+use Rattle.std.specs.Prelude.{◌≡◌, ◌⊎◌, ◌<◌, ◌≤◌, ◌+◌, ◌*◌, ◌/◌, ◌==◌, if◌then◌else◌, ℕ, List, [], ◌∷◌, ◌++◌, length, take, drop, Bool, true, false, Option, Some, None, IfSome, slice_get}
 use Rattle.std.specs.FinMap.{get}
 use Rattle.fsfs_tree.specs.Revisions.{Revision, tree_of}
 use Rattle.fsfs_tree.specs.Histories.{IsHistory}
 use Rattle.fsfs_model.specs.Flat.Transactions.{Entry, IsTransaction, IsEntry, IsNext, IsLegal}
 use Rattle.fsfs_tree.specs.Dated.{last_of}
-use Rattle.fsfs_machine.specs.declared.contents.FileName.TheVariants.{Current, CurrentNext, Counter, CounterNext, Floor, Props}
+use Rattle.fsfs_machine.specs.declared.contents.FileName.TheVariants.{Current, CurrentNext, Counter, CounterNext, Floor, FloorNext, Rev, Props, Pack, Manifest}
+use Rattle.fsfs_machine.specs.declared.contents.Contents.{Contents}
 use Rattle.fsfs_machine.specs.declared.contents.Contents.TheVariants.{PropsFile, Number}
 use Rattle.fsfs_machine.specs.declared.machine.Recorded.{Recorded}
 use Rattle.fsfs_machine.specs.declared.machine.Coming.{Coming}
 use Rattle.fsfs_machine.specs.declared.machine.Drawn.{Drawn}
 use Rattle.fsfs_machine.specs.declared.machine.Txn.{Txn}
 use Rattle.fsfs_machine.specs.declared.machine.Section.{Section}
-use Rattle.fsfs_machine.specs.declared.machine.Section.TheVariants.{CountRead, CountPut, CountRenamed, RevPut, PropsPut, RevFirm, CurrentPut, CurrentRenamed, CurrentFirm, Doubtful}
+use Rattle.fsfs_machine.specs.declared.machine.Section.TheVariants.{CountRead, CountPut, CountRenamed, RevPut, PropsPut, RevFirm, CurrentPut, CurrentRenamed, CurrentFirm, Doubtful, PackPut, ManifestPut, PackFirm, FloorPut, FloorRenamed, FloorDoubtful}
 use Rattle.fsfs_machine.specs.declared.machine.Lock.{Lock}
-use Rattle.fsfs_machine.specs.declared.machine.Lock.TheVariants.{Held, Stuck, DownDoubtful}
+use Rattle.fsfs_machine.specs.declared.machine.Lock.TheVariants.{Held, Stuck, DownDoubtful, StuckFloor, DownFloor}
 use Rattle.fsfs_machine.specs.declared.machine.Pass.{Pass}
 use Rattle.fsfs_machine.specs.declared.machine.Outcome.{Outcome}
 use Rattle.fsfs_machine.specs.declared.machine.Outcome.TheVariants as outcome
 use Rattle.fsfs_machine.specs.declared.machine.Step.{Step}
 use Rattle.fsfs_machine.specs.declared.machine.Step.TheVariants as step
-use Rattle.fsfs_machine.specs.Disk.{Disk, found, shown, IsImage}
-use Rattle.fsfs_machine.specs.Machine.{World, Did, Happens, Runs, created, file_of, recorded, revisions, with_next, is_up}
+use Rattle.fsfs_machine.specs.Disk.{Disk, found, is_gone, shown, IsImage}
+use Rattle.fsfs_machine.specs.Machine.{World, Did, Happens, Runs, created, file_of, recorded, revisions, with_next, is_up, parts_from, pack_of, manifest_of}
 
--- the two files of revision r are those of x
-abbrev pub HasFiles : ℕ → Disk → ℕ → Recorded → Type 0
-HasFiles f m r x = (shown f m r ≡ Some (file_of x)) × (found m (Props r) ≡ Some (PropsFile x.revision.properties))
+-- the two files of revision r are those of x, where the revisions below f are in packs
+abbrev pub HasFiles : ℕ → ℕ → Disk → ℕ → Recorded → Type 0
+HasFiles size f m r x = (shown size f m r ≡ Some (file_of x)) × (found m (Props r) ≡ Some (PropsFile x.revision.properties))
 
 -- each revision of the history has its files
-abbrev pub HasAll : ℕ → Disk → List Recorded → Type 0
-HasAll f m h = (r : ℕ) (x : Recorded) → slice_get h r ≡ Some x → HasFiles f m r x
+abbrev pub HasAll : ℕ → ℕ → Disk → List Recorded → Type 0
+HasAll size f m h = (r : ℕ) (x : Recorded) → slice_get h r ≡ Some x → HasFiles size f m r x
 
 -- `current` names the last of n revisions
 abbrev pub NamesLast : Disk → ℕ → Type 0
 NamesLast m n = (k : ℕ) × (found m Current ≡ Some (Number k)) × (k + 1 ≡ n)
 
-abbrev pub StandsFor : ℕ → Disk → List Recorded → Type 0
-StandsFor f m h = HasAll f m h × NamesLast m (length h)
+abbrev pub StandsFor : ℕ → ℕ → Disk → List Recorded → Type 0
+StandsFor size f m h = HasAll size f m h × NamesLast m (length h)
 
 -- the history, or the same with the revision to come
-abbrev pub StandsForEither : ℕ → Disk → List Recorded → Coming → Type 0
-StandsForEither f m h x = StandsFor f m h ⊎ StandsFor f m (with_next h x)
+abbrev pub StandsForEither : ℕ → ℕ → Disk → List Recorded → Coming → Type 0
+StandsForEither size f m h x = StandsFor size f m h ⊎ StandsFor size f m (with_next h x)
 
--- What an image stands for while a section is under way. From `FirmRev`'s end it has the files of the revision to come.
-abbrev pub StandsIn : ℕ → List Recorded → Section → Disk → Type 0
-StandsIn f h (RevFirm x) m = StandsFor f m h × HasFiles f m (length h) (recorded x)
-StandsIn f h (CurrentPut x) m = StandsFor f m h × HasFiles f m (length h) (recorded x)
-StandsIn f h (CurrentRenamed x) m = StandsForEither f m h x × HasFiles f m (length h) (recorded x)
-StandsIn f h (Doubtful place x) m = StandsForEither f m h x × HasFiles f m (length h) (recorded x)
-StandsIn f h (CurrentFirm x) m = StandsFor f m (with_next h x)
-StandsIn f h s m = StandsFor f m h
+-- the shard at the floor has its pack and the manifest beside it
+abbrev pub HasPack : ℕ → ℕ → Disk → List Recorded → Type 0
+HasPack size f m h = (found m (Pack (f / size)) ≡ Some (pack_of (parts_from size f h))) × (found m (Manifest (f / size)) ≡ Some (manifest_of (parts_from size f h)))
 
-abbrev pub Stands : ℕ → List Recorded → Lock → Disk → Type 0
-Stands f h (Held p s) m = StandsIn f h s m
-Stands f h (Stuck place x) m = StandsForEither f m h x × HasFiles f m (length h) (recorded x)
-Stands f h (DownDoubtful x) m = StandsForEither f m h x
-Stands f h lock m = StandsFor f m h
+-- What an image stands for while a section is under way. From `FirmRev`'s end it has the files of the revision to come, from `FirmPack`'s
+-- end the pack of the shard at the floor: so it stands for the same by either floor.
+abbrev pub StandsIn : ℕ → ℕ → List Recorded → Section → Disk → Type 0
+StandsIn size f h (RevFirm x) m = StandsFor size f m h × HasFiles size f m (length h) (recorded x)
+StandsIn size f h (CurrentPut x) m = StandsFor size f m h × HasFiles size f m (length h) (recorded x)
+StandsIn size f h (CurrentRenamed x) m = StandsForEither size f m h x × HasFiles size f m (length h) (recorded x)
+StandsIn size f h (Doubtful place x) m = StandsForEither size f m h x × HasFiles size f m (length h) (recorded x)
+StandsIn size f h (CurrentFirm x) m = StandsFor size f m (with_next h x)
+StandsIn size f h PackFirm m = StandsFor size f m h × HasPack size f m h
+StandsIn size f h FloorPut m = StandsFor size f m h × HasPack size f m h
+StandsIn size f h FloorRenamed m = StandsFor size f m h × HasPack size f m h
+StandsIn size f h (FloorDoubtful place) m = StandsFor size f m h × HasPack size f m h
+StandsIn size f h s m = StandsFor size f m h
+
+abbrev pub Stands : ℕ → ℕ → List Recorded → Lock → Disk → Type 0
+Stands size f h (Held p s) m = StandsIn size f h s m
+Stands size f h (Stuck place x) m = StandsForEither size f m h x × HasFiles size f m (length h) (recorded x)
+Stands size f h (DownDoubtful x) m = StandsForEither size f m h x
+Stands size f h (StuckFloor place) m = StandsFor size f m h × HasPack size f m h
+Stands size f h DownFloor m = StandsFor size f m h × HasPack size f m h
+Stands size f h lock m = StandsFor size f m h
+
+-- The own file of a revision has its bytes; where there is none it was taken away. So what is left of a packed one has the pack's.
+abbrev pub IsLeft : Bool → Option Contents → Recorded → Type 0
+IsLeft gone None x = gone ≡ true
+IsLeft gone (Some c) x = c ≡ file_of x
+
+-- those from the floor of the opening on: of others that lay there then nothing is claimed
+abbrev pub AreLeft : ℕ → List Recorded → Disk → Type 0
+AreLeft low h m = (r : ℕ) (x : Recorded) → slice_get h r ≡ Some x → low ≤ r → IsLeft (is_gone m (Rev r)) (found m (Rev r)) x
 
 abbrev pub AllBelow : ℕ → List ℕ → Type 0
 AllBelow k [] = Unit {0}
@@ -120,19 +141,23 @@ AreNamed n given [] = Unit {0}
 AreNamed n given (x ∷ xs) = ((x.base < n) × IsIn x.name given) × AreNamed n given xs
 
 -- what the section knows of the files as they are read
-abbrev pub Knows : ℕ → List Recorded → List ℕ → Section → Disk → Type 0
-Knows f h given (CountRead x) d = (x.base < length h) × AllBelow x.name given × (x.next ≡ x.name + 1)
-Knows f h given (CountPut x) d = (x.base < length h) × AllBelow x.name given × (x.next ≡ x.name + 1) × (found d CounterNext ≡ Some (Number x.next))
-Knows f h given (CountRenamed x) d = (x.base < length h) × AllBelow x.name given × (x.next ≡ x.name + 1) × (found d Counter ≡ Some (Number x.next))
-Knows f h given (RevPut x) d = shown f d (length h) ≡ Some (file_of (recorded x))
-Knows f h given (PropsPut x) d = HasFiles f d (length h) (recorded x)
-Knows f h given (CurrentPut x) d = found d CurrentNext ≡ Some (Number (length h))
-Knows f h given (CurrentRenamed x) d = found d Current ≡ Some (Number (length h))
-Knows f h given s d = Unit {0}
+abbrev pub Knows : ℕ → ℕ → List Recorded → List ℕ → Section → Disk → Type 0
+Knows size f h given (CountRead x) d = (x.base < length h) × AllBelow x.name given × (x.next ≡ x.name + 1)
+Knows size f h given (CountPut x) d = (x.base < length h) × AllBelow x.name given × (x.next ≡ x.name + 1) × (found d CounterNext ≡ Some (Number x.next))
+Knows size f h given (CountRenamed x) d = (x.base < length h) × AllBelow x.name given × (x.next ≡ x.name + 1) × (found d Counter ≡ Some (Number x.next))
+Knows size f h given (RevPut x) d = shown size f d (length h) ≡ Some (file_of (recorded x))
+Knows size f h given (PropsPut x) d = HasFiles size f d (length h) (recorded x)
+Knows size f h given (CurrentPut x) d = found d CurrentNext ≡ Some (Number (length h))
+Knows size f h given (CurrentRenamed x) d = found d Current ≡ Some (Number (length h))
+Knows size f h given PackPut d = found d (Pack (f / size)) ≡ Some (pack_of (parts_from size f h))
+Knows size f h given ManifestPut d = HasPack size f d h
+Knows size f h given FloorPut d = found d FloorNext ≡ Some (Number (f + size))
+Knows size f h given FloorRenamed d = found d Floor ≡ Some (Number (f + size))
+Knows size f h given s d = Unit {0}
 
-abbrev pub KnowsAt : ℕ → List Recorded → List ℕ → Lock → Disk → Type 0
-KnowsAt f h given (Held p s) d = Knows f h given s d
-KnowsAt f h given lock d = Unit {0}
+abbrev pub KnowsAt : ℕ → ℕ → List Recorded → List ℕ → Lock → Disk → Type 0
+KnowsAt size f h given (Held p s) d = Knows size f h given s d
+KnowsAt size f h given lock d = Unit {0}
 
 -- the revision to come
 abbrev pub coming_in : Section → Option Coming
@@ -155,16 +180,17 @@ coming lock = None
 abbrev pub Follows : List Recorded → Coming → Type 0
 Follows h x = IsEntry (revisions h) x.entry × IsNext (revisions h) x.entry x.revision
 
--- what a pass knows is of this history of n revisions, with this floor
-pub record IsSeen (n firm_floor : ℕ) (x : Pass) : Type 0 where
+-- what a pass knows is of this history of n revisions, and its floor is between these
+pub record IsSeen (n low top : ℕ) (x : Pass) : Type 0 where
   pub seen : x.seen ≤ n
   pub least : x.least < n
   pub mine : AllBelow x.seen x.mine
-  pub floor : x.floor ≡ firm_floor
+  pub least_floor : low ≤ x.floor
+  pub floor : x.floor ≤ top
 
-abbrev pub AreSeen : ℕ → ℕ → List Pass → Type 0
-AreSeen n floor [] = Unit {0}
-AreSeen n floor (x ∷ xs) = IsSeen n floor x × AreSeen n floor xs
+abbrev pub AreSeen : ℕ → ℕ → ℕ → List Pass → Type 0
+AreSeen n low top [] = Unit {0}
+AreSeen n low top (x ∷ xs) = IsSeen n low top x × AreSeen n low top xs
 
 -- the revisions, numbered from r on, whose entry carries the number of pass p
 abbrev pub carried_by : ℕ → ℕ → List Entry → List ℕ
@@ -205,25 +231,75 @@ abbrev pub AreTransactions : List Revision → List Txn → Type 0
 AreTransactions h [] = Unit {0}
 AreTransactions h (x ∷ xs) = IsTransaction (tree_of h) (last_of h) x.base (get x.tree) x.marks × AreTransactions h xs
 
+-- ---- floors
+
 abbrev pub FloorIs : ℕ → Disk → Type 0
 FloorIs f m = found m Floor ≡ Some (Number f)
+
+-- an image may show the floor that is to come
+abbrev pub rises : Section → Bool
+rises FloorRenamed = true
+rises (FloorDoubtful place) = true
+rises s = false
+
+abbrev pub may_rise : Lock → Bool
+may_rise (Held p s) = rises s
+may_rise (StuckFloor place) = true
+may_rise DownFloor = true
+may_rise lock = false
+
+-- the floor of an image: that which is firm, or the one to come
+abbrev pub FloorBy : Bool → ℕ → ℕ → Disk → Type 0
+FloorBy true size f m = FloorIs f m ⊎ FloorIs (f + size) m
+FloorBy false size f m = FloorIs f m
+
+-- the greatest floor that a pass may have read
+abbrev pub most_floor : Bool → ℕ → ℕ → ℕ
+most_floor rises size f = if rises then f + size else f
+
+-- a shard is being packed
+abbrev pub packs : Section → Bool
+packs PackPut = true
+packs ManifestPut = true
+packs PackFirm = true
+packs FloorPut = true
+packs FloorRenamed = true
+packs (FloorDoubtful place) = true
+packs s = false
+
+abbrev pub is_packing : Lock → Bool
+is_packing (Held p s) = packs s
+is_packing (StuckFloor place) = true
+is_packing DownFloor = true
+is_packing lock = false
+
+-- the floor is that of whole shards, and the shard that is packed is full
+pub record IsFloor (size f n : ℕ) (full : Bool) : Type 0 where
+  pub some : 0 < size
+  pub shards : ℕ
+  pub whole : f ≡ shards * size
+  pub most : f ≤ n
+  pub next : full ≡ true → f + size ≤ n
 
 pub record Kept (w : World) : Type 0 where
   -- the youngest number is that of the history's last revision
   pub young : is_up w.lock ≡ true → w.young + 1 ≡ length w.history
   -- what each pass has seen is a first part of the history, and what it was told of is in it
-  pub seen : AreSeen (length w.history) w.floor w.passes
+  pub seen : AreSeen (length w.history) w.low (most_floor (may_rise w.lock) w.size w.floor) w.passes
   -- the history is one
   pub history : IsHistory (revisions w.history)
   -- each transaction under way is one over the history
   pub transactions : AreTransactions (revisions w.history) w.txns
   -- each image has the bytes beside each revision, and stands for the history; or, where `current` may name the revision to
   -- come, for the history with it; and from the last firming to the reveal for that alone
-  pub stands : (m : Disk) → IsImage w.disk m → Stands w.floor w.history w.lock m
-  -- only revisions of the history are in packs
-  pub floor : w.floor ≤ length w.history
-  -- each image shows this floor
-  pub floors : (m : Disk) → IsImage w.disk m → FloorIs w.floor m
+  pub stands : (m : Disk) → IsImage w.disk m → Stands w.size w.floor w.history w.lock m
+  -- only whole shards of the history are in packs; the shard that a section packs is full
+  pub floor : IsFloor w.size w.floor (length w.history) (is_packing w.lock)
+  -- each image shows this floor; or, where `min-unpacked-rev` may have been renamed, the next one
+  pub floors : (m : Disk) → IsImage w.disk m → FloorBy (may_rise w.lock) w.size w.floor m
+  -- in each image the own files of revisions from the floor of the opening on have their bytes, or were taken away
+  pub left : (m : Disk) → IsImage w.disk m → AreLeft w.low w.history m
+  pub low : w.low ≤ w.floor
   -- in each image each transaction name given is below the counter
   pub counts : (m : Disk) → IsImage w.disk m → CountsOn w.given m
   -- no name was given twice
@@ -237,7 +313,7 @@ pub record Kept (w : World) : Type 0 where
   -- while the repository is open, each transaction under way has its label
   pub benches : is_up w.lock ≡ true → HaveLabels w.labels w.txns
   -- the files that the section under way has put read as it put them
-  pub knows : KnowsAt w.floor w.history w.given w.lock w.disk
+  pub knows : KnowsAt w.size w.floor w.history w.given w.lock w.disk
   -- the revision to come is the landing of its entry
   pub next : IfSome (coming w.lock) (Follows w.history)
   -- each pass's own revisions are those since the opening whose entry carries its number
@@ -253,11 +329,18 @@ Grows h new = (new ≡ h) ⊎ ((x : Coming) × Follows h x × (new ≡ with_next
 abbrev pub Names : List ℕ → List ℕ → Type 0
 Names given new = (new ≡ given) ⊎ ((k : ℕ) × AllBelow k given × (new ≡ k ∷ given))
 
--- bytes that were read are those beside the revision
-abbrev pub GivesBytes : List Recorded → ℕ → ℕ → ℕ → Outcome → Type 0
-GivesBytes h r offset size (outcome.Bytes bytes) = (x : Recorded) × (slice_get h r ≡ Some x) × (bytes ≡ take size (drop offset x.bytes))
-GivesBytes h r offset size outcome.Missing = ⊥
-GivesBytes h r offset size o = Unit {0}
+-- Bytes that were read are those beside the revision. There is no such file only where the revision was packed since the pass read
+-- the floor: its floor isn't above it, that of each image is.
+abbrev pub GivesBytes : List Recorded → ℕ → Option Pass → ℕ → ℕ → ℕ → Outcome → Type 0
+GivesBytes h f pass r offset size (outcome.Bytes bytes) = (x : Recorded) × (slice_get h r ≡ Some x) × (bytes ≡ take size (drop offset x.bytes))
+GivesBytes h f pass r offset size outcome.Missing = IfSome pass (λ x. (x.floor ≤ r) × (r < f))
+GivesBytes h f pass r offset size o = Unit {0}
+
+-- the floor that was read is that of each image, or the next; so a revision that was missing is below it
+abbrev pub GivesFloor : ℕ → Outcome → Type 0
+GivesFloor f (outcome.Floor k) = f ≤ k
+GivesFloor f outcome.Missing = ⊥
+GivesFloor f o = Unit {0}
 
 -- properties that were read are those of the revision
 abbrev pub GivesProps : List Recorded → ℕ → Outcome → Type 0
@@ -276,7 +359,8 @@ IsPurged name d = d.outcome ≡ outcome.Done → IsIn name d.world.labels → �
 
 -- a read answers by the history, and never that there is no such file; what is listed was given; what is purged is gone
 abbrev pub Gives : World → Step → Did → Type 0
-Gives w (step.Read p r offset size went) d = GivesBytes w.history r offset size d.outcome
+Gives w (step.Read p r offset size went) d = GivesBytes w.history w.floor (slice_get w.passes p) r offset size d.outcome
+Gives w (step.ReadFloor p went) d = GivesFloor w.floor d.outcome
 Gives w (step.ReadProps p r went) d = GivesProps w.history r d.outcome
 Gives w (step.ListTxns p went) d = GivesNames w.given d.outcome
 Gives w (step.ListLabels went) d = GivesNames w.given d.outcome
@@ -322,4 +406,8 @@ RunsKeep = (w v : World) (steps : List Step) (os : List Outcome) → Runs w step
 
 -- a new repository has it
 abbrev pub CreatedIsKept : Type 0
-CreatedIsKept = (properties : List (List ℕ × List ℕ)) (bytes : List ℕ) → Kept (created properties bytes)
+CreatedIsKept = (size : ℕ) (properties : List (List ℕ × List ℕ)) (bytes : List ℕ) → 0 < size → Kept (created size properties bytes)
+
+-- EACH IMAGE STANDS FOR THE HISTORY BY ITS OWN FLOOR, where no revision is in doubt; and each shard below that has its pack
+abbrev pub StandsByItsFloor : Type 0
+StandsByItsFloor = (w : World) → Kept w → coming w.lock ≡ None → (m : Disk) → IsImage w.disk m → (f : ℕ) × FloorIs f m × StandsFor w.size f m w.history

@@ -1,5 +1,5 @@
 -- The machine: what each step makes of the state, and what it answers.
-use Rattle.std.specs.Prelude.{◌≡◌, ◌⊎◌, ◌==◌, ◌+◌, ◌-◌, ◌&&◌, ◌||◌, ◌^◌, not, nat_lt, nat_le, max, min, ℕ, suc, zero, List, [], ◌∷◌, ◌++◌, length, map, take, drop, Bool, true, false, Option, Some, None, if◌then◌else◌, slice_get}
+use Rattle.std.specs.Prelude.{◌≡◌, ◌⊎◌, ◌==◌, ◌+◌, ◌-◌, ◌/◌, ◌&&◌, ◌||◌, ◌^◌, not, nat_lt, nat_le, max, min, ℕ, suc, zero, List, [], ◌∷◌, ◌++◌, length, map, take, drop, Bool, true, false, Option, Some, None, if◌then◌else◌, slice_get}
 use Rattle.std.specs.FinMap.{FinMap, get}
 use Rattle.std.specs.FinMap as finmap
 use Rattle.fsfs_model.specs.declared.flat.edit.Edit.{Edit}
@@ -13,24 +13,26 @@ use Rattle.fsfs_tree.specs.Revisions.{Revision, tree_of}
 use Rattle.fsfs_model.specs.Flat.Transactions.{Entry, IsNext}
 use Rattle.fsfs_tree.specs.Dated.{IsDated, last_of}
 use Rattle.fsfs_machine.specs.declared.contents.FileName.{FileName}
-use Rattle.fsfs_machine.specs.declared.contents.FileName.TheVariants.{Current, CurrentNext, Counter, CounterNext, Floor, Rev, Props}
+use Rattle.fsfs_machine.specs.declared.contents.FileName.TheVariants.{Current, CurrentNext, Counter, CounterNext, Floor, FloorNext, Rev, Props, Pack, Manifest}
 use Rattle.fsfs_machine.specs.declared.contents.Contents.{Contents}
-use Rattle.fsfs_machine.specs.declared.contents.Contents.TheVariants.{RevFile, PropsFile, Number}
+use Rattle.fsfs_machine.specs.declared.contents.Contents.TheVariants.{RevFile, PropsFile, Number, PackFile, ManifestFile}
+use Rattle.fsfs_machine.specs.declared.contents.Part.{Part}
 use Rattle.fsfs_machine.specs.declared.contents.NameChange.{NameChange}
-use Rattle.fsfs_machine.specs.declared.contents.NameChange.TheVariants.{Put, Rename, Firm}
+use Rattle.fsfs_machine.specs.declared.contents.NameChange.TheVariants.{Put, Rename, Remove, Firm}
 use Rattle.fsfs_machine.specs.declared.machine.Recorded.{Recorded}
 use Rattle.fsfs_machine.specs.declared.machine.Txn.{Txn}
 use Rattle.fsfs_machine.specs.declared.machine.Coming.{Coming}
 use Rattle.fsfs_machine.specs.declared.machine.Drawn.{Drawn}
 use Rattle.fsfs_base.specs.declared.places.place.DiskPlace.{DiskPlace}
 use Rattle.fsfs_base.specs.declared.places.place.DiskPlace.TheVariants.{Read, Begin, Commit}
+use Rattle.fsfs_base.specs.declared.places.place.PackPlace.TheVariants as pack
 use Rattle.fsfs_base.specs.declared.places.place.DiskPlace.TheVariants as place
 use Rattle.fsfs_base.specs.declared.places.place.BeginPlace.TheVariants as begin
 use Rattle.fsfs_base.specs.declared.places.place.CommitPlace.TheVariants.{PutRev, PutProps, FirmRev, PutCurrent, RenameCurrent, FirmCurrent}
 use Rattle.fsfs_machine.specs.declared.machine.Section.{Section}
-use Rattle.fsfs_machine.specs.declared.machine.Section.TheVariants.{Begun, CountRead, CountPut, CountRenamed, RevPut, PropsPut, RevFirm, CurrentPut, CurrentRenamed, CurrentFirm, Doubtful, Over}
+use Rattle.fsfs_machine.specs.declared.machine.Section.TheVariants.{Begun, CountRead, CountPut, CountRenamed, RevPut, PropsPut, RevFirm, CurrentPut, CurrentRenamed, CurrentFirm, Doubtful, PackPut, ManifestPut, PackFirm, FloorPut, FloorRenamed, Packed, FloorDoubtful, Over}
 use Rattle.fsfs_machine.specs.declared.machine.Lock.{Lock}
-use Rattle.fsfs_machine.specs.declared.machine.Lock.TheVariants.{Free, Held, Stuck, Down, DownDoubtful}
+use Rattle.fsfs_machine.specs.declared.machine.Lock.TheVariants.{Free, Held, Stuck, Down, DownDoubtful, StuckFloor, DownFloor}
 use Rattle.fsfs_machine.specs.declared.machine.Pass.{Pass}
 use Rattle.fsfs_machine.specs.declared.machine.Went.{Went}
 use Rattle.fsfs_machine.specs.declared.machine.Went.TheVariants.{Fine, After, Torn}
@@ -50,6 +52,10 @@ pub record World : Type 0 where
   pub opening : ℕ
   -- the entries of the revisions since, in order
   pub since : List Entry
+  -- how many revisions a shard has
+  pub size : ℕ
+  -- the `min-unpacked-rev` that the opening read
+  pub low : ℕ
   -- the `min-unpacked-rev` that is firm
   pub floor : ℕ
   -- the numbers of the transaction names given, the newest first
@@ -100,6 +106,13 @@ is_due (PropsPut x) (Commit FirmRev) = true
 is_due (RevFirm x) (Commit PutCurrent) = true
 is_due (CurrentPut x) (Commit RenameCurrent) = true
 is_due (CurrentRenamed x) (Commit FirmCurrent) = true
+is_due Begun (place.Pack pack.AdoptPack) = true
+is_due PackPut (place.Pack pack.AdoptManifest) = true
+is_due ManifestPut (place.Pack pack.FirmPack) = true
+is_due PackFirm (place.Pack pack.PutFloor) = true
+is_due FloorPut (place.Pack pack.RenameFloor) = true
+is_due FloorRenamed (place.Pack pack.FirmFloor) = true
+is_due Packed (place.Pack pack.AdoptPack) = true
 is_due s place = false
 
 -- the list with the element at a place changed
@@ -183,6 +196,39 @@ abbrev pub rename_of : FileName → FileName → Option Contents → Option Name
 rename_of from to None = None
 rename_of from to (Some c) = Some (Rename from to c)
 
+-- ---- packs
+
+abbrev pub part_of : Recorded → Part
+part_of x = record { tree = x.revision.tree; changes = x.revision.changes; bytes = x.bytes }
+
+abbrev pub part_at : Option Recorded → Option Part
+part_at None = None
+part_at (Some x) = Some (part_of x)
+
+-- the revisions of the shard that begins at this floor
+abbrev pub parts_from : ℕ → ℕ → List Recorded → List Part
+parts_from size floor h = map part_of (take size (drop floor h))
+
+-- where each begins, one behind another
+abbrev pub starts : ℕ → List Part → List ℕ
+starts at [] = []
+starts at (x ∷ xs) = at ∷ starts (at + length x.bytes) xs
+
+-- the pack of these, and its manifest
+abbrev pub pack_of : List Part → Contents
+pack_of xs = PackFile (starts 0 xs) xs
+
+abbrev pub manifest_of : List Part → Contents
+manifest_of xs = ManifestFile (starts 0 xs)
+
+-- the shard at the floor
+abbrev pub next_parts : World → List Part
+next_parts w = parts_from w.size w.floor w.history
+
+-- a pack's first call, where that shard is full
+abbrev pub first_of_pack : World → Option NameChange
+first_of_pack w = if nat_le (w.floor + w.size) (length w.history) then Some (Put (Pack (w.floor / w.size)) (pack_of (next_parts w))) else None
+
 abbrev pub due : World → Section → Option NameChange
 due w (CountRead x) = Some (Put CounterNext (Number x.next))
 due w (CountPut x) = rename_of CounterNext Counter (found w.disk CounterNext)
@@ -192,6 +238,13 @@ due w (PropsPut x) = Some Firm
 due w (RevFirm x) = Some (Put CurrentNext (Number (length w.history)))
 due w (CurrentPut x) = rename_of CurrentNext Current (found w.disk CurrentNext)
 due w (CurrentRenamed x) = Some Firm
+due w Begun = first_of_pack w
+due w PackPut = Some (Put (Manifest (w.floor / w.size)) (manifest_of (next_parts w)))
+due w ManifestPut = Some Firm
+due w PackFirm = Some (Put FloorNext (Number (w.floor + w.size)))
+due w FloorPut = rename_of FloorNext Floor (found w.disk FloorNext)
+due w FloorRenamed = Some Firm
+due w Packed = first_of_pack w
 due w s = None
 
 -- where the section is after it
@@ -203,12 +256,21 @@ after (PropsPut x) = RevFirm x
 after (RevFirm x) = CurrentPut x
 after (CurrentPut x) = CurrentRenamed x
 after (CurrentRenamed x) = CurrentFirm x
+after Begun = PackPut
+after PackPut = ManifestPut
+after ManifestPut = PackFirm
+after PackFirm = FloorPut
+after FloorPut = FloorRenamed
+after FloorRenamed = Packed
+after Packed = PackPut
 after s = Over
 
 -- and after a fault there
 abbrev pub spoiled : Section → Section
 spoiled (CurrentPut x) = Doubtful (Commit RenameCurrent) x
 spoiled (CurrentRenamed x) = Doubtful (Commit FirmCurrent) x
+spoiled FloorPut = FloorDoubtful (place.Pack pack.RenameFloor)
+spoiled FloorRenamed = FloorDoubtful (place.Pack pack.FirmFloor)
 spoiled s = Over
 
 abbrev pub tree_in : Option Revision → FinMap path_cmp Node
@@ -219,9 +281,10 @@ tree_in (Some x) = x.tree
 abbrev pub begun_txn : List Recorded → Drawn → Txn
 begun_txn h x = record { name = x.name; base = x.base; tree = tree_in (slice_get (revisions h) x.base); marks = []; landings = 0 }
 
--- the name that is given as the names are firm
+-- the name that is given, or the floor that is raised, as the names are firm
 abbrev pub gives : Section → Went → World → World
 gives (CountRenamed x) Fine w = record w { given = x.name ∷ w.given; named = w.named ++ x ∷ [] }
+gives FloorRenamed Fine w = record w { floor = w.floor + w.size }
 gives s went w = w
 
 abbrev pub called_by : World → ℕ → DiskPlace → Went → Section → Option NameChange → Did
@@ -335,11 +398,13 @@ abbrev pub Merges : World → ℕ → ℕ → Option Txn → Did → Type 0
 Merges w t head None d = d ≡ barred w
 Merges w t head (Some x) d = MergesIf w t head x (nat_le x.base head && nat_lt head (length w.history)) d
 
--- the lock is never given from `RenameCurrent`'s end to the reveal
+-- the lock is never given from `RenameCurrent`'s end to the reveal, nor from `RenameFloor`'s end to `FirmFloor`'s
 abbrev pub is_quiet : Section → Bool
 is_quiet (CurrentRenamed x) = false
 is_quiet (CurrentFirm x) = false
 is_quiet (Doubtful place x) = false
+is_quiet FloorRenamed = false
+is_quiet (FloorDoubtful place) = false
 is_quiet s = true
 
 abbrev pub let_go : World → Section → Did
@@ -347,6 +412,7 @@ let_go w s = if is_quiet s then did (record w { lock = Free }) outcome.Done else
 
 abbrev pub stuck_at : World → Section → Did
 stuck_at w (Doubtful place x) = did (record w { lock = Stuck place x }) outcome.Done
+stuck_at w (FloorDoubtful place) = did (record w { lock = StuckFloor place }) outcome.Done
 stuck_at w s = barred w
 
 -- a pass has revealed the revision that follows n others
@@ -367,11 +433,13 @@ revealed w p s = barred w
 abbrev pub taken : World → ℕ → Lock → Did
 taken w p Free = did (record w { lock = Held p Begun }) outcome.Done
 taken w p (Stuck place x) = did (record w { passes = at_place w.passes p (λ y. record y { stuck = Some place }) }) (outcome.Stuck place)
+taken w p (StuckFloor place) = did (record w { passes = at_place w.passes p (λ y. record y { stuck = Some place }) }) (outcome.Stuck place)
 taken w p lock = barred w
 
 abbrev pub is_up : Lock → Bool
 is_up Down = false
 is_up (DownDoubtful x) = false
+is_up DownFloor = false
 is_up lock = true
 
 -- a look tells the youngest revision
@@ -393,7 +461,7 @@ turned w p place went = record w { passes = at_place w.passes p (learns (length 
 abbrev pub has_read : World → ℕ → ℕ → ℕ → ℕ → Went → Option Pass → Did
 has_read w p r offset size went None = barred w
 has_read w p r offset size went (Some x) =
-    if is_known x r then did (turned w p Read went) (either went (range_of offset size (shown x.floor w.disk r)) outcome.Failed) else barred w
+    if is_known x r then did (turned w p Read went) (either went (range_of offset size (shown w.size x.floor w.disk r)) outcome.Failed) else barred w
 
 -- the properties in a file
 abbrev pub properties_in : Option Contents → Outcome
@@ -421,6 +489,11 @@ floor_read w p went None = barred w
 floor_read w p went (Some x) =
     did (record w { passes = at_place w.passes p (sees_floor (length w.history) went (number_of (found w.disk Floor))) })
     (either went (floor_of (number_of (found w.disk Floor))) outcome.Failed)
+
+-- the own file of a revision that is packed goes
+abbrev pub old_removed : World → ℕ → ℕ → Went → Section → Did
+old_removed w p r went Packed = if nat_lt r w.floor then did (at_call w p place.Remove (Remove (Rev r)) Packed Packed went) (answer went) else barred w
+old_removed w p r went s = barred w
 
 -- the pass is in no section
 abbrev pub is_outside : ℕ → Lock → Bool
@@ -472,6 +545,10 @@ down (Held p (CurrentFirm x)) = DownDoubtful x
 down (Held p (Doubtful place x)) = DownDoubtful x
 down (Stuck place x) = DownDoubtful x
 down (DownDoubtful x) = DownDoubtful x
+down (Held p FloorRenamed) = DownFloor
+down (Held p (FloorDoubtful place)) = DownFloor
+down (StuckFloor place) = DownFloor
+down DownFloor = DownFloor
 down lock = Down
 
 abbrev pub ends : World → World
@@ -486,10 +563,10 @@ abbrev pub read_one : Option (List Recorded) → Option Recorded → Option (Lis
 read_one (Some h) (Some x) = Some (h ++ x ∷ [])
 read_one h x = None
 
--- the first n revisions, where the files show so many
-abbrev pub read_back : Disk → ℕ → Option (List Recorded)
-read_back d zero = Some []
-read_back d (suc n) = read_one (read_back d n) (revision_in (found d (Rev n)) (found d (Props n)))
+-- the first n revisions, where the files show so many by this floor
+abbrev pub read_back : ℕ → ℕ → Disk → ℕ → Option (List Recorded)
+read_back size f d zero = Some []
+read_back size f d (suc n) = read_one (read_back size f d n) (revision_in (shown size f d n) (found d (Props n)))
 
 -- the pass of an opening, which has seen n revisions
 abbrev pub first_pass : ℕ → ℕ → Pass
@@ -498,10 +575,10 @@ first_pass n floor = record { seen = n; least = n - 1; mine = []; floor = floor;
 abbrev pub opened : World → ℕ → ℕ → Option (List Recorded) → Did
 opened w k floor None = did w outcome.Missing
 opened w k floor (Some h) =
-    did (record w { disk = Firm ∷ w.disk; lock = Free; young = k; history = h; opening = k + 1; since = []; floor = floor; named = []; txns = []; spent = []; passes = first_pass (k + 1) floor ∷ [] }) outcome.Done
+    did (record w { disk = Firm ∷ w.disk; lock = Free; young = k; history = h; opening = k + 1; since = []; low = floor; floor = floor; named = []; txns = []; spent = []; passes = first_pass (k + 1) floor ∷ [] }) outcome.Done
 
 abbrev pub named : World → Option ℕ → Option ℕ → Did
-named w (Some k) (Some floor) = if nat_lt k (2 ^ 64 - 1) then opened w k floor (read_back w.disk (k + 1)) else did w outcome.Missing
+named w (Some k) (Some floor) = if nat_lt k (2 ^ 64 - 1) then opened w k floor (read_back w.size floor w.disk (k + 1)) else did w outcome.Missing
 named w k floor = did w outcome.Missing
 
 abbrev pub open_at : World → Went → Did
@@ -532,14 +609,16 @@ is_there w p = nat_lt p (length w.passes)
 abbrev pub first_revision : List (List ℕ × List ℕ) → List ℕ → Recorded
 first_revision properties bytes = record { revision = record { tree = finmap.insert finmap.empty [] (empty_node Dir); changes = finmap.empty; properties = properties }; bytes = bytes }
 
-abbrev pub created : List (List ℕ × List ℕ) → List ℕ → World
-created properties bytes = record {
+abbrev pub created : ℕ → List (List ℕ × List ℕ) → List ℕ → World
+created size properties bytes = record {
   disk = Firm ∷ Put Current (Number 0) ∷ Put (Rev 0) (file_of (first_revision properties bytes)) ∷ Put (Props 0) (PropsFile properties) ∷ Put Counter (Number 0) ∷ Put Floor (Number 0) ∷ [];
   lock = Free;
   young = 0;
   history = first_revision properties bytes ∷ [];
   opening = 1;
   since = [];
+  size = size;
+  low = 0;
   floor = 0;
   given = [];
   labels = [];
@@ -557,6 +636,8 @@ Happens w (step.StickLock p) d = d ≡ inside w (stuck_at w) (held_by p w.lock)
 Happens w (step.Draw p b went) d = d ≡ inside w (drawn w p b went) (held_by p w.lock)
 Happens w (step.AdoptRev p t properties bytes went) d = Adopts w p t properties bytes went (has_begun_by p w.lock) d
 Happens w (step.Call p place went) d = d ≡ inside w (called w p place went) (held_by p w.lock)
+Happens w (step.RemoveOld p r went) d = d ≡ inside w (old_removed w p r went) (held_by p w.lock)
+Happens w (step.Beside p place went) d = d ≡ (if is_there w p then did (turned w p place went) (answer went) else barred w)
 Happens w (step.Reveal p) d = d ≡ inside w (revealed w p) (held_by p w.lock)
 Happens w (step.Look p) d = d ≡ (if is_there w p && is_up w.lock then looked w p else barred w)
 Happens w (step.Read p r offset size went) d = d ≡ has_read w p r offset size went (slice_get w.passes p)
@@ -584,4 +665,5 @@ Runs w (s ∷ steps) os v = (d : Did) × Happens w s d × (more : List Outcome) 
 -- where the lock is stuck
 abbrev pub stuck_place : Lock → Option DiskPlace
 stuck_place (Stuck place x) = Some place
+stuck_place (StuckFloor place) = Some place
 stuck_place lock = None

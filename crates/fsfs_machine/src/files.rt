@@ -17,8 +17,11 @@ fn same(a: &FileName, b: &FileName) -> bool
         FileName::Counter => matches!(b, FileName::Counter),
         FileName::CounterNext => matches!(b, FileName::CounterNext),
         FileName::Floor => matches!(b, FileName::Floor),
+        FileName::FloorNext => matches!(b, FileName::FloorNext),
         FileName::Rev(n) => matches!(b, FileName::Rev(m) if *n == *m),
         FileName::Props(n) => matches!(b, FileName::Props(m) if *n == *m),
+        FileName::Pack(n) => matches!(b, FileName::Pack(m) if *n == *m),
+        FileName::Manifest(n) => matches!(b, FileName::Manifest(m) if *n == *m),
     }
 }
 
@@ -58,7 +61,7 @@ pub fn find_number(disk: &VecDeque<NameChange>, name: &FileName) -> Option<u128>
 {
     match find(disk, name) {
         Some(Contents::Number(number)) => Some(*number),
-        Some(Contents::RevFile(_, _, _) | Contents::PropsFile(_) | Contents::Junk) | None => None,
+        _ => None,
     }
 }
 

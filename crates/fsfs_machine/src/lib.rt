@@ -8,11 +8,12 @@ pub mod labels;
 mod line;
 mod machine;
 mod marks;
+pub mod packs;
 pub mod passes;
 pub mod section;
 mod theorem;
 
-pub use contents::{Bytes, Contents, FileName, NameChange};
+pub use contents::{Bytes, Contents, FileName, NameChange, Offsets, Part, Parts};
 pub use line::Line;
 pub use machine::{
     Coming, Drawn, Entry, Lock, Marks, Names, Numbers, Outcome, Pass, Picks, Places, Recorded,

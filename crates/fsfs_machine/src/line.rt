@@ -1,8 +1,9 @@
 //! The history in memory.
-ghost use Rattle.std.specs.Prelude.{◌≡◌, ◌++◌, ◌∷◌, [], length, OnOk};
-ghost use Rattle.fsfs_machine.specs.Machine.{revisions};
+ghost use Rattle.std.specs.Prelude.{◌≡◌, ◌++◌, ◌∷◌, [], length, slice_get, IfOk, OnOk};
+ghost use Rattle.std.specs.Option.{option_copied};
+ghost use Rattle.fsfs_machine.specs.Machine.{revisions, part_at};
 
-use crate::contents::Bytes;
+use crate::contents::{Bytes, Part};
 use fsfs_tree::{History, Revision};
 use std::alloc::{AllocError, Global};
 use std::marker::Model;
@@ -27,6 +28,12 @@ impl Model for Line {
     ghost view = { λ a. recorded_with a.history a.bytes.items };
 
     ghost invariant = { λ a. length a.history ≡ length a.bytes.items };
+}
+
+fn nth(all: &[Bytes], place: usize) -> Option<&Bytes>
+    ensures { option_copied result ≡ slice_get all.now place }
+{
+    all.get(place)
 }
 
 impl Line {
@@ -54,6 +61,24 @@ impl Line {
         ensures { result.now ≡ revisions self.now }
     {
         &self.history
+    }
+
+    /// The revision of this number with its bytes, as a pack has it.
+    #[tactic(auto, using(crate::proofs::LineLemmas::part_found, crate::proofs::LineLemmas::no_revision, crate::proofs::LineLemmas::no_bytes))]
+    pub fn part(&self, alloc: Global, number: usize) -> Result<Option<Part>, AllocError>
+        ensures { IfOk result (λ o. o ≡ part_at (slice_get self.now number)) }
+    {
+        let Some(revision) = self.history.at(number) else {
+            return Ok(None);
+        };
+        let Some(bytes) = nth(&self.bytes, number) else {
+            return Ok(None);
+        };
+        Ok(Some(Part {
+            tree: revision.tree.clone()?,
+            changes: revision.changes.clone()?,
+            bytes: bytes.copy(alloc)?,
+        }))
     }
 
     /// Adds the next revision with its bytes.

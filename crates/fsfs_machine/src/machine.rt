@@ -167,6 +167,20 @@ pub enum Section {
     CurrentFirm(Coming),
     /// A fault at `RenameCurrent` or `FirmCurrent`: the lock is to be stuck at that place.
     Doubtful(DiskPlace, Coming),
+    /// A shard's pack has its name.
+    PackPut,
+    /// And so has the manifest beside it.
+    ManifestPut,
+    /// Both names are firm.
+    PackFirm,
+    /// The new floor is put under its other name.
+    FloorPut,
+    /// It is the floor, though that may not last.
+    FloorRenamed,
+    /// The shard is packed: its revisions' own files may be removed, and the next shard be packed.
+    Packed,
+    /// A fault at `RenameFloor` or `FirmFloor`: the lock is to be stuck at that place.
+    FloorDoubtful(DiskPlace),
     /// Only the lock is left to be given.
     Over,
 }
@@ -181,6 +195,10 @@ pub enum Lock {
     Down,
     /// The same, where the last section may have renamed `current`.
     DownDoubtful(Coming),
+    /// Stuck after a fault at `RenameFloor` or `FirmFloor`: no revision is in doubt.
+    StuckFloor(DiskPlace),
+    /// Closed, or after a crash, where the last section may have renamed `min-unpacked-rev`.
+    DownFloor,
 }
 
 /// Places of faults.
@@ -278,8 +296,20 @@ pub enum Step {
         bytes: Bytes,
         went: Went,
     },
-    /// The call that is due at that place.
+    /// The call that is due at that place; a pack's first call is one of these.
     Call {
+        pass: u64,
+        place: DiskPlace,
+        went: Went,
+    },
+    /// Removes the own file of a revision that is packed.
+    RemoveOld {
+        pass: u64,
+        rev: u64,
+        went: Went,
+    },
+    /// A call of the disk that touches no file and no label of the machine's: a folder, or the bench of a pack.
+    Beside {
         pass: u64,
         place: DiskPlace,
         went: Went,

@@ -4,7 +4,7 @@ ghost use Rattle.fsfs_machine.specs.Machine.{either, is_due, is_quiet, is_up, is
 
 use crate::files::is_fine;
 use crate::machine::{Drawn, Lock, Outcome, Section, Went};
-use fsfs_base::{BeginPlace, CommitPlace, DiskPlace, RevNum};
+use fsfs_base::{BeginPlace, CommitPlace, DiskPlace, PackPlace, RevNum};
 
 /// Whether the lock may be given here.
 pub fn is_quiet_section(section: &Section) -> bool
@@ -12,7 +12,11 @@ pub fn is_quiet_section(section: &Section) -> bool
 {
     !matches!(
         section,
-        Section::CurrentRenamed(_) | Section::CurrentFirm(_) | Section::Doubtful(_, _)
+        Section::CurrentRenamed(_)
+            | Section::CurrentFirm(_)
+            | Section::Doubtful(_, _)
+            | Section::FloorRenamed
+            | Section::FloorDoubtful(_)
     )
 }
 
@@ -29,6 +33,14 @@ pub fn is_due_at(section: &Section, place: DiskPlace) -> bool
         Section::RevFirm(_) => matches!(place, DiskPlace::Commit(CommitPlace::PutCurrent)),
         Section::CurrentPut(_) => matches!(place, DiskPlace::Commit(CommitPlace::RenameCurrent)),
         Section::CurrentRenamed(_) => matches!(place, DiskPlace::Commit(CommitPlace::FirmCurrent)),
+        Section::Begun | Section::Packed => {
+            matches!(place, DiskPlace::Pack(PackPlace::AdoptPack))
+        }
+        Section::PackPut => matches!(place, DiskPlace::Pack(PackPlace::AdoptManifest)),
+        Section::ManifestPut => matches!(place, DiskPlace::Pack(PackPlace::FirmPack)),
+        Section::PackFirm => matches!(place, DiskPlace::Pack(PackPlace::PutFloor)),
+        Section::FloorPut => matches!(place, DiskPlace::Pack(PackPlace::RenameFloor)),
+        Section::FloorRenamed => matches!(place, DiskPlace::Pack(PackPlace::FirmFloor)),
         _ => false,
     }
 }
@@ -44,6 +56,12 @@ fn section_after(section: Section) -> Section
         Section::RevFirm(x) => Section::CurrentPut(x),
         Section::CurrentPut(x) => Section::CurrentRenamed(x),
         Section::CurrentRenamed(x) => Section::CurrentFirm(x),
+        Section::Begun | Section::Packed => Section::PackPut,
+        Section::PackPut => Section::ManifestPut,
+        Section::ManifestPut => Section::PackFirm,
+        Section::PackFirm => Section::FloorPut,
+        Section::FloorPut => Section::FloorRenamed,
+        Section::FloorRenamed => Section::Packed,
         _ => Section::Over,
     }
 }
@@ -58,6 +76,8 @@ fn section_spoiled(section: Section) -> Section
         Section::CurrentRenamed(x) => {
             Section::Doubtful(DiskPlace::Commit(CommitPlace::FirmCurrent), x)
         }
+        Section::FloorPut => Section::FloorDoubtful(DiskPlace::Pack(PackPlace::RenameFloor)),
+        Section::FloorRenamed => Section::FloorDoubtful(DiskPlace::Pack(PackPlace::FirmFloor)),
         _ => Section::Over,
     }
 }
@@ -88,7 +108,7 @@ pub fn drawn_section(name: u128, next: u128, base: RevNum, went: &Went) -> Secti
 pub fn is_lock_up(lock: &Lock) -> bool
     ensures { result ≡ is_up lock.now }
 {
-    !matches!(lock, Lock::Down | Lock::DownDoubtful(_))
+    !matches!(lock, Lock::Down | Lock::DownDoubtful(_) | Lock::DownFloor)
 }
 
 /// Whether the pass is in no section.
@@ -106,6 +126,7 @@ pub fn lock_down(lock: Lock) -> Lock
         Lock::Stuck(_, coming) => Lock::DownDoubtful(coming),
         Lock::DownDoubtful(coming) => Lock::DownDoubtful(coming),
         Lock::Held(_, section) => section_down(section),
+        Lock::StuckFloor(_) | Lock::DownFloor => Lock::DownFloor,
         Lock::Free | Lock::Down => Lock::Down,
     }
 }
@@ -117,6 +138,7 @@ fn section_down(section: Section) -> Lock
         Section::CurrentRenamed(coming) => Lock::DownDoubtful(coming),
         Section::CurrentFirm(coming) => Lock::DownDoubtful(coming),
         Section::Doubtful(_, coming) => Lock::DownDoubtful(coming),
+        Section::FloorRenamed | Section::FloorDoubtful(_) => Lock::DownFloor,
         _ => Lock::Down,
     }
 }

@@ -22,6 +22,7 @@ use Rattle.fsfs_pass.specs.SeatCalls.Made.{Made, carried, failed_of, once}
 use Rattle.fsfs_pass.specs.SeatCalls.Tells.{MayAdoptIt, AdoptedBy, IsPutOf, adopted_back}
 use Rattle.fsfs_pass.proofs.Lasting.{IsPassingChange, HasPassingName, rev_passes}
 use Rattle.fsfs_pass.proofs.FilesLast.{made_lasts, made_own}
+use Rattle.fsfs_pass.proofs.LabelsStay.{IsByNames, made_stay}
 use Rattle.fsfs_pass.proofs.Going.{IsShort, StaysSure, after_more, Turn, gives_so}
 use Rattle.fsfs_pass.proofs.SectionCalls.{result_of, ended_so, made_well, put_ill, made_told, adopted_stays}
 
@@ -38,10 +39,11 @@ adopted_turn me d t a bytes name change may named put made told old is young w s
     inl (
       c.0,
       c.2,
-      after_more me.layout young (stuck_place w.lock) c.0 w v (λ u. Adopted a.txn a.properties a.next bytes c.1 v u) (λ u. StaysSure v u × AdoptedBy a bytes d.failed v u)
-          (λ u _ k. (adopted_stays a.txn a.properties a.next bytes c.1 v u k, (c.1, ended_so d.failed c.1 c.3, k))) c.4,
+      after_more me.layout me.low young (stuck_place w.lock) c.0 w v (λ u. Adopted a.txn a.properties a.next bytes c.1 v u) (λ u. StaysSure w.given v u × AdoptedBy a bytes d.failed v u)
+          (λ u _ k. (adopted_stays a.txn a.properties a.next bytes c.1 w.given v u k, (c.1, ended_so d.failed c.1 c.3, k))) c.4,
       made_lasts me.layout (length w.history) old c.0 d.failed change (passes put (all c.4)) (subst (λ o. Made d.failed change (Some old) o) c.2 here),
       made_own me.layout me.since old c.0 d.failed change spares (subst (λ o. Made d.failed change (Some old) o) c.2 here),
+      made_stay me.given old c.0 d.failed change by_names (subst (λ o. Made d.failed change (Some old) o) c.2 here),
     )
   where
     v : View
@@ -51,7 +53,7 @@ adopted_turn me d t a bytes name change may named put made told old is young w s
     here = subst (λ o. Made d.failed change o d.trace) is made
 
     -- the pass has seen the history as it is
-    all : {went : Went} {new : Trace} → IsAfter me.layout young (stuck_place w.lock) new w v (λ u. Adopted a.txn a.properties a.next bytes went v u) → length w.history ≤ length v.seen
+    all : {went : Went} {new : Trace} → IsAfter me.layout me.low young (stuck_place w.lock) new w v (λ u. Adopted a.txn a.properties a.next bytes went v u) → length w.history ≤ length v.seen
     all k = let e : length v.seen ≡ length w.history = sym (ap (λ (x : View). length x.seen) k.turned.is) ∙ ap length k.all in omega (arith, e)
 
     -- its name is that of a revision to come
@@ -64,13 +66,17 @@ adopted_turn me d t a bytes name change may named put made told old is young w s
     spares = let apart : IsNotOwn name = adopt_spares v a.txn a.properties a.next bytes may name named in
         ⊎_elim (λ same. subst (λ k. SparesOwn k) (sym same) apart) (λ same. subst (λ k. SparesOwn k) (sym same) apart) put
 
-    comes : IsPutOf name bytes change → Comes me.layout young (stuck_place w.lock) d.trace w v (result_of d.failed) (λ went u. Adopted a.txn a.properties a.next bytes went v u)
+    -- nor a label
+    by_names : IsByNames me.given change
+    by_names = ⊎_elim (λ same. subst (λ k. IsByNames me.given k) (sym same) tt) (λ same. subst (λ k. IsByNames me.given k) (sym same) tt) put
+
+    comes : IsPutOf name bytes change → Comes me.layout me.low young (stuck_place w.lock) d.trace w v (result_of d.failed) (λ went u. Adopted a.txn a.properties a.next bytes went v u)
     comes put = ⊎_elim
         (λ same. let m : Made d.failed (real.Put name bytes) (Some old) d.trace = subst (λ k. Made d.failed k (Some old) d.trace) same here in
-        adopt_comes me.layout young (stuck_place w.lock) old w v store sees refl safe a.txn a.properties a.next bytes may d.trace name (result_of d.failed) named
+        adopt_comes me.layout me.low young (stuck_place w.lock) old w v store sees refl safe a.txn a.properties a.next bytes may d.trace name (result_of d.failed) named
         (made_well d.failed (real.Put name bytes) (Some old) d.trace m) (put_ill d.failed name bytes (Some old) d.trace m))
         (λ same. let m : Made d.failed (real.Adopt name bytes) (Some old) d.trace = subst (λ k. Made d.failed k (Some old) d.trace) same here in
-        adopt_file_comes me.layout young (stuck_place w.lock) old w v store sees refl safe a.txn a.properties a.next bytes may (Unit {0}) (Unit {0}) d.trace name (result_of d.failed) named
+        adopt_file_comes me.layout me.low young (stuck_place w.lock) old w v store sees refl safe a.txn a.properties a.next bytes may (Unit {0}) (Unit {0}) d.trace name (result_of d.failed) named
         (made_well d.failed (real.Adopt name bytes) (Some old) d.trace m) (file_ill d.failed name bytes (Some old) d.trace m)) put
 
 pub gives_adopted : (a : Adoption) (bytes : List ℕ) (began : DiskSeen) (first : SeatView) (slots id : ℕ) (me : Sat) (d : DiskSeen) → IsSitting me.0 → IsShort d → (was : DiskSeen) (name : List ℕ) (change : real.NameChange) → 0 < slots → me.1 ≡ (0, Some d) ∷ [] → me.0.hand ≡ Out was → IsLater (once d.failed) 0 was d → Made d.failed change was.trace d.trace

@@ -1,5 +1,5 @@
 -- A begin's first call, as the disk goes back.
-use Rattle.std.proofs.Common.{◌≡◌, ◌⊎◌, ◌<◌, ◌≤◌, ◌-◌, ◌^◌, ℕ, suc, zero, List, [], ◌∷◌, length, true, ⊎_elim, inl, inr, refl, sym, ap, ◌∙◌, arith}
+use Rattle.std.proofs.Common.{◌≡◌, ◌⊎◌, ◌<◌, ◌≤◌, ◌-◌, ◌^◌, ℕ, suc, zero, List, [], ◌∷◌, length, true, ⊎_elim, inl, inr, refl, sym, ap, subst, ◌∙◌, arith}
 use Rattle.std.specs.Prelude.{Option, Some, is_some}
 use mathlib.Core.Option.{none}
 use Rattle.atomic_table.specs.Table.{step, Allows}
@@ -15,7 +15,7 @@ use Rattle.fsfs_machine.specs.declared.machine.Section.TheVariants.{Begun, Count
 use Rattle.fsfs_machine.specs.declared.machine.Went.{Went}
 use Rattle.fsfs_machine.specs.Disk.{found}
 use Rattle.fsfs_machine.specs.Machine.{stuck_place, last_name}
-use Rattle.fsfs_machine.specs.Kept.{AllBelow}
+use Rattle.fsfs_machine.specs.Kept.{AllBelow, IsIn}
 use Rattle.fsfs_turn.specs.Views.{View, is_held}
 use Rattle.fsfs_turn.specs.Alone.{are_harmless, is_doubtful_at}
 use Rattle.fsfs_turn.specs.Learning.{CounterRead, drawn_of}
@@ -39,8 +39,8 @@ less_or_not zero (suc b) = inl (omega arith)
 less_or_not (suc a) zero = inr (omega arith)
 less_or_not (suc a) (suc b) = ⊎_elim (λ l. inl (omega (arith, l))) (λ l. inr (omega (arith, l))) (less_or_not a b)
 
-drawn_stays : (base number : ℕ) (went : Went) (v u : View) → CounterRead base number went v u → StaysSure v u
-drawn_stays base number went v u k = record {
+drawn_stays : (base number : ℕ) (went : Went) (given : List ℕ) (v u : View) → CounterRead base number went v u → StaysSure given v u
+drawn_stays base number went given v u k = record {
   same = ap (λ (x : View). x.sure) k.is;
   least = ap (λ (x : View). x.pass.least) k.is;
   mine = ap (λ (x : View). x.pass.mine) k.is;
@@ -48,6 +48,7 @@ drawn_stays base number went v u k = record {
   held = λ _. ap (λ (x : View). is_held x.section) k.is;
   harm = λ few. harmless_before went v.pass.faults (place.Begin begin.Read) (sym (ap (λ (x : View). are_harmless x.pass.faults) k.is) ∙ few);
   calm = λ few so. ap (λ (x : View). is_doubtful_at x.section) k.is ∙ either_calm went (CountRead (drawn_of base number)) Over refl refl;
+  names = λ j i. inl (subst (λ ks. IsIn j ks) (ap (λ (x : View). x.given) k.is) i);
 }
 
 pub drawn_turn : (me : SeatView) (d : DiskSeen) (t : Option Trace) (base : ℕ) → d.trace ≡ t → me.section ≡ Some Begun → base ≤ me.pass.least → Turn me d t (DrawnBy base d.trace (went_of d.failed) (view_of me))
@@ -55,11 +56,12 @@ drawn_turn me d t base same begun least told old is young w store sees safe = �
     (λ few. inl (
       old,
       same ∙ is,
-      after_more me.layout young (stuck_place w.lock) old w v (λ u. CounterRead base at.0 went v u) (λ u. StaysSure v u × DrawnBy base d.trace went v u)
-          (λ u _ k. (drawn_stays base at.0 went v u k, drawn u (λ _. k) (λ many. absurd (omega (arith, few, many)))))
-          (counter_turns me.layout young (stuck_place w.lock) old w v store sees safe base begun least few went),
+      after_more me.layout me.low young (stuck_place w.lock) old w v (λ u. CounterRead base at.0 went v u) (λ u. StaysSure w.given v u × DrawnBy base d.trace went v u)
+          (λ u _ k. (drawn_stays base at.0 went w.given v u k, drawn u (λ _. k) (λ many. absurd (omega (arith, few, many)))))
+          (counter_turns me.layout me.low young (stuck_place w.lock) old w v store sees safe base begun least few went),
       lasts_same me.layout (length w.history) (files_now old),
       λ own. own,
+      λ l other. refl,
     ))
     (λ many. inr (same ∙ is, (true, names_full me.section w.disk me.full (at.0, at.1, many) sees.names, drawn (record v { full = true }) (λ few. absurd (omega (arith, few, many))) (λ _. refl)))) (less_or_not at.0 last_name)
   where
@@ -70,10 +72,10 @@ drawn_turn me d t base same begun least told old is young w store sees safe = �
     went = went_of d.failed
 
     at : (k : ℕ) × (found w.disk Counter ≡ Some (Number k)) × AllBelow k w.given
-    at = counter me.layout young (stuck_place w.lock) old w v store sees safe base begun least
+    at = counter me.layout me.low young (stuck_place w.lock) old w v store sees safe base begun least
 
     file : (text : List ℕ) × (file_at old (only_name TxnCurrent) ≡ Some text) × IsBase36Line text at.0
-    file = counter_file me.layout young (stuck_place w.lock) old w v store sees safe base begun least
+    file = counter_file me.layout me.low young (stuck_place w.lock) old w v store sees safe base begun least
 
     drawn : (u : View) → (at.0 < last_name → CounterRead base at.0 went v u) → (last_name ≤ at.0 → u ≡ record v { full = true }) → DrawnBy base d.trace went v u
     drawn u turned full = record { trace = old; told_is = same ∙ is; text = file.0; number = at.0; line = file.2; there = file.1; turned = turned; full = full }

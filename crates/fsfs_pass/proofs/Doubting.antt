@@ -6,7 +6,7 @@ use Rattle.fsfs_base.specs.declared.places.place.DiskPlace.TheVariants.{Read, Be
 use Rattle.fsfs_base.specs.declared.places.place.BeginPlace.TheVariants as begin
 use Rattle.fsfs_base.specs.declared.places.place.CommitPlace.TheVariants.{PutProps, FirmRev, PutCurrent, RenameCurrent, FirmCurrent}
 use Rattle.fsfs_machine.specs.declared.machine.Section.{Section}
-use Rattle.fsfs_machine.specs.declared.machine.Section.TheVariants.{Begun, CountRead, CountPut, CountRenamed, RevPut, PropsPut, RevFirm, CurrentPut, CurrentRenamed, CurrentFirm, Doubtful, Over}
+use Rattle.fsfs_machine.specs.declared.machine.Section.TheVariants.{Begun, CountRead, CountPut, CountRenamed, RevPut, PropsPut, RevFirm, CurrentPut, CurrentRenamed, CurrentFirm, Doubtful, PackPut, ManifestPut, PackFirm, FloorPut, FloorRenamed, FloorDoubtful, Packed, Over}
 use Rattle.fsfs_machine.specs.declared.machine.Went.{Went}
 use Rattle.fsfs_machine.specs.declared.machine.Went.TheVariants.{Fine, Before, After, Torn}
 use Rattle.fsfs_machine.specs.Machine.{either, after, spoiled}
@@ -51,6 +51,13 @@ spoiled_doubtful (CurrentPut x) = refl
 spoiled_doubtful (CurrentRenamed x) = refl
 spoiled_doubtful (CurrentFirm x) = refl
 spoiled_doubtful (Doubtful place x) = refl
+spoiled_doubtful PackPut = refl
+spoiled_doubtful ManifestPut = refl
+spoiled_doubtful PackFirm = refl
+spoiled_doubtful FloorPut = refl
+spoiled_doubtful FloorRenamed = refl
+spoiled_doubtful (FloorDoubtful place) = refl
+spoiled_doubtful Packed = refl
 spoiled_doubtful Over = refl
 
 -- where the faults behind the call that was due are harmless, its section isn't in doubt

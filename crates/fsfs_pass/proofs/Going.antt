@@ -7,7 +7,7 @@ use Rattle.atomic_table.specs.Table.{Act, step, gives, rest, carried_after, Vali
 use Rattle.fsfs_layout.specs.declared.layout.Layout.{Layout}
 use Rattle.fsfs_fetch.specs.Views.{Later}
 use Rattle.fsfs_disk.specs.Benches.{HasShortFiles}
-use Rattle.fsfs_disk.specs.Trace.{Trace, files_now}
+use Rattle.fsfs_disk.specs.Trace.{Trace, files_now, labels_now}
 use Rattle.fsfs_base.specs.declared.places.place.DiskPlace.{DiskPlace}
 use Rattle.fsfs_base.proofs.ResultLemmas.{none_of}
 use Rattle.fsfs_machine.specs.declared.machine.Section.{Section}
@@ -40,6 +40,9 @@ use Rattle.fsfs_pass.proofs.Rules.{St, seat_stays, restored, returned}
 use Rattle.fsfs_pass.specs.SeatCalls.Made.{once, risen}
 use Rattle.fsfs_pass.specs.SeatCalls.Tells.{IsBack, GivenBack, Back, counting}
 use Rattle.fsfs_pass.proofs.FilesLast.{OwnStays}
+use Rattle.fsfs_pass.specs.OtherLabels.{AreAbove, KeepsOthers, KeepsOthersOf}
+use Rattle.fsfs_pass.proofs.LabelsStay.{OthersStay, below_some, stay_keeps}
+use Rattle.fsfs_machine.specs.Kept.{AllBelow, IsIn, most_floor, may_rise}
 
 -- the word of the lock stays
 word_stays : (p : ℕ) (before after : Lock) → StaysWith p before after → lock_word after ≡ lock_word before
@@ -60,8 +63,9 @@ pub seat_knows : (failed : Bool) (left : Option Trace) (m : SeatView) (u : View)
 seat_knows failed left m u layout since opened number sure doubt_is = λ i. record { layout = layout i; since = since i; opened = opened i; number = number i; pass = u.pass; seen = u.seen; section = u.section; sure = sure i; left = doubt_is i; given = u.given; full = u.full }
 
 -- Of each call: the pass is as sure as it was, was told no more, has no more revisions of its own, and found the lock stuck no more than before; who
--- holds the lock holds it still; and its section is in doubt only behind a fault that leaves a revision so.
-pub record StaysSure (v u : View) : Type 0 where
+-- holds the lock holds it still; and its section is in doubt only behind a fault that leaves a revision so. A name that it didn't know to be
+-- given is above all that were.
+pub record StaysSure (given : List ℕ) (v u : View) : Type 0 where
   pub same : u.sure ≡ v.sure
   pub least : u.pass.least ≡ v.pass.least
   pub mine : u.pass.mine ≡ v.pass.mine
@@ -69,10 +73,11 @@ pub record StaysSure (v u : View) : Type 0 where
   pub held : is_held v.section ≡ true → is_held u.section ≡ true
   pub harm : are_harmless u.pass.faults ≡ true → are_harmless v.pass.faults ≡ true
   pub calm : are_harmless u.pass.faults ≡ true → is_doubtful_at v.section ≡ false → is_doubtful_at u.section ≡ false
+  pub names : (k : ℕ) → IsIn k u.given → IsIn k v.given ⊎ AllBelow k given
 
 -- of what the pass knows after a call something else holds too
-pub after_more : (layout : Layout) (young : ℕ) (stuck : Option DiskPlace) (t : Trace) (w : World) (v : View) (P Q : View → Type 0) → ((u : View) → u.seen ≡ w.history → P u → Q u) → IsAfter layout young stuck t w v P → IsAfter layout young stuck t w v Q
-after_more layout young stuck t w v P Q more a = record { world = a.world; view = a.view; store = a.store; sees = a.sees; turned = more a.view a.all a.turned; safe = a.safe; leaves = a.leaves; layout_is = a.layout_is; since_is = a.since_is; opened_is = a.opened_is; number_is = a.number_is; left_is = a.left_is; all = a.all }
+pub after_more : (layout : Layout) (low young : ℕ) (stuck : Option DiskPlace) (t : Trace) (w : World) (v : View) (P Q : View → Type 0) → ((u : View) → u.seen ≡ w.history → P u → Q u) → IsAfter layout low young stuck t w v P → IsAfter layout low young stuck t w v Q
+after_more layout low young stuck t w v P Q more a = record { world = a.world; view = a.view; store = a.store; sees = a.sees; turned = more a.view a.all a.turned; safe = a.safe; leaves = a.leaves; layout_is = a.layout_is; since_is = a.since_is; opened_is = a.opened_is; number_is = a.number_is; left_is = a.left_is; all = a.all }
 
 module _ (first : SeatView) (views : List SeatView) (lock young : ℕ) (t : Trace) (s : Store first views lock young t) (id : ℕ) (me : SeatView) (at : Sits views id me) where
   abbrev w : World
@@ -82,17 +87,17 @@ module _ (first : SeatView) (views : List SeatView) (lock young : ℕ) (t : Trac
   own = seated first views lock young t s id me at
 
   -- the store, as one pass has it
-  pub stands : IsStore me.layout young (stuck_place w.lock) t w
-  stands = subst (λ l. IsStore l young (stuck_place w.lock) t w) (sym own.layout) s.store
+  pub stands : IsStore me.layout me.low young (stuck_place w.lock) t w
+  stands = subst (λ (y : Layout × ℕ). IsStore y.0 y.1 young (stuck_place w.lock) t w) (λ i. (sym own.layout i, sym own.low i)) s.store
 
-  pub stands_safe : Safe me.layout me.since t me.opened w.floor w.history (doubt w.lock)
-  stands_safe = subst (λ l. Safe l me.since t me.opened w.floor w.history (doubt w.lock)) (sym own.layout) (seat_safe first views lock young t s id me at)
+  pub stands_safe : Safe me.layout me.since t me.opened w.history (doubt w.lock)
+  stands_safe = subst (λ l. Safe l me.since t me.opened w.history (doubt w.lock)) (sym own.layout) (seat_safe first views lock young t s id me at)
 
   met_own : Met me.layout w t me own.met.0
   met_own = subst (λ l. Met l w t me own.met.0) (sym own.layout) own.met.2
 
   -- after a call of the disk that left it so
-  module _ (k : ℕ) (failed : Bool) (left : Option Trace) (new : Trace) (left_is : left ≡ Some new) (P : View → Type 0) (a : IsAfter me.layout young (stuck_place w.lock) new w (view_of me) (λ u. StaysSure (view_of me) u × P u))
+  module _ (k : ℕ) (failed : Bool) (left : Option Trace) (new : Trace) (left_is : left ≡ Some new) (P : View → Type 0) (a : IsAfter me.layout me.low young (stuck_place w.lock) new w (view_of me) (λ u. StaysSure w.given (view_of me) u × P u))
       (lasts : Lasts me.layout (length w.history) (files_now t) (files_now new)) (owns : OwnStays me.layout me.since t new) (short : HasShortFiles (files_now new)) where
     abbrev after_call : SeatView
     after_call = seat_with failed left (counting k me) a.view
@@ -100,11 +105,11 @@ module _ (first : SeatView) (views : List SeatView) (lock young : ℕ) (t : Trac
     view_is : a.view ≡ view_of after_call
     view_is = seat_knows failed left (counting k me) a.view a.layout_is a.since_is a.opened_is a.number_is a.turned.0.same a.left_is
 
-    moved : Moved me.layout young new w (view_of me) (view_of after_call) a.world.lock
-    moved = subst (λ u. Moved me.layout young new w (view_of me) u a.world.lock) view_is (call_moved me.layout young (stuck_place w.lock) new w (view_of me) (λ u. StaysSure (view_of me) u × P u) a)
+    moved : Moved me.layout me.low young new w (view_of me) (view_of after_call) a.world.lock
+    moved = subst (λ u. Moved me.layout me.low young new w (view_of me) u a.world.lock) view_is (call_moved me.layout me.low young (stuck_place w.lock) new w (view_of me) (λ u. StaysSure w.given (view_of me) u × P u) a)
 
-    here : Moved first.layout young new w (view_of me) (view_of after_call) a.world.lock
-    here = subst (λ l. Moved l young new w (view_of me) (view_of after_call) a.world.lock) own.layout moved
+    here : Moved first.layout first.low young new w (view_of me) (view_of after_call) a.world.lock
+    here = subst (λ (y : Layout × ℕ). Moved y.0 y.1 young new w (view_of me) (view_of after_call) a.world.lock) (λ i. (own.layout i, own.low i)) moved
 
     owns_here : OwnFilesLast first.layout first.since (Some new)
     owns_here = subst (λ (y : Layout × Since). OwnStays y.0 y.1 t new) (λ i. (own.layout i, own.since i)) owns s.own
@@ -127,14 +132,14 @@ module _ (first : SeatView) (views : List SeatView) (lock young : ℕ) (t : Trac
         }
 
     pub goes_after : Store first (slice_set views id after_call) lock young new
-    goes_after = goes_on first views lock young t s id me at after_call a.world.lock lock young new here refl
+    goes_after = goes_on first views lock young t s id me at after_call a.world.lock lock young new here refl refl
         (s.lock_is ∙ sym (word_stays me.number w.lock a.world.lock a.leaves.lock)) (λ e. a.turned.0.held (own.sure e)) (subst (λ l. Lasts l (length w.history) (files_now t) (files_now new)) own.layout lasts) owns_here short
         (meets first views lock young t s id me at after_call a.world.lock young new here left_is) adds turns (inl (ap (λ l. stuck_with l) here.lock_is ∙ stuck_stays me.number w.lock a.world.lock a.leaves.lock, refl))
 
     -- what it has seen stands in the files
-    pub seen_after : me.told ≡ true → TellsSeen (seat_store after_call) (view_of after_call)
-    seen_after told = tells_seen moved.world new new after_call (met_now me.layout young (stuck_place a.world.lock) new moved.world after_call moved.store (seen_within moved.world (view_of after_call) moved.sees)
-        (seen_of (length moved.world.history) moved.world.floor moved.world.passes me.number after_call.pass moved.store.kept.seen moved.sees.pass).least) told left_is moved.sees
+    pub seen_after : me.told ≡ true → TellsSeen me.low (seat_store after_call) (view_of after_call)
+    seen_after told = tells_seen moved.world new new after_call (met_now me.layout me.low young (stuck_place a.world.lock) new moved.world after_call moved.store (seen_within moved.world (view_of after_call) moved.sees)
+        (seen_of (length moved.world.history) moved.world.low (most_floor (may_rise moved.world.lock) moved.world.size moved.world.floor) moved.world.passes me.number after_call.pass moved.store.kept.seen moved.sees.pass).least) moved.store.low_is told left_is moved.sees
 
     -- it has seen what it had, and more
     further : me.told ≡ true → known_last me ≤ known_last after_call
@@ -146,7 +151,7 @@ module _ (first : SeatView) (views : List SeatView) (lock young : ℕ) (t : Trac
 
     pub later_after : me.told ≡ true → Later (seat_store me) (seat_store after_call)
     later_after told = later_now moved.world new own.met.0 me after_call
-        (met_after me.layout me.number w moved.world t new own.met.0 me me moved.spares lasts (omega arith) (omega arith) met_own) told own.met.1 left_is refl (further told)
+        (met_after me.layout me.number w moved.world t new own.met.0 me me moved.spares lasts (omega arith) (omega arith) met_own) told own.met.1 left_is refl refl (further told)
 
     pub tells_after : P (view_of after_call)
     tells_after = subst P view_is a.turned.1
@@ -160,16 +165,16 @@ module _ (first : SeatView) (views : List SeatView) (lock young : ℕ) (t : Trac
     sees_still = let e = own.sees in record { pass = e.pass; seen = e.seen; section = e.section; up = e.up; sure = e.sure; whole = e.whole; given = e.given; opened = e.opened; shown = e.shown; names = names }
 
     met_same : Met first.layout w t as_it_was t
-    met_same = met_now first.layout young (stuck_place w.lock) t w as_it_was s.store (seen_within w (view_of me) own.sees) (seen_of (length w.history) w.floor w.passes me.number me.pass s.store.kept.seen own.sees.pass).least
+    met_same = met_now first.layout first.low young (stuck_place w.lock) t w as_it_was s.store (seen_within w (view_of me) own.sees) (seen_of (length w.history) w.low (most_floor (may_rise w.lock) w.size w.floor) w.passes me.number me.pass s.store.kept.seen own.sees.pass).least
 
     pub still : Store first (slice_set views id as_it_was) lock young t
-    still = restored first views lock young t id me as_it_was at s (record { number = own.number; sees = sees_still; sure = own.sure; layout = own.layout; since = own.since; opened = own.opened; met = (t, left_is, met_same) }) refl (omega arith) (quiet_turn me as_it_was lock refl refl refl) refl
+    still = restored first views lock young t id me as_it_was at s (record { number = own.number; sees = sees_still; sure = own.sure; layout = own.layout; low = own.low; since = own.since; opened = own.opened; met = (t, left_is, met_same) }) refl (omega arith) (quiet_turn me as_it_was lock refl refl refl) refl
 
-    pub seen_still : me.told ≡ true → TellsSeen (seat_store as_it_was) (view_of as_it_was)
-    seen_still told = tells_seen w t t as_it_was (subst (λ l. Met l w t as_it_was t) (sym own.layout) met_same) told left_is sees_still
+    pub seen_still : me.told ≡ true → TellsSeen me.low (seat_store as_it_was) (view_of as_it_was)
+    seen_still told = tells_seen w t t as_it_was (subst (λ l. Met l w t as_it_was t) (sym own.layout) met_same) (s.store.low_is ∙ sym own.low) told left_is sees_still
 
     pub later_still : me.told ≡ true → Later (seat_store me) (seat_store as_it_was)
-    later_still told = later_now w t own.met.0 me as_it_was met_own told own.met.1 left_is refl (omega arith)
+    later_still told = later_now w t own.met.0 me as_it_was met_own told own.met.1 left_is refl refl (omega arith)
 
 -- ---- the disk goes back
 
@@ -189,8 +194,8 @@ short_met (Some t) short = short
 -- nothing has changed but
 -- that it may know that no name is left.
 abbrev pub Turn : SeatView → DiskSeen → Option Trace → (View → Type 0) → Type 0
-Turn me d t P = me.told ≡ true → (old : Trace) → t ≡ Some old → (young : ℕ) (w : World) → IsStore me.layout young (stuck_place w.lock) old w → Sees w (view_of me) → Safe me.layout me.since old me.opened w.floor w.history (doubt w.lock)
-    → ((new : Trace) × (d.trace ≡ Some new) × IsAfter me.layout young (stuck_place w.lock) new w (view_of me) (λ u. StaysSure (view_of me) u × P u) × Lasts me.layout (length w.history) (files_now old) (files_now new) × OwnStays me.layout me.since old new) ⊎ ((d.trace ≡ Some old) × ((full : Bool) × KnowsNames full me.section w.disk × P (record (view_of me) { full = full })))
+Turn me d t P = me.told ≡ true → (old : Trace) → t ≡ Some old → (young : ℕ) (w : World) → IsStore me.layout me.low young (stuck_place w.lock) old w → Sees w (view_of me) → Safe me.layout me.since old me.opened w.history (doubt w.lock)
+    → ((new : Trace) × (d.trace ≡ Some new) × IsAfter me.layout me.low young (stuck_place w.lock) new w (view_of me) (λ u. StaysSure w.given (view_of me) u × P u) × Lasts me.layout (length w.history) (files_now old) (files_now new) × OwnStays me.layout me.since old new × OthersStay me.given old new) ⊎ ((d.trace ≡ Some old) × ((full : Bool) × KnowsNames full me.section w.disk × P (record (view_of me) { full = full })))
 
 pub one_trace : (a b : Trace) → Some a ≡ Some b → a ≡ b
 one_trace a b e = cc
@@ -214,18 +219,21 @@ module _ (began : DiskSeen) (first : SeatView) (slots id : ℕ) (me : Sat) (d : 
   met_is = r.met id me.0 at (seat_stays me.0 sits) ∙ sym (r.told id me.0 at (seat_stays me.0 sits))
 
   -- the seat knows so much, and the table holds such a store
-  goes_so : (u : SeatView) → u.hand ≡ Empty → u.failures ≡ risen d.failed me.0.failures → u.bench_failures ≡ me.0.bench_failures + k → u.told ≡ me.0.told → u.kin ≡ me.0.kin → u.met ≡ d.trace → IsBack d.failed (counting k me.0) u → (me.0.told ≡ true → TellsSeen (seat_store u) (view_of u)) → Later (seat_store me.0) (seat_store u) → (me.0.told ≡ true → P (view_of u))
+  goes_so : (u : SeatView) → u.hand ≡ Empty → u.failures ≡ risen d.failed me.0.failures → u.bench_failures ≡ me.0.bench_failures + k → u.told ≡ me.0.told → u.kin ≡ me.0.kin → u.met ≡ d.trace → IsBack d.failed (counting k me.0) u → AreAbove first.given u.given → KeepsOthersOf first.given r.disk.trace d.trace → (me.0.told ≡ true → TellsSeen u.low (seat_store u) (view_of u)) → Later (seat_store me.0) (seat_store u) → (me.0.told ≡ true → P (view_of u))
       → ((new : Trace) → d.trace ≡ Some new → Store first (slice_set s.views id u) r.lock r.young new) → Goes
-  goes_so u hand failed benches told kin met back tells follows step store = (
+  goes_so u hand failed benches told kin met back names keeps tells follows step store = (
     u,
     gives,
     tt,
-    returned began first s r id me.0 u d me.1 was (once d.failed) k (at, sits) (omega (arith, room, long)) carries has later hand (failed ∙ risen_once d.failed me.0.failures) benches told (ap (λ o. is_some o) met) same kin (λ all. met) store,
+    returned began first s r id me.0 u d me.1 was (once d.failed) k (at, sits) (omega (arith, room, long)) carries has later hand (failed ∙ risen_once d.failed me.0.failures) benches told (ap (λ o. is_some o) met) same kin (λ all. met) names keeps store,
     (
       ap (λ (cs : List (ℕ × Option DiskSeen)). rest cs) carries,
       record { back = back; left = met; was = met_is; tells = (ap (λ o. is_some o) met ∙ same ∙ sym told_is ∙ sym told, (λ is. tells (sym told ∙ is)), subst (λ o. IfSome (option_map files_now o) HasShortFiles) (sym met) (short_met d.trace short)); later = follows; step = step },
     ),
   )
+
+  keeps_at : (old new : Trace) → r.disk.trace ≡ Some old → d.trace ≡ Some new → KeepsOthers first.given (labels_now old) (labels_now new) → KeepsOthersOf first.given r.disk.trace d.trace
+  keeps_at old new was now keeps = subst (λ (o : Option Trace × Option Trace). KeepsOthersOf first.given o.0 o.1) (λ i. (sym was i, sym now i)) keeps
 
   short_at : (new : Trace) → d.trace ≡ Some new → HasShortFiles (files_now new)
   short_at new is = subst (λ o. IfSome o (λ t. HasShortFiles (files_now t))) is short
@@ -234,16 +242,20 @@ module _ (began : DiskSeen) (first : SeatView) (slots id : ℕ) (me : Sat) (d : 
   by_trace None is =
       let untold : me.0.told ≡ false = told_is ∙ ap (λ o. is_some o) is in
       goes_so (seat_as d.failed d.trace me.0.full (counting k me.0)) refl refl refl refl refl refl refl
+      (r.names id me.0 at)
+      (subst (λ o. KeepsOthersOf first.given o d.trace) (sym (there ∙ is)) tt)
       (λ told. let e : true ≡ false = sym told ∙ untold in absurd cc)
-      (later_untold me.0 (seat_as d.failed d.trace me.0.full (counting k me.0)) untold (none_of me.0.met (met_is ∙ untold)) refl)
+      (later_untold me.0 (seat_as d.failed d.trace me.0.full (counting k me.0)) untold (none_of me.0.met (met_is ∙ untold)) refl refl)
       (λ told. let e : true ≡ false = sym told ∙ untold in absurd cc)
       (λ new told. let e : true ≡ false = ap (λ o. is_some o) (sym told) ∙ same ∙ ap (λ o. is_some o) is in absurd cc)
   by_trace (Some old) is =
       let held : Store first s.views r.lock r.young old = r.store old (there ∙ is) in
       let told : me.0.told ≡ true = told_is ∙ ap (λ o. is_some o) is in
       ⊎_elim
-      (λ (x : (new : Trace) × (d.trace ≡ Some new) × IsAfter me.0.layout r.young (stuck_place held.world.lock) new held.world (view_of me.0) (λ u. StaysSure (view_of me.0) u × P u) × Lasts me.0.layout (length held.world.history) (files_now old) (files_now new) × OwnStays me.0.layout me.0.since old new).
+      (λ (x : (new : Trace) × (d.trace ≡ Some new) × IsAfter me.0.layout me.0.low r.young (stuck_place held.world.lock) new held.world (view_of me.0) (λ u. StaysSure held.world.given (view_of me.0) u × P u) × Lasts me.0.layout (length held.world.history) (files_now old) (files_now new) × OwnStays me.0.layout me.0.since old new × OthersStay me.0.given old new).
       goes_so (seat_with d.failed d.trace (counting k me.0) x.2.view) refl refl refl refl refl refl refl
+      (λ n i. ⊎_elim (λ was. r.names id me.0 at n was) (λ above. below_some n held.world.given first.given above held.before) (x.2.turned.0.names n i))
+      (keeps_at old x.0 (there ∙ is) x.1 (stay_keeps first.given me.0.given old x.0 (r.names id me.0 at) x.5))
       (seen_after first s.views r.lock r.young old held id me.0 (at, sits) k d.failed d.trace x.0 x.1 P x.2 x.3 x.4 (short_at x.0 x.1))
       (later_after first s.views r.lock r.young old held id me.0 (at, sits) k d.failed d.trace x.0 x.1 P x.2 x.3 x.4 (short_at x.0 x.1) told)
       (λ _. tells_after first s.views r.lock r.young old held id me.0 (at, sits) k d.failed d.trace x.0 x.1 P x.2 x.3 x.4 (short_at x.0 x.1))
@@ -251,6 +263,8 @@ module _ (began : DiskSeen) (first : SeatView) (slots id : ℕ) (me : Sat) (d : 
       (goes_after first s.views r.lock r.young old held id me.0 (at, sits) k d.failed d.trace x.0 x.1 P x.2 x.3 x.4 (short_at x.0 x.1))))
       (λ (x : (d.trace ≡ Some old) × ((full : Bool) × KnowsNames full me.0.section held.world.disk × P (record (view_of me.0) { full = full }))).
       goes_so (seat_as d.failed d.trace x.1.0 (counting k me.0)) refl refl refl refl refl refl refl
+      (r.names id me.0 at)
+      (keeps_at old old (there ∙ is) x.0 (λ l other. refl))
       (seen_still first s.views r.lock r.young old held id me.0 (at, sits) k d.failed d.trace x.0 x.1.0 x.1.1)
       (later_still first s.views r.lock r.young old held id me.0 (at, sits) k d.failed d.trace x.0 x.1.0 x.1.1 told)
       (λ _. x.1.2)

@@ -15,7 +15,7 @@ use Rattle.fsfs_machine.specs.declared.machine.Outcome.TheVariants as outcome
 use Rattle.fsfs_machine.specs.declared.machine.Step.TheVariants as step
 use Rattle.fsfs_base.specs.declared.places.place.DiskPlace.{DiskPlace}
 use Rattle.fsfs_machine.specs.Machine.{either_place, World, did, barred, at_place, held_by, is_there, join_with, joined, stuck_place}
-use Rattle.fsfs_machine.specs.Kept.{Kept, IsSeen}
+use Rattle.fsfs_machine.specs.Kept.{Kept, IsSeen, most_floor, may_rise}
 use Rattle.fsfs_machine.proofs.Answering.{seen_of}
 use Rattle.fsfs_machine.proofs.Steps.{step_keeps}
 use Rattle.fsfs_machine.proofs.Whose.{length_at}
@@ -41,6 +41,8 @@ use Rattle.fsfs_pass.specs.Causes.{IsSound, HasLock, Causes, Doubts}
 use Rattle.fsfs_pass.specs.Met.{Met, HasMet}
 use Rattle.fsfs_pass.specs.Rule.{Seated, Knew, Placed, IsJoined, IsSeenBySome, Store, HandIs, failures_in, bench_failures_in, Rule}
 use Rattle.fsfs_pass.specs.Tells.{Sat, TellsIt, GoesOn, settled}
+use Rattle.fsfs_pass.specs.OtherLabels.{AreAbove}
+use Rattle.fsfs_pass.proofs.LabelsStay.{above_both}
 use Rattle.fsfs_pass.proofs.Following.{lasts_same, met_now, last_grows, later_now, grown_long}
 use Rattle.fsfs_pass.proofs.Kinships.{set_there, in_either, map_there, kin_joined}
 use Rattle.fsfs_pass.proofs.Accounts.{harmless_both, harmful_more, quiet_turn}
@@ -130,11 +132,11 @@ module _ (first : SeatView) (views : List SeatView) (lock young : ℕ) (t : Trac
   knows : Sees w (view_of it)
   knows = its.sees
 
-  here : IsSeen (length w.history) w.floor me.pass
-  here = seen_of (length w.history) w.floor w.passes me.number me.pass s.store.kept.seen sees.pass
+  here : IsSeen (length w.history) w.low (most_floor (may_rise w.lock) w.size w.floor) me.pass
+  here = seen_of (length w.history) w.low (most_floor (may_rise w.lock) w.size w.floor) w.passes me.number me.pass s.store.kept.seen sees.pass
 
-  there : IsSeen (length w.history) w.floor it.pass
-  there = seen_of (length w.history) w.floor w.passes it.number it.pass s.store.kept.seen knows.pass
+  there : IsSeen (length w.history) w.low (most_floor (may_rise w.lock) w.size w.floor) it.pass
+  there = seen_of (length w.history) w.low (most_floor (may_rise w.lock) w.size w.floor) w.passes it.number it.pass s.store.kept.seen knows.pass
 
   numbers_apart : it.number ≢ me.number
   numbers_apart e = apart (sym its.number ∙ e ∙ own.number)
@@ -191,12 +193,12 @@ module _ (first : SeatView) (views : List SeatView) (lock young : ℕ) (t : Trac
       (λ lt. subst (λ (l : List Recorded). Begins it.seen l) (sym sees.seen) (subst (λ (l : List Recorded). Begins l (take me.pass.seen w.history)) (sym knows.seen) (part_begins w.history me.pass.seen it.pass.seen (omega (arith, lt)))))
 
   join_leaves : Spares me.number w join_on
-  join_leaves = record { passes = λ q far. at_other w.passes me.number q (joined it.pass) far; count = length_at w.passes me.number (joined it.pass); grows = begins_itself w.history; locks = λ q far. refl; still = λ q z far held. (refl, refl); floor = refl; given = λ k i. i; full = λ last. last; disk = λ q z far held. refl }
+  join_leaves = record { passes = λ q far. at_other w.passes me.number q (joined it.pass) far; count = length_at w.passes me.number (joined it.pass); grows = begins_itself w.history; locks = λ q far. refl; still = λ q z far held. (refl, refl); floor = refl; low = refl; given = λ k i. i; full = λ last. last; disk = λ q z far held. refl }
 
   -- ---- what it has met
 
   met_join : (z : SeatView) → HasMet first.layout w t z → HasMet first.layout join_on t z
-  met_join z k = let m = k.2 in (k.0, k.1, record { world = m.world; store = m.store; grown = m.grown; seen = m.seen; least = m.least; lasts = m.lasts })
+  met_join z k = let m = k.2 in (k.0, k.1, record { world = m.world; store = m.store; low = m.low; grown = m.grown; seen = m.seen; least = m.least; lasts = m.lasts })
 
   no_longer : (n : ℕ) → length me.seen ≤ n → length it.seen ≤ n → length u.seen ≤ n
   no_longer n a b = by_seen (λ more less. length more ≤ n) me it (λ le. a) (λ lt. b)
@@ -204,7 +206,7 @@ module _ (first : SeatView) (views : List SeatView) (lock young : ℕ) (t : Trac
   -- the state that the one met which knew of more has all that either knew
   met_by : (z : SeatView) (tr : Trace) (m : Met first.layout w t z tr) → length me.seen ≤ length m.world.history → length it.seen ≤ length m.world.history → me.pass.least < length m.world.history → it.pass.least < length m.world.history
       → Met first.layout join_on t u tr
-  met_by z tr m a b c d = record { world = m.world; store = m.store; grown = m.grown; seen = no_longer (length m.world.history) a b; least = omega (arith, c, d); lasts = m.lasts }
+  met_by z tr m a b c d = record { world = m.world; store = m.store; low = m.low; grown = m.grown; seen = no_longer (length m.world.history) a b; least = omega (arith, c, d); lasts = m.lasts }
 
   met_so : HasMet first.layout join_on t u
   met_so = elim (nat_le (last_of it) (last_of me)) as (λ b. nat_le (last_of it) (last_of me) ≡ b → (tr : Trace) × (cond b me.met it.met ≡ Some tr) × Met first.layout join_on t u tr) [
@@ -223,13 +225,13 @@ module _ (first : SeatView) (views : List SeatView) (lock young : ℕ) (t : Trac
   ] refl
 
   met_before : (z : SeatView) → HasMet first.layout w t z → HasMet first.layout join_on t (as_before u (before z))
-  met_before z k = let m = k.2 in (k.0, k.1, record { world = m.world; store = m.store; grown = m.grown; seen = m.seen; least = m.least; lasts = m.lasts })
+  met_before z k = let m = k.2 in (k.0, k.1, record { world = m.world; store = m.store; low = m.low; grown = m.grown; seen = m.seen; least = m.least; lasts = m.lasts })
 
   joining : Placed first join_on t id u (Joining (before me) (before it))
   joining = (
-    record { number = own.number; sees = join_sees; sure = own.sure; layout = own.layout; since = own.since; opened = own.opened; met = met_so },
-    record { layout = own.layout; told = told; least = omega arith; line = (both_begin me it lines).0; met = met_before me own.met },
-    record { layout = its.layout; told = its_told; least = omega arith; line = (both_begin me it lines).1; met = met_before it its.met },
+    record { number = own.number; sees = join_sees; sure = own.sure; layout = own.layout; low = own.low; since = own.since; opened = own.opened; met = met_so },
+    record { layout = own.layout; low = own.low; told = told; least = omega arith; line = (both_begin me it lines).0; met = met_before me own.met },
+    record { layout = its.layout; low = its.low; told = its_told; least = omega arith; line = (both_begin me it lines).1; met = met_before it its.met },
   )
 
   -- its pass is as it was
@@ -391,12 +393,13 @@ module _ (first : SeatView) (views : List SeatView) (lock young : ℕ) (t : Trac
   pub join_goes : Store first left_on lock young t
   join_goes = record {
     world = join_on;
-    store = (let k = s.store in record { trace = k.trace; whole = k.whole; kept = join_kept; shown = k.shown; coming = k.coming; young_is = k.young_is; stuck_is = k.stuck_is });
+    store = (let k = s.store in record { trace = k.trace; size = k.size; whole = k.whole; kept = join_kept; shown = k.shown; coming = k.coming; low_is = k.low_is; floor_is = k.floor_is; level = k.level; young_is = k.young_is; stuck_is = k.stuck_is });
     safe = s.safe;
     own = s.own;
     up = s.up;
     short = s.short;
     opening = s.opening;
+    before = s.before;
     known = seen_on;
     lock_is = s.lock_is;
     causes = causes_on;
@@ -454,6 +457,14 @@ module _ (began : DiskSeen) (first : SeatView) where
             (λ (further : (j ≢ id) × (get_elem? s.views j ≡ some y)). r.alone j y further.1)
             (at_set s.views id j (joining_view v z) y stays.1))
             (at_set (slice_set s.views id (joining_view v z)) other j left_view y e);
+        names = λ j y e. ⊎_elim
+            (λ (gone : (j ≡ other) × (left_view ≡ y)). subst (λ (a : SeatView). AreAbove first.given a.given) gone.1 (λ k i. absurd i))
+            (λ (stays : (j ≢ other) × (get_elem? (slice_set s.views id (joining_view v z)) j ≡ some y)). ⊎_elim
+            (λ (mine : (j ≡ id) × (joining_view v z ≡ y)). subst (λ (a : SeatView). AreAbove first.given a.given) mine.1 (above_both first.given v.given z.given (r.names id v at) (r.names other z by)))
+            (λ (further : (j ≢ id) × (get_elem? s.views j ≡ some y)). r.names j y further.1)
+            (at_set s.views id j (joining_view v z) y stays.1))
+            (at_set (slice_set s.views id (joining_view v z)) other j left_view y e);
+        labels = r.labels;
         store = λ t is. join_goes first s.views r.lock r.young t (r.store t is) id other v z (at, sits) (by, rests) apart (r.told id v at (seat_stays v sits) ∙ ap (λ o. is_some o) is) (r.told other z by (seat_stays z rests) ∙ ap (λ o. is_some o) is) outside;
       }
     where
@@ -469,7 +480,7 @@ module _ (began : DiskSeen) (first : SeatView) where
     settled_view r.disk.trace me.0,
     keeps,
     tt,
-    goes began first s r id me.0 (settled_view r.disk.trace me.0) (slice_set s.words 0 (slice_index s.words 0)) r.lock r.young at stays (ap (λ ws. slice_set ws 0 (slice_index ws 0)) r.words) r.bound refl refl refl refl refl (λ _ _. refl) after,
+    goes began first s r id me.0 (settled_view r.disk.trace me.0) (slice_set s.words 0 (slice_index s.words 0)) r.lock r.young at stays (ap (λ ws. slice_set ws 0 (slice_index ws 0)) r.words) r.bound refl refl refl refl refl refl (λ _ _. refl) after,
     (refl, fits, tells_it),
   )
     where
@@ -485,9 +496,10 @@ module _ (began : DiskSeen) (first : SeatView) where
         sees = p.sees;
         sure = p.sure;
         layout = p.layout;
+        low = p.low;
         since = p.since;
         opened = p.opened;
-        met = (t, is, met_now first.layout r.young (stuck_place k.world.lock) t k.world (settled_view r.disk.trace me.0) k.store (seen_within k.world (view_of me.0) p.sees) (seen_of (length k.world.history) k.world.floor k.world.passes me.0.number me.0.pass k.store.kept.seen p.sees.pass).least);
+        met = (t, is, met_now first.layout first.low r.young (stuck_place k.world.lock) t k.world (settled_view r.disk.trace me.0) k.store (seen_within k.world (view_of me.0) p.sees) (seen_of (length k.world.history) k.world.low (most_floor (may_rise k.world.lock) k.world.size k.world.floor) k.world.passes me.0.number me.0.pass k.store.kept.seen p.sees.pass).least);
       }
 
       same : branch_of (settled_view r.disk.trace me.0) ≡ branch_of me.0
@@ -499,7 +511,7 @@ module _ (began : DiskSeen) (first : SeatView) where
       goes_so : (x : Before) (t : Trace) → r.disk.trace ≡ Some t → me.0.told ≡ true → (k : Store first s.views r.lock r.young t) → Seated first k.world t id me.0 → Knew first k.world t me.0 x → GoesOn me.0 (settled_view r.disk.trace me.0) x
       goes_so x t is told k p knew = (
         knew.line,
-        later_now k.world t knew.met.0 (as_before me.0 x) (settled_view r.disk.trace me.0) (subst (λ l. Met l k.world t (as_before me.0 x) knew.met.0) (sym knew.layout) knew.met.2) knew.told knew.met.1 is (p.layout ∙ sym knew.layout)
+        later_now k.world t knew.met.0 (as_before me.0 x) (settled_view r.disk.trace me.0) (subst (λ l. Met l k.world t (as_before me.0 x) knew.met.0) (sym knew.layout) knew.met.2) knew.told knew.met.1 is (p.layout ∙ sym knew.layout) (p.low ∙ sym knew.low)
             (last_grows (as_before me.0 x) (settled_view r.disk.trace me.0) knew.told told knew.least (grown_long me.0.seen x.seen knew.line)),
       )
 

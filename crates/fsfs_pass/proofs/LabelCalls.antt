@@ -3,7 +3,7 @@ use Rattle.std.proofs.Common.{◌≡◌, ◌<◌, ℕ, [], ◌∷◌, ◌++◌, 
 use Rattle.std.specs.Prelude.{Option, Some, None, Bool, Result, Ok, Err, OnErr, IfOk, if◌then◌else◌, is_some}
 use mathlib.Core.Option.{none}
 use Rattle.atomic_table.specs.Table.{step, Allows}
-use Rattle.fsfs_disk.specs.Labels.{Label}
+use Rattle.fsfs_disk.specs.Labels.{Label, Txn as TxnLabel}
 use Rattle.fsfs_disk.specs.Trace.{Trace, KeepLabel, DropLabel, PerformsIfThere, FailsAt}
 use Rattle.fsfs_base.specs.declared.places.place.DiskPlace.{DiskPlace}
 use Rattle.fsfs_base.specs.declared.places.place.DiskPlace.TheVariants as place
@@ -25,8 +25,9 @@ use Rattle.fsfs_pass.specs.Seats.{view_of, IsSitting}
 use Rattle.fsfs_pass.specs.Rule.{Rule}
 use Rattle.fsfs_pass.specs.Tells.{Sat}
 use Rattle.fsfs_pass.specs.SeatCalls.Made.{Made, Ended, Dropped, carried, failed_of, once}
-use Rattle.fsfs_pass.specs.SeatCalls.Tells.{BenchedBy, MayDrop, PurgedBy, benched_back, purged_back}
+use Rattle.fsfs_pass.specs.SeatCalls.Tells.{BenchedBy, MayKeep, MayDrop, PurgedBy, benched_back, purged_back}
 use Rattle.fsfs_pass.proofs.FilesLast.{made_lasts, dropped_lasts, made_own, dropped_own}
+use Rattle.fsfs_pass.proofs.LabelsStay.{IsOfOne, made_stay, dropped_stay}
 use Rattle.fsfs_pass.proofs.Going.{IsShort, StaysSure, after_more, Turn, gives_so, gives_with}
 use Rattle.fsfs_pass.proofs.SectionCalls.{result_of, ended_so, made_well, done_told, failed_told, made_told}
 use Rattle.fsfs_pass.proofs.ReadCalls.{seen_view, learned_is, learned_stays}
@@ -39,15 +40,15 @@ keep_ill : (failed : Bool) (l : Label) (old new : Option Trace) → Made failed 
 keep_ill false l old new m = tt
 keep_ill true l old new m = m
 
-pub benched_turn : (me : SeatView) (d : DiskSeen) (t : Option Trace) (l : Label) (x : Drawn) → MayMake (view_of me) x → Made d.failed (KeepLabel l) t d.trace → Turn me d t (BenchedBy d.failed (view_of me))
-benched_turn me d t l x may made told old is young w store sees safe =
+pub benched_turn : (me : SeatView) (d : DiskSeen) (t : Option Trace) (l : Label) (x : Drawn) → MayMake (view_of me) x → l ≡ TxnLabel x.base x.name → Made d.failed (KeepLabel l) t d.trace → Turn me d t (BenchedBy d.failed (view_of me))
+benched_turn me d t l x may named made told old is young w store sees safe =
     let c = comes x may in
     inl (
       c.0,
       c.2,
-      after_more me.layout young (stuck_place w.lock) c.0 w v (λ u. BenchMade x c.1 v u) (λ u. StaysSure v u × BenchedBy d.failed v u)
+      after_more me.layout me.low young (stuck_place w.lock) c.0 w v (λ u. BenchMade x c.1 v u) (λ u. StaysSure w.given v u × BenchedBy d.failed v u)
           (λ u all k. (
-            learned_stays _ _ _ (λ n. learns n place.MakeBench c.1) v u (λ n x. (refl, refl, refl)) (λ n x few. harmless_before c.1 x.faults place.MakeBench few) k,
+            learned_stays w.given _ _ _ (λ n. learns n place.MakeBench c.1) v u (λ n x. (refl, refl, refl)) (λ n x few. harmless_before c.1 x.faults place.MakeBench few) k,
             λ y its. let e = comes y its in (
               e.1,
               ended_so d.failed e.1 e.3,
@@ -58,6 +59,7 @@ benched_turn me d t l x may made told old is young w store sees safe =
           )) c.4,
       made_lasts me.layout (length w.history) old c.0 d.failed (KeepLabel l) tt (subst (λ o. Made d.failed (KeepLabel l) (Some old) o) c.2 here),
       made_own me.layout me.since old c.0 d.failed (KeepLabel l) tt (subst (λ o. Made d.failed (KeepLabel l) (Some old) o) c.2 here),
+      made_stay me.given old c.0 d.failed (KeepLabel l) (subst (λ k. IsOfOne me.given k) (sym named) may.given) (subst (λ o. Made d.failed (KeepLabel l) (Some old) o) c.2 here),
     )
   where
     v : View
@@ -66,8 +68,8 @@ benched_turn me d t l x may made told old is young w store sees safe =
     here : Made d.failed (KeepLabel l) (Some old) d.trace
     here = subst (λ o. Made d.failed (KeepLabel l) o d.trace) is made
 
-    comes : (y : Drawn) → MayMake v y → Comes me.layout young (stuck_place w.lock) d.trace w v (result_of d.failed) (λ went u. BenchMade y went v u)
-    comes y its = make_comes me.layout young (stuck_place w.lock) old w v store sees safe y its d.trace l (result_of d.failed) (made_well d.failed (KeepLabel l) (Some old) d.trace here) (keep_ill d.failed l (Some old) d.trace here)
+    comes : (y : Drawn) → MayMake v y → Comes me.layout me.low young (stuck_place w.lock) d.trace w v (result_of d.failed) (λ went u. BenchMade y went v u)
+    comes y its = make_comes me.layout me.low young (stuck_place w.lock) old w v store sees safe y its d.trace l (result_of d.failed) (made_well d.failed (KeepLabel l) (Some old) d.trace here) (keep_ill d.failed l (Some old) d.trace here)
 
 -- a call that dropped a label, or failed to, by its answer
 record Drops (failed : Bool) (l : Label) (old new : Option Trace) : Type 0 where
@@ -80,16 +82,17 @@ drops : (failed : Bool) (l : Label) (old new : Option Trace) → Dropped failed 
 drops false l old new m = record { result = Ok m.0; ok = m.1; err = tt; ended = λ went a. a }
 drops true l old new m = record { result = Err tt; ok = tt; err = m; ended = λ went a. a }
 
-pub purged_turn : (me : SeatView) (d : DiskSeen) (t : Option Trace) (l : Label) → MayDrop (view_of me) → Dropped d.failed l t d.trace → Turn me d t (PurgedBy d.failed (view_of me))
+pub purged_turn : (me : SeatView) (d : DiskSeen) (t : Option Trace) (l : Label) → MayDrop (view_of me) l → Dropped d.failed l t d.trace → Turn me d t (PurgedBy d.failed (view_of me))
 purged_turn me d t l may dropped told old is young w store sees safe =
     let c = spends may.0 may.1 may.2 in
     inl (
       c.0,
       c.2,
-      after_more me.layout young (stuck_place w.lock) c.0 w v (λ u. SpentPurged may.0 c.1 v u) (λ u. StaysSure v u × PurgedBy d.failed v u)
-          (λ u all k. (learned_stays _ _ _ (λ n. learns n place.Remove c.1) v u (λ n x. (refl, refl, refl)) (λ n x few. harmless_before c.1 x.faults place.Remove few) k, purged u c.1 (call.ended c.1 c.3) (learned_is _ _ _ (λ n. learns n place.Remove c.1) w.history v u all k))) c.4,
+      after_more me.layout me.low young (stuck_place w.lock) c.0 w v (λ u. SpentPurged may.0 c.1 v u) (λ u. StaysSure w.given v u × PurgedBy d.failed v u)
+          (λ u all k. (learned_stays w.given _ _ _ (λ n. learns n place.Remove c.1) v u (λ n x. (refl, refl, refl)) (λ n x few. harmless_before c.1 x.faults place.Remove few) k, purged u c.1 (call.ended c.1 c.3) (learned_is _ _ _ (λ n. learns n place.Remove c.1) w.history v u all k))) c.4,
       dropped_lasts me.layout (length w.history) old c.0 d.failed l (subst (λ o. Dropped d.failed l (Some old) o) c.2 here),
       dropped_own me.layout me.since old c.0 d.failed l (subst (λ o. Dropped d.failed l (Some old) o) c.2 here),
+      dropped_stay me.given old c.0 d.failed l (subst (λ k. IsOfOne me.given k) (sym may.4) may.2) (subst (λ o. Dropped d.failed l (Some old) o) c.2 here),
     )
   where
     v : View
@@ -101,11 +104,11 @@ purged_turn me d t l may dropped told old is young w store sees safe =
     call : Drops d.failed l (Some old) d.trace
     call = drops d.failed l (Some old) d.trace here
 
-    purges : (txn : Txn) → MayPurge v txn → Comes me.layout young (stuck_place w.lock) d.trace w v call.result (λ went u. Purged txn went v u)
-    purges txn its = purge_comes me.layout young (stuck_place w.lock) old w v store sees safe d.trace l txn its call.result call.ok call.err
+    purges : (txn : Txn) → MayPurge v txn → Comes me.layout me.low young (stuck_place w.lock) d.trace w v call.result (λ went u. Purged txn went v u)
+    purges txn its = purge_comes me.layout me.low young (stuck_place w.lock) old w v store sees safe d.trace l txn its call.result call.ok call.err
 
-    spends : (name : ℕ) → v.section ≡ None → IsIn name v.given → Comes me.layout young (stuck_place w.lock) d.trace w v call.result (λ went u. SpentPurged name went v u)
-    spends name outside given = spent_comes me.layout young (stuck_place w.lock) old w v store sees safe d.trace l name outside given call.result call.ok call.err
+    spends : (name : ℕ) → v.section ≡ None → IsIn name v.given → Comes me.layout me.low young (stuck_place w.lock) d.trace w v call.result (λ went u. SpentPurged name went v u)
+    spends name outside given = spent_comes me.layout me.low young (stuck_place w.lock) old w v store sees safe d.trace l name outside given call.result call.ok call.err
 
     -- whichever label it was, the pass knows the same then
     purged : (u : View) (went : Went) → Ended d.failed went → u ≡ seen_view w.history (learns (length w.history) place.Remove went) v → PurgedBy d.failed v u
@@ -125,12 +128,12 @@ dropped_told false l old new m = by_there m.0 m.1
     by_there false same = ap (λ o. is_some o) same
 dropped_told true l old new m = failed_told (DropLabel l) old new m
 
-pub gives_benched : (began : DiskSeen) (first : SeatView) (slots id : ℕ) (me : Sat) (d : DiskSeen) → IsSitting me.0 → IsShort d → (was : DiskSeen) (l : Label) → 0 < slots → me.1 ≡ (0, Some d) ∷ [] → me.0.hand ≡ Out was → IsLater (once d.failed) 0 was d → Made d.failed (KeepLabel l) was.trace d.trace → (me.0.told ≡ true → (x : Drawn) × MayMake (view_of me.0) x)
+pub gives_benched : (began : DiskSeen) (first : SeatView) (slots id : ℕ) (me : Sat) (d : DiskSeen) → IsSitting me.0 → IsShort d → (was : DiskSeen) (l : Label) → 0 < slots → me.1 ≡ (0, Some d) ∷ [] → me.0.hand ≡ Out was → IsLater (once d.failed) 0 was d → Made d.failed (KeepLabel l) was.trace d.trace → (me.0.told ≡ true → MayKeep (view_of me.0) l)
     → Allows (Rule began first) slots id me 0 (λ _. 0) (λ _. benched_back (step slots 0 0 0 none) me 0)
 gives_benched began first slots id me d sits short was l room carries has later made may = gives_so (λ m u. BenchedBy (failed_of (carried m.1)) (view_of m.0) u) began first slots id me d sits short was room carries has later (made_told d.failed (KeepLabel l) was.trace d.trace made)
-    (λ told. let x = may told in benched_turn me.0 d was.trace l x.0 x.1 made told)
+    (λ told. let x = may told in benched_turn me.0 d was.trace l x.0 x.1 x.2 made told)
 
-pub gives_purged : (k : ℕ) (began : DiskSeen) (first : SeatView) (slots id : ℕ) (me : Sat) (d : DiskSeen) → IsSitting me.0 → IsShort d → (was : DiskSeen) (l : Label) → 0 < slots → me.1 ≡ (0, Some d) ∷ [] → me.0.hand ≡ Out was → IsLater (once d.failed) k was d → Dropped d.failed l was.trace d.trace → (me.0.told ≡ true → MayDrop (view_of me.0))
+pub gives_purged : (k : ℕ) (began : DiskSeen) (first : SeatView) (slots id : ℕ) (me : Sat) (d : DiskSeen) → IsSitting me.0 → IsShort d → (was : DiskSeen) (l : Label) → 0 < slots → me.1 ≡ (0, Some d) ∷ [] → me.0.hand ≡ Out was → IsLater (once d.failed) k was d → Dropped d.failed l was.trace d.trace → (me.0.told ≡ true → MayDrop (view_of me.0) l)
     → Allows (Rule began first) slots id me 0 (λ _. 0) (λ _. purged_back k (step slots 0 0 0 none) me 0)
 gives_purged k began first slots id me d sits short was l room carries has later dropped may = gives_with (λ m u. PurgedBy (failed_of (carried m.1)) (view_of m.0) u) began first slots id me d sits short was k room carries has later (dropped_told d.failed l was.trace d.trace dropped)
     (λ told. purged_turn me.0 d was.trace l (may told) dropped told)

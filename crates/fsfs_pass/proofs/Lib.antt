@@ -5,6 +5,7 @@ pub mod WhoseOwn
 pub mod Accounts
 pub mod Following
 pub mod Lasting
+pub mod LabelsStay
 pub mod Others
 pub mod Locks
 pub mod Stores

@@ -1,5 +1,6 @@
 -- The numbers of places, and what the word LOCK says of the lock.
 use Rattle.std.proofs.Common.{◌≡◌, ◌≤◌, true, refl, sym, ap, arith}
+use Rattle.std.specs.Prelude.{Some}
 use Rattle.fsfs_base.specs.declared.places.place.OpenPlace.TheVariants as opening
 use Rattle.fsfs_base.specs.declared.places.place.CreatePlace.TheVariants as creation
 use Rattle.fsfs_base.specs.declared.places.place.BeginPlace.TheVariants as begin
@@ -7,10 +8,9 @@ use Rattle.fsfs_base.specs.declared.places.place.CommitPlace.TheVariants as comm
 use Rattle.fsfs_base.specs.declared.places.place.PackPlace.TheVariants as pack
 use Rattle.fsfs_base.specs.declared.places.place.DiskPlace.{DiskPlace}
 use Rattle.fsfs_base.specs.declared.places.place.DiskPlace.TheVariants as place
-use Rattle.fsfs_machine.specs.declared.machine.Coming.{Coming}
 use Rattle.fsfs_machine.specs.declared.machine.Lock.{Lock}
-use Rattle.fsfs_machine.specs.declared.machine.Lock.TheVariants.{Free, Held, Stuck, Down, DownDoubtful}
-use Rattle.fsfs_machine.specs.Machine.{is_up}
+use Rattle.fsfs_machine.specs.declared.machine.Lock.TheVariants.{Free, Held, Stuck, Down, DownDoubtful, StuckFloor, DownFloor}
+use Rattle.fsfs_machine.specs.Machine.{is_up, stuck_place}
 use Rattle.fsfs_pass.specs.LockWords.{place_number, place_at, lock_word}
 
 pub place_back : (p : DiskPlace) → place_at (place_number p) ≡ p
@@ -75,10 +75,20 @@ word_free (Held p s) up e = let z : 1 ≡ 0 = e in absurd (omega (arith, z))
 word_free (Stuck at x) up e = let z : place_number at ≡ 0 = e in absurd (omega (arith, z, place_above at))
 word_free Down up e = absurd cc
 word_free (DownDoubtful x) up e = absurd cc
+word_free (StuckFloor at) up e = let z : place_number at ≡ 0 = e in absurd (omega (arith, z, place_above at))
+word_free DownFloor up e = absurd cc
 
-pub word_stuck : (l : Lock) → is_up l ≡ true → 2 ≤ lock_word l → (x : Coming) × (l ≡ Stuck (place_at (lock_word l)) x)
+pub word_stuck : (l : Lock) → is_up l ≡ true → 2 ≤ lock_word l → stuck_place l ≡ Some (place_at (lock_word l))
 word_stuck Free up e = let z : 2 ≤ 0 = e in absurd (omega (arith, z))
 word_stuck (Held p s) up e = let z : 2 ≤ 1 = e in absurd (omega (arith, z))
-word_stuck (Stuck at x) up e = (x, ap (λ p. Stuck p x) (sym (place_back at)))
+word_stuck (Stuck at x) up e = ap (λ p. Some p) (sym (place_back at))
+word_stuck (StuckFloor at) up e = ap (λ p. Some p) (sym (place_back at))
+word_stuck DownFloor up e = absurd cc
 word_stuck Down up e = absurd cc
 word_stuck (DownDoubtful x) up e = absurd cc
+
+-- where the lock is stuck, the word is the number of the place
+pub stuck_word : (l : Lock) (p : DiskPlace) → stuck_place l ≡ Some p → lock_word l ≡ place_number p
+stuck_word (Stuck at x) p e = let same : at ≡ p = cc in ap place_number same
+stuck_word (StuckFloor at) p e = let same : at ≡ p = cc in ap place_number same
+stuck_word l p e = absurd cc

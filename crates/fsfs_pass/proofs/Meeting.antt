@@ -1,6 +1,7 @@
 -- What the taker of a disk is told of its files.
-use Rattle.std.proofs.Common.{◌≡◌, ◌<◌, ◌≤◌, ◌^◌, ℕ, List, length, true, refl, sym, ap, subst, ◌∙◌}
+use Rattle.std.proofs.Common.{◌≡◌, ◌<◌, ◌^◌, ℕ, List, length, true, refl, sym, ap, subst, ◌∙◌}
 use Rattle.std.specs.Prelude.{Option, Some, None, IfSome, IsSome, is_some, slice_get}
+use Rattle.std.specs.FinMap.{get}
 use Rattle.fsfs_layout.specs.Hash.Dump.{IsDump}
 use Rattle.fsfs_layout.specs.FileNames.{only_name}
 use Rattle.fsfs_layout.specs.Small.{IsRevLine}
@@ -22,43 +23,38 @@ use Rattle.fsfs_machine.specs.declared.machine.Lock.TheVariants.{Held}
 use Rattle.fsfs_machine.specs.Disk.{found}
 use Rattle.fsfs_machine.specs.Machine.{stuck_place}
 use Rattle.fsfs_machine.specs.Kept.{KnowsAt}
-use Rattle.fsfs_machine.proofs.Answering.{seen_of}
-use Rattle.fsfs_turn.specs.Views.{rev_name, props_name, IsDue}
-use Rattle.fsfs_images.specs.Shown.{Fits, file_in}
+use Rattle.fsfs_turn.specs.Views.{props_name, IsDue}
+use Rattle.fsfs_images.specs.Shown.{Fits}
+use Rattle.fsfs_images.specs.RealNames.{machine_name}
 use Rattle.fsfs_images.proofs.Showing.{now_read}
 use Rattle.fsfs_turn.specs.Standing.{no_others, IsStore}
 use Rattle.fsfs_turn.proofs.Stepping.{lock_is}
 use Rattle.fsfs_turn.proofs.Due.{at_found}
-use Rattle.fsfs_turn.proofs.Fetching.{read_file}
-use Rattle.fsfs_turn.proofs.SmallFiles.{floor_file, props_file}
+use Rattle.fsfs_turn.proofs.SmallFiles.{pass_floor, floor_file, props_file}
 use Rattle.fsfs_pass.specs.declared.seats.seat_view.SeatView.{SeatView}
 use Rattle.fsfs_pass.specs.Seats.{view_of}
 use Rattle.fsfs_pass.specs.Tells.{IsMet}
 
 module _ (me : SeatView) (t : Trace) (m : IsMet me t) where
-  pub met_store : IsStore me.layout m.world.young (stuck_place m.world.lock) t m.world
+  pub met_store : IsStore me.layout me.low m.world.young (stuck_place m.world.lock) t m.world
   met_store = m.store
 
-  -- the file of a revision that the pass has seen
-  pub met_bytes : (r : ℕ) (x : Recorded) → slice_get me.seen r ≡ Some x → r < 2 ^ 32 → me.pass.floor ≤ r → (name : List ℕ) → name ≡ rev_name (view_of me) r → file_at t name ≡ Some x.bytes
-  met_bytes r x there fits above name named = read_file me.layout m.world.young (stuck_place m.world.lock) t m.world (view_of me) met_store m.sees refl m.safe r 0 0 x there fits above name named
-
-  -- its properties
+  -- the properties of a revision that the pass has seen
   pub met_props : (r : ℕ) (x : Recorded) → slice_get me.seen r ≡ Some x → r < 2 ^ 32 → (name : List ℕ) → name ≡ props_name (view_of me) r → (text : List ℕ) × (file_at t name ≡ Some text) × IsDump text x.revision.properties
-  met_props r x there fits name named = props_file me.layout m.world.young (stuck_place m.world.lock) t m.world (view_of me) met_store m.sees refl m.safe r x there fits name named
+  met_props r x there fits name named = props_file me.layout me.low m.world.young (stuck_place m.world.lock) t m.world (view_of me) met_store m.sees refl m.safe r x there fits name named
 
   -- the floor
   pub met_floor : (name : List ℕ) → name ≡ only_name only.MinUnpackedRev → (text : List ℕ) × (file_at t name ≡ Some text) × IsRevLine text me.pass.floor
   met_floor name named =
-      let f = floor_file me.layout m.world.young (stuck_place m.world.lock) t m.world (view_of me) met_store m.sees refl m.safe name named in
-      (f.0, f.1, subst (λ k. IsRevLine f.0 k) (sym (seen_of (length m.world.history) m.world.floor m.world.passes me.number me.pass m.store.kept.seen m.sees.pass).floor) f.2)
+      let f = floor_file me.layout me.low m.world.young (stuck_place m.world.lock) t m.world (view_of me) met_store m.sees refl m.safe name named in
+      (f.0, f.1, subst (λ k. IsRevLine f.0 k) (sym (pass_floor me.layout me.low m.world.young (stuck_place m.world.lock) t m.world (view_of me) met_store m.sees refl m.safe)) f.2)
 
-  knows : (s : Section) → me.section ≡ Some s → KnowsAt m.world.floor m.world.history m.world.given (Held me.number s) m.world.disk
-  knows s inside = subst (λ l. KnowsAt m.world.floor m.world.history m.world.given l m.world.disk) (lock_is me.number m.world.lock s (m.sees.section ∙ inside)) m.store.kept.knows
+  knows : (s : Section) → me.section ≡ Some s → KnowsAt m.world.size m.world.floor m.world.history m.world.given (Held me.number s) m.world.disk
+  knows s inside = subst (λ l. KnowsAt m.world.size m.world.floor m.world.history m.world.given l m.world.disk) (lock_is me.number m.world.lock s (m.sees.section ∙ inside)) m.store.kept.knows
 
   -- a file of the machine's, of that name
-  there : (n : FileName) → Fits n → (c : Contents) (name : List ℕ) → file_at t name ≡ file_in me.layout m.world.floor (files_now t) n → found m.world.disk n ≡ Some c → (bytes : List ℕ) × (file_at t name ≡ Some bytes)
-  there n fits c name named is = let at = at_found n (file_in me.layout m.world.floor (files_now t) n) (found m.world.disk n) c is (now_read me.layout m.world.floor no_others t.first t.operations m.world.disk m.store.trace n fits) in (at.0, named ∙ at.1)
+  there : (n : FileName) → Fits n → (c : Contents) (name : List ℕ) → file_at t name ≡ get (files_now t) (machine_name me.layout n) → found m.world.disk n ≡ Some c → (bytes : List ℕ) × (file_at t name ≡ Some bytes)
+  there n fits c name named is = let at = at_found me.layout n (get (files_now t) (machine_name me.layout n)) (found m.world.disk n) c is ((now_read me.layout no_others t.first t.operations m.world.disk m.store.trace).read n fits) in (at.0, named ∙ at.1)
 
   -- the file that is to be renamed
   pub met_rename : (place : DiskPlace) (from to : List ℕ) → IsDue (view_of me) place (real.Rename from to) → (bytes : List ℕ) × (file_at t from ≡ Some bytes)

@@ -14,7 +14,7 @@ use Rattle.fsfs_machine.specs.declared.machine.Coming.{Coming}
 use Rattle.fsfs_machine.specs.declared.machine.Section.{Section}
 use Rattle.fsfs_machine.specs.declared.machine.Lock.{Lock}
 use Rattle.fsfs_machine.specs.Machine.{World, is_up, stuck_place}
-use Rattle.fsfs_machine.specs.Kept.{Kept}
+use Rattle.fsfs_machine.specs.Kept.{Kept, most_floor, may_rise}
 use Rattle.fsfs_machine.proofs.Answering.{seen_of}
 use Rattle.fsfs_machine.specs.declared.contents.FileName.TheVariants.{Counter}
 use Rattle.fsfs_machine.specs.declared.machine.Drawn.{Drawn}
@@ -56,7 +56,7 @@ held_drawing (Some s) x e = refl
 sees_other : (p : ℕ) (w after : World) (z : View) → Spares p w after → Kept (with_txns [] w) → is_up after.lock ≡ true → (z.number ≡ p → ⊥) → (z.sure ≡ true → is_held z.section ≡ true) → Sees w z → Sees after z
 sees_other p w after z l kept up apart sure sees = record {
   pass = l.passes z.number apart ∙ sees.pass;
-  seen = sees.seen ∙ sym (ap (λ h. take z.pass.seen h) l.grows.1 ∙ take-append-le z.pass.seen w.history l.grows.0 (seen_of (length w.history) w.floor w.passes z.number z.pass kept.seen sees.pass).seen);
+  seen = sees.seen ∙ sym (ap (λ h. take z.pass.seen h) l.grows.1 ∙ take-append-le z.pass.seen w.history l.grows.0 (seen_of (length w.history) w.low (most_floor (may_rise w.lock) w.size w.floor) w.passes z.number z.pass kept.seen sees.pass).seen);
   section = l.locks z.number apart ∙ sees.section;
   up = up;
   sure = λ e. (unmoved (sure e)).0 ∙ sees.sure e;
@@ -76,15 +76,16 @@ sees_other p w after z l kept up apart sure sees = record {
 -- ---- what a seat knows
 
 met_as : (layout : Layout) (w : World) (now : Trace) (v u : SeatView) (t : Trace) → length u.seen ≤ length v.seen → u.pass.least ≤ v.pass.least → Met layout w now v t → Met layout w now u t
-met_as layout w now v u t seen least m = record { world = m.world; store = m.store; grown = m.grown; seen = omega (arith, seen, m.seen); least = omega (arith, least, m.least); lasts = m.lasts }
+met_as layout w now v u t seen least m = record { world = m.world; store = m.store; low = m.low; grown = m.grown; seen = omega (arith, seen, m.seen); least = omega (arith, least, m.least); lasts = m.lasts }
 
 -- another view of a seat says the same
-pub reseated : (first : SeatView) (w : World) (now : Trace) (j : ℕ) (v u : SeatView) → view_of u ≡ view_of v → u.met ≡ v.met → Seated first w now j v → Seated first w now j u
-reseated first w now j v u same met k = record {
+pub reseated : (first : SeatView) (w : World) (now : Trace) (j : ℕ) (v u : SeatView) → view_of u ≡ view_of v → u.low ≡ v.low → u.met ≡ v.met → Seated first w now j v → Seated first w now j u
+reseated first w now j v u same low met k = record {
   number = ap (λ (x : View). x.number) same ∙ k.number;
   sees = subst (λ (x : View). Sees w x) (sym same) k.sees;
   sure = λ e. ap (λ (x : View). is_held x.section) same ∙ k.sure (sym (ap (λ (x : View). x.sure) same) ∙ e);
   layout = ap (λ (x : View). x.layout) same ∙ k.layout;
+  low = low ∙ k.low;
   since = ap (λ (x : View). x.since) same ∙ k.since;
   opened = ap (λ (x : View). x.opened) same ∙ k.opened;
   met = (k.met.0, met ∙ k.met.1, met_as first.layout w now v u k.met.0 (let e : length u.seen ≡ length v.seen = ap (λ (x : View). length x.seen) same in omega (arith, e)) (let e : u.pass.least ≡ v.pass.least = ap (λ (x : View). x.pass.least) same in omega (arith, e)) k.met.2);
@@ -97,13 +98,14 @@ module _ (first : SeatView) (p : ℕ) (w after : World) (now new : Trace) (spare
     sees = sees_other p w after (view_of z) spares kept up (λ e. apart (sym k.number ∙ e)) k.sure k.sees;
     sure = k.sure;
     layout = k.layout;
+    low = k.low;
     since = k.since;
     opened = k.opened;
     met = (k.met.0, k.met.1, met_after first.layout p w after now new k.met.0 z z spares lasts (omega arith) (omega arith) k.met.2);
   }
 
   knew_other : (z : SeatView) (b : Before) → Knew first w now z b → Knew first after new z b
-  knew_other z b k = record { layout = k.layout; told = k.told; least = k.least; line = k.line; met = (k.met.0, k.met.1, met_after first.layout p w after now new k.met.0 (as_before z b) (as_before z b) spares lasts (omega arith) (omega arith) k.met.2) }
+  knew_other z b k = record { layout = k.layout; low = k.low; told = k.told; least = k.least; line = k.line; met = (k.met.0, k.met.1, met_after first.layout p w after now new k.met.0 (as_before z b) (as_before z b) spares lasts (omega arith) (omega arith) k.met.2) }
 
   pub placed_other : (j : ℕ) (z : SeatView) (st : Stage) → j ≢ p → Placed first w now j z st → Placed first after new j z st
   placed_other j z New apart k = (seat_other j (record z { number = j }) apart k.0, k.1)
@@ -187,6 +189,7 @@ module _ (first : SeatView) (views : List SeatView) (lock young : ℕ) (t : Trac
     up = s.up;
     short = s.short;
     opening = s.opening;
+    before = s.before;
     known = still_seen views id me u (length s.world.history) at (ap (λ (b : Branch). b.left) same ∙ stays) seen s.known;
     lock_is = s.lock_is;
     causes = causes_set views id me u lock lock at stays (ap (λ (b : Branch). b.left) same ∙ stays) turns s.causes;
@@ -207,29 +210,30 @@ module _ (first : SeatView) (views : List SeatView) (lock young : ℕ) (t : Trac
   pub seat_sees : Sees s.world (view_of me)
   seat_sees = own.sees
 
-  pub seat_safe : Safe first.layout me.since t me.opened s.world.floor s.world.history (doubt s.world.lock)
-  seat_safe = subst (λ (y : Since × ℕ). Safe first.layout y.0 t y.1 s.world.floor s.world.history (doubt s.world.lock)) (λ i. (sym own.since i, sym own.opened i)) s.safe
+  pub seat_safe : Safe first.layout me.since t me.opened s.world.history (doubt s.world.lock)
+  seat_safe = subst (λ (y : Since × ℕ). Safe first.layout y.0 t y.1 s.world.history (doubt s.world.lock)) (λ i. (sym own.since i, sym own.opened i)) s.safe
 
   -- behind a step of its pass the table holds the state after it
   -- it has met the trace as it is then
-  pub meets : (u : SeatView) (l : Lock) (young2 : ℕ) (t2 : Trace) (m : Moved first.layout young2 t2 s.world (view_of me) (view_of u) l) → u.met ≡ Some t2 → HasMet first.layout m.world t2 u
-  meets u l young2 t2 m is = (t2, is, met_now first.layout young2 (stuck_place l) t2 m.world u m.store (seen_within m.world (view_of u) m.sees) (seen_of (length m.world.history) m.world.floor m.world.passes u.number u.pass m.store.kept.seen m.sees.pass).least)
+  pub meets : (u : SeatView) (l : Lock) (young2 : ℕ) (t2 : Trace) (m : Moved first.layout first.low young2 t2 s.world (view_of me) (view_of u) l) → u.met ≡ Some t2 → HasMet first.layout m.world t2 u
+  meets u l young2 t2 m is = (t2, is, met_now first.layout first.low young2 (stuck_place l) t2 m.world u m.store (seen_within m.world (view_of u) m.sees) (seen_of (length m.world.history) m.world.low (most_floor (may_rise m.world.lock) m.world.size m.world.floor) m.world.passes u.number u.pass m.store.kept.seen m.sees.pass).least)
 
   -- or what it met before
-  pub still_met : (u : SeatView) (l : Lock) (young2 : ℕ) (t2 : Trace) (m : Moved first.layout young2 t2 s.world (view_of me) (view_of u) l) → Lasts first.layout (length s.world.history) (files_now t) (files_now t2)
+  pub still_met : (u : SeatView) (l : Lock) (young2 : ℕ) (t2 : Trace) (m : Moved first.layout first.low young2 t2 s.world (view_of me) (view_of u) l) → Lasts first.layout (length s.world.history) (files_now t) (files_now t2)
       → u.met ≡ me.met → length u.seen ≤ length me.seen → u.pass.least ≤ me.pass.least → HasMet first.layout m.world t2 u
   still_met u l young2 t2 m lasts is seen least = (own.met.0, is ∙ own.met.1, met_after first.layout me.number s.world m.world t t2 own.met.0 me u m.spares lasts seen least own.met.2)
 
-  pub goes_on : (u : SeatView) (l : Lock) (lock2 young2 : ℕ) (t2 : Trace) (m : Moved first.layout young2 t2 s.world (view_of me) (view_of u) l) → u.kin ≡ me.kin → lock2 ≡ lock_word l → (u.sure ≡ true → is_held u.section ≡ true)
+  pub goes_on : (u : SeatView) (l : Lock) (lock2 young2 : ℕ) (t2 : Trace) (m : Moved first.layout first.low young2 t2 s.world (view_of me) (view_of u) l) → u.kin ≡ me.kin → u.low ≡ me.low → lock2 ≡ lock_word l → (u.sure ≡ true → is_held u.section ≡ true)
       → Lasts first.layout (length s.world.history) (files_now t) (files_now t2) → OwnFilesLast first.layout first.since (Some t2) → HasShortFiles (files_now t2) → HasMet first.layout m.world t2 u → Adds me u young young2 → Turns me u lock lock2 → LeavesSo me u (stuck_with s.world.lock) (stuck_with m.world.lock) → Store first (slice_set views id u) lock2 young2 t2
-  goes_on u l lock2 young2 t2 m same lock_is sure lasts owns short met adds turns leaves = record {
+  goes_on u l lock2 young2 t2 m same same_low lock_is sure lasts owns short met adds turns leaves = record {
     world = m.world;
-    store = subst (λ o. IsStore first.layout young2 o t2 m.world) (sym (ap stuck_place m.lock_is)) m.store;
-    safe = subst (λ (y : Since × ℕ). Safe first.layout y.0 t2 y.1 m.world.floor m.world.history (doubt m.world.lock)) (λ i. ((m.since_is ∙ own.since) i, (m.opened_is ∙ own.opened) i)) m.safe;
+    store = subst (λ o. IsStore first.layout first.low young2 o t2 m.world) (sym (ap stuck_place m.lock_is)) m.store;
+    safe = subst (λ (y : Since × ℕ). Safe first.layout y.0 t2 y.1 m.world.history (doubt m.world.lock)) (λ i. ((m.since_is ∙ own.since) i, (m.opened_is ∙ own.opened) i)) m.safe;
     own = owns;
     up = m.sees.up;
     short = short;
     opening = opening_stays s.world m.world me.number me.pass u.pass s.store.kept m.store.kept m.spares.count own.sees.pass (ap (λ n. slice_get m.world.passes n) (sym m.number_is) ∙ m.sees.pass) m.spares.passes (let more = adds.own in omega (arith, more, was, now)) ∙ s.opening;
+    before = λ k i. m.spares.given k (s.before k i);
     known = ⊎_elim
         (λ (stays : young2 ≡ young). still_seen views id me u (length m.world.history) at.0 left adds.seen (seen_as views (length s.world.history) (length m.world.history) (omega (arith, stays, was, now)) s.known))
         (λ (all : young2 + 1 ≤ length u.seen). (id, u, set_there views id u me at.0, left, omega (arith, all, now))) adds.known;
@@ -256,7 +260,7 @@ module _ (first : SeatView) (views : List SeatView) (lock young : ℕ) (t : Trac
       left = ap (λ (c : Kin). is_left c.stage) same ∙ ap (λ st. is_left st) at.1
 
       mine : Seated first m.world t2 id u
-      mine = record { number = m.number_is ∙ own.number; sees = m.sees; sure = sure; layout = m.layout_is ∙ own.layout; since = m.since_is ∙ own.since; opened = m.opened_is ∙ own.opened; met = met }
+      mine = record { number = m.number_is ∙ own.number; sees = m.sees; sure = sure; layout = m.layout_is ∙ own.layout; low = same_low ∙ own.low; since = m.since_is ∙ own.since; opened = m.opened_is ∙ own.opened; met = met }
 
       placed : Placed first m.world t2 id u u.kin.stage
       placed = subst (λ st. Placed first m.world t2 id u st) (sym (ap (λ (c : Kin). c.stage) same ∙ at.1)) mine

@@ -9,7 +9,7 @@ use Rattle.fsfs_turn.specs.Views.{View, Begins}
 use Rattle.fsfs_turn.specs.Telling.{TellsSeen}
 use Rattle.fsfs_pass.specs.declared.seats.seat_view.SeatView.{SeatView}
 use Rattle.fsfs_pass.specs.Seats.{view_of, halved_view, split_pass, numbered_view, either_left, joined_view}
-use Rattle.fsfs_pass.specs.Met.{known_last, seat_store}
+use Rattle.fsfs_pass.specs.Met.{Ground, ground_of, known_last, seat_store}
 use Rattle.fsfs_pass.specs.Tells.{TellsIt}
 use Rattle.fsfs_pass.specs.Passes.{is_sitting, reach_by, pass_store, KnowsIt, split_off, Joins}
 use Rattle.fsfs_pass.specs.PassLemmas.{pass_tells}
@@ -21,8 +21,8 @@ module _ (v u : SeatView) (is : u ≡ halved_view v) where
   pub halved_told : u.told ≡ v.told
   halved_told = ap {A = SeatView} (λ z. z.told) is
 
-  pub halved_layout : u.layout ≡ v.layout
-  halved_layout = ap {A = SeatView} (λ z. z.layout) is
+  pub halved_layout : ground_of u ≡ ground_of v
+  halved_layout = ap {A = SeatView} (λ z. ground_of z) is
 
   pub halved_sits : is_sitting v.kin.stage ≡ true → is_sitting u.kin.stage ≡ true
   halved_sits sits = ap {A = SeatView} (λ z. is_sitting z.kin.stage) is ∙ sits
@@ -50,8 +50,8 @@ module _ (n : ℕ) (old new : SeatView) (is : new ≡ numbered_view n new.met (s
   pub split_told : new.told ≡ old.told
   split_told = ap {A = SeatView} (λ z. z.told) is
 
-  pub split_layout : new.layout ≡ old.layout
-  split_layout = ap {A = SeatView} (λ z. z.layout) is
+  pub split_layout : ground_of new ≡ ground_of old
+  split_layout = ap {A = SeatView} (λ z. ground_of z) is
 
   pub split_sits : is_sitting new.kin.stage ≡ true
   split_sits = ap {A = SeatView} (λ z. is_sitting z.kin.stage) is
@@ -81,19 +81,19 @@ module _ (n : ℕ) (old new : SeatView) (is : new ≡ numbered_view n new.met (s
           disk = ap (λ o. is_some o) same ∙ k.disk;
           told = told;
           is = view;
-          tells = subst (λ z. TellsSeen (pass_store last new) z) view (pass_tells last new (view_of new) told (tells.1 told));
+          tells = subst (λ z. TellsSeen new.low (pass_store last new) z) view (pass_tells last new (view_of new) told (tells.1 told));
         },
       )
 
 -- ---- two that were joined
 
-later_in : (t s : Bool) (last : ℕ) (v u : SeatView) → s ≡ t → u.layout ≡ v.layout → (t ≡ false → v.met ≡ None) → (t ≡ true → Later (seat_store v) (seat_store u))
+later_in : (t s : Bool) (last : ℕ) (v u : SeatView) → s ≡ t → ground_of u ≡ ground_of v → (t ≡ false → v.met ≡ None) → (t ≡ true → Later (seat_store v) (seat_store u))
     → Later (record (seat_store v) { reach = reach_by t last (known_last v) }) (record (seat_store u) { reach = reach_by s last (known_last u) })
 later_in true true last v u same layout none l = l refl
 later_in true false last v u same layout none l = absurd cc
 later_in false true last v u same layout none l = absurd cc
 later_in false false last v u same layout none l = record {
-  layout = layout;
+  layout = ap {A = Ground} (λ g. g.layout) layout;
   reach = omega arith;
   files = subst (λ o. FilesLater v.layout (Grows last) (option_map files_now o) (option_map files_now u.met)) (sym (none refl)) tt;
   below = layout;
@@ -103,8 +103,8 @@ module _ (v z u : SeatView) (is : u ≡ joined_view u.met v z) where
   pub join_told : u.told ≡ v.told
   join_told = ap {A = SeatView} (λ a. a.told) is
 
-  pub join_layout : u.layout ≡ v.layout
-  join_layout = ap {A = SeatView} (λ a. a.layout) is
+  pub join_layout : ground_of u ≡ ground_of v
+  join_layout = ap {A = SeatView} (λ a. ground_of a) is
 
   pub join_sits : is_sitting u.kin.stage ≡ true
   join_sits = ap {A = SeatView} (λ a. is_sitting a.kin.stage) is

@@ -14,14 +14,13 @@ use Rattle.fsfs_machine.specs.declared.machine.Step.{Step}
 use Rattle.fsfs_machine.specs.declared.machine.Went.{Went}
 use Rattle.fsfs_machine.specs.declared.machine.Went.TheVariants.{Fine, Before, After, Torn}
 use Rattle.fsfs_machine.specs.Machine.{World, learns, sees_floor, stuck_place}
-use Rattle.fsfs_machine.proofs.Answering.{seen_of}
+use Rattle.fsfs_machine.specs.Kept.{IsIn}
 use Rattle.fsfs_turn.specs.Alone.{are_harmless, is_doubtful_at}
-use Rattle.fsfs_turn.specs.Views.{View, is_held, ReadTurn}
+use Rattle.fsfs_turn.specs.Views.{View, is_held}
 use Rattle.fsfs_turn.specs.Learning.{Learned, PropsRead, FloorRead, Listed}
 use Rattle.fsfs_turn.proofs.Alone.{harmless_before}
 use Rattle.fsfs_turn.proofs.TurnEnds.{IsAfter}
-use Rattle.fsfs_turn.proofs.Fetching.{read_turns}
-use Rattle.fsfs_turn.proofs.SmallFiles.{floor_turns, props_turns}
+use Rattle.fsfs_turn.proofs.SmallFiles.{pass_floor, floor_turns, props_turns}
 use Rattle.fsfs_turn.proofs.Labelling.{list_turns}
 use Rattle.fsfs_disk.specs.Seen.{DiskSeen, IsLater}
 use Rattle.fsfs_pass.specs.declared.seats.seat_view.SeatView.{SeatView}
@@ -41,8 +40,8 @@ seen_view h f v = record v { pass = f v.pass; seen = h }
 pub learned_is : (lay : World → World) (step : Step) (outcome : Outcome) (tell : ℕ → Pass → Pass) (h : List Recorded) (v u : View) → u.seen ≡ h → Learned lay step outcome tell v u → u ≡ seen_view h (tell (length h)) v
 learned_is lay step outcome tell h v u all k = k.is ∙ ap (λ (l : List Recorded). seen_view l (tell (length l)) v) all
 
-pub learned_stays : (lay : World → World) (step : Step) (outcome : Outcome) (tell : ℕ → Pass → Pass) (v u : View) → ((n : ℕ) (x : Pass) → ((tell n x).least ≡ x.least) × ((tell n x).mine ≡ x.mine) × ((tell n x).stuck ≡ x.stuck)) → ((n : ℕ) (x : Pass) → are_harmless (tell n x).faults ≡ true → are_harmless x.faults ≡ true) → Learned lay step outcome tell v u → StaysSure v u
-learned_stays lay step outcome tell v u same harm k = record {
+pub learned_stays : (given : List ℕ) (lay : World → World) (step : Step) (outcome : Outcome) (tell : ℕ → Pass → Pass) (v u : View) → ((n : ℕ) (x : Pass) → ((tell n x).least ≡ x.least) × ((tell n x).mine ≡ x.mine) × ((tell n x).stuck ≡ x.stuck)) → ((n : ℕ) (x : Pass) → are_harmless (tell n x).faults ≡ true → are_harmless x.faults ≡ true) → Learned lay step outcome tell v u → StaysSure given v u
+learned_stays given lay step outcome tell v u same harm k = record {
   same = ap (λ (x : View). x.sure) k.is;
   least = ap (λ (x : View). x.pass.least) k.is ∙ (same (length u.seen) v.pass).0;
   mine = ap (λ (x : View). x.pass.mine) k.is ∙ (same (length u.seen) v.pass).1;
@@ -50,10 +49,8 @@ learned_stays lay step outcome tell v u same harm k = record {
   held = λ e. ap (λ (x : View). is_held x.section) k.is ∙ e;
   harm = λ few. harm (length u.seen) v.pass (sym (ap (λ (x : View). are_harmless x.pass.faults) k.is) ∙ few);
   calm = λ few so. ap (λ (x : View). is_doubtful_at x.section) k.is ∙ so;
+  names = λ j i. inl (subst (λ ks. IsIn j ks) (ap (λ (x : View). x.given) k.is) i);
 }
-
-read_is : (r offset size : ℕ) (x : Recorded) (went : Went) (h : List Recorded) (v u : View) → u.seen ≡ h → ReadTurn r offset size x went v u → u ≡ seen_view h (learns (length h) place.Read went) v
-read_is r offset size x went h v u all k = k.is ∙ ap (λ (l : List Recorded). seen_view l (learns (length l) place.Read went) v) all
 
 -- the floor that the pass knew
 same_floor : (n : ℕ) (went : Went) (f : ℕ) (x : Pass) → x.floor ≡ f → sees_floor n went (Some f) x ≡ learns n place.Read went x
@@ -63,7 +60,7 @@ same_floor n After f x is = refl
 same_floor n (Torn any) f x is = refl
 
 pub read_turn : (me : SeatView) (d : DiskSeen) (t : Option Trace) → d.trace ≡ t → Turn me d t (ReadBy (went_of d.failed) (view_of me))
-read_turn me d t same told old is young w store sees safe = inl (old, same ∙ is, after_more me.layout young (stuck_place w.lock) old w v (λ u. FloorRead w.floor went v u) (λ u. StaysSure v u × ReadBy went v u) reads (floor_turns me.layout young (stuck_place w.lock) old w v store sees refl safe went), lasts_same me.layout (length w.history) (files_now old), λ own. own)
+read_turn me d t same told old is young w store sees safe = inl (old, same ∙ is, after_more me.layout me.low young (stuck_place w.lock) old w v (λ u. FloorRead me.low went v u) (λ u. StaysSure w.given v u × ReadBy went v u) reads (floor_turns me.layout me.low young (stuck_place w.lock) old w v store sees refl safe went), lasts_same me.layout (length w.history) (files_now old), λ own. own, λ l other. refl)
   where
     v : View
     v = view_of me
@@ -71,26 +68,24 @@ read_turn me d t same told old is young w store sees safe = inl (old, same ∙ i
     went : Went
     went = went_of d.failed
 
-    floor_is : v.pass.floor ≡ w.floor
-    floor_is = (seen_of (length w.history) w.floor w.passes v.number v.pass store.kept.seen sees.pass).floor
+    floor_is : v.pass.floor ≡ me.low
+    floor_is = pass_floor me.layout me.low young (stuck_place w.lock) old w v store sees refl safe
 
-    reads : (u : View) → u.seen ≡ w.history → FloorRead w.floor went v u → StaysSure v u × ReadBy went v u
+    reads : (u : View) → u.seen ≡ w.history → FloorRead me.low went v u → StaysSure w.given v u × ReadBy went v u
     reads u all k = (
-      learned_stays _ _ _ (λ n. sees_floor n went (Some w.floor)) v u (λ n x. (refl, refl, refl)) (λ n x few. harmless_before went x.faults place.Read few) k,
+      learned_stays w.given _ _ _ (λ n. sees_floor n went (Some me.low)) v u (λ n x. (refl, refl, refl)) (λ n x few. harmless_before went x.faults place.Read few) k,
       record {
-        bytes = λ r offset size x there. let a = read_turns me.layout young (stuck_place w.lock) old w v store sees refl safe r offset size x there went in
-            subst (λ y. ReadTurn r offset size x went v y) (read_is r offset size x went w.history v a.view a.all a.turned ∙ sym here) a.turned;
-        properties = λ r x there. let a = props_turns me.layout young (stuck_place w.lock) old w v store sees refl safe r x there went in
+        properties = λ r x there. let a = props_turns me.layout me.low young (stuck_place w.lock) old w v store sees refl safe r x there went in
             subst (λ y. PropsRead r x went v y) (learned_is _ _ _ (λ n. learns n place.Read went) w.history v a.view a.all a.turned ∙ sym here) a.turned;
         floor = subst (λ f. FloorRead f went v u) (sym floor_is) k;
       },
     )
       where
         here : u ≡ seen_view w.history (learns (length w.history) place.Read went) v
-        here = learned_is _ _ _ (λ n. sees_floor n went (Some w.floor)) w.history v u all k ∙ ap (λ (p : Pass). record v { pass = p; seen = w.history }) (same_floor (length w.history) went w.floor v.pass floor_is)
+        here = learned_is _ _ _ (λ n. sees_floor n went (Some me.low)) w.history v u all k ∙ ap (λ (p : Pass). record v { pass = p; seen = w.history }) (same_floor (length w.history) went me.low v.pass floor_is)
 
 pub listed_turn : (me : SeatView) (d : DiskSeen) (t : Option Trace) → d.trace ≡ t → Turn me d t (λ u. (ls : List Label) → Listed ls (went_of d.failed) (view_of me) u)
-listed_turn me d t same told old is young w store sees safe = inl (old, same ∙ is, after_more me.layout young (stuck_place w.lock) old w v (λ u. Listed [] went v u) (λ u. StaysSure v u × ((ls : List Label) → Listed ls went v u)) lists (turns []), lasts_same me.layout (length w.history) (files_now old), λ own. own)
+listed_turn me d t same told old is young w store sees safe = inl (old, same ∙ is, after_more me.layout me.low young (stuck_place w.lock) old w v (λ u. Listed [] went v u) (λ u. StaysSure w.given v u × ((ls : List Label) → Listed ls went v u)) lists (turns []), lasts_same me.layout (length w.history) (files_now old), λ own. own, λ l other. refl)
   where
     v : View
     v = view_of me
@@ -98,12 +93,12 @@ listed_turn me d t same told old is young w store sees safe = inl (old, same ∙
     went : Went
     went = went_of d.failed
 
-    turns : (ls : List Label) → IsAfter me.layout young (stuck_place w.lock) old w v (λ u. Listed ls went v u)
-    turns ls = list_turns me.layout young (stuck_place w.lock) old w v store sees safe ls went
+    turns : (ls : List Label) → IsAfter me.layout me.low young (stuck_place w.lock) old w v (λ u. Listed ls went v u)
+    turns ls = list_turns me.layout me.low young (stuck_place w.lock) old w v store sees safe ls went
 
-    lists : (u : View) → u.seen ≡ w.history → Listed [] went v u → StaysSure v u × ((ls : List Label) → Listed ls went v u)
+    lists : (u : View) → u.seen ≡ w.history → Listed [] went v u → StaysSure w.given v u × ((ls : List Label) → Listed ls went v u)
     lists u all k = (
-      learned_stays _ _ _ (λ n. learns n place.List went) v u (λ n x. (refl, refl, refl)) (λ n x few. harmless_before went x.faults place.List few) k,
+      learned_stays w.given _ _ _ (λ n. learns n place.List went) v u (λ n x. (refl, refl, refl)) (λ n x few. harmless_before went x.faults place.List few) k,
       λ ls. let a = turns ls in
           subst (λ y. Listed ls went v y) (learned_is _ _ _ (λ n. learns n place.List went) w.history v a.view a.all a.turned ∙ sym (learned_is _ _ _ (λ n. learns n place.List went) w.history v u all k)) a.turned,
     )

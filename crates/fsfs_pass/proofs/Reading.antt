@@ -1,14 +1,14 @@
 -- What a read tells, by its answer.
-use Rattle.std.proofs.Common.{◌≡◌, ◌<◌, ◌≤◌, ◌^◌, ℕ, List, length, true, false, refl, sym, ap, subst, ◌∙◌}
+use Rattle.std.proofs.Common.{◌≡◌, ◌<◌, ◌^◌, ℕ, List, true, false, refl, sym, ap, subst, ◌∙◌}
 use Rattle.std.specs.Prelude.{Option, Some, None, Bool, Result, IfOk, IfSome, is_some, is_err, option_map, slice_get}
 use Rattle.fsfs_layout.specs.Hash.Dump.{IsDump}
 use Rattle.fsfs_layout.specs.FileNames.{only_name}
 use Rattle.fsfs_layout.specs.Small.{IsRevLine}
 use Rattle.fsfs_layout.specs.declared.only_file.OnlyFile.TheVariants.{MinUnpackedRev, TxnCurrent}
-use Rattle.fsfs_disk.specs.Trace.{Trace, file_at, files_now, IsRead, IsSize}
+use Rattle.fsfs_disk.specs.Trace.{Trace, file_at, files_now, IsRead}
 use Rattle.fsfs_machine.specs.declared.machine.Recorded.{Recorded}
 use Rattle.fsfs_machine.specs.declared.machine.Went.{Went}
-use Rattle.fsfs_turn.specs.Views.{rev_name, props_name, Answers, ReadTurn}
+use Rattle.fsfs_turn.specs.Views.{props_name, Answers}
 use Rattle.fsfs_turn.specs.Learning.{PropsRead, FloorRead, ReadsCounter}
 use Rattle.fsfs_pass.specs.declared.seats.seat_view.SeatView.{SeatView}
 use Rattle.fsfs_pass.specs.Seats.{view_of}
@@ -17,7 +17,7 @@ use Rattle.fsfs_pass.specs.Tells.{IsMet}
 use Rattle.fsfs_pass.specs.SeatCalls.Made.{went_of}
 use Rattle.fsfs_pass.specs.SeatCalls.Tells.{ReadBy, DrawnBy}
 use Rattle.fsfs_pass.proofs.Answering.{answers_so, ended_still}
-use Rattle.fsfs_pass.proofs.Meeting.{met_bytes, met_props, met_floor}
+use Rattle.fsfs_pass.proofs.Meeting.{met_props, met_floor}
 
 -- what the pass is told of the disk that it takes
 abbrev pub Taken : SeatView → Option Trace → Type 0
@@ -42,10 +42,6 @@ module _ {E : Type 0} (failed : Bool) (me u : SeatView) (told : Option Trace) (t
   reads : (bytes : List ℕ) → file_at taken.0 name ≡ Some bytes → IfOk result (IsRead (Some bytes) offset old new)
   reads bytes there = subst (λ f. IfOk result (IsRead f offset old new)) there (some_of (λ t. IfOk result (IsRead (file_at t name) offset old new)) told taken.0 taken.1 read)
 
-  pub read_tells : (r : ℕ) (x : Recorded) → slice_get me.seen r ≡ Some x → r < 2 ^ 32 → me.pass.floor ≤ r → name ≡ rev_name (view_of me) r
-      → (went : Went) × Answers result went × ReadTurn r offset (length old) x went (view_of me) (view_of u) × IfOk result (IsRead (Some x.bytes) offset old new)
-  read_tells r x there fits above named = (went, answers, by.bytes r offset (length old) x there, reads x.bytes (met_bytes me taken.0 taken.2 r x there fits above name named))
-
   pub props_tell : (r : ℕ) (x : Recorded) → slice_get me.seen r ≡ Some x → r < 2 ^ 32 → name ≡ props_name (view_of me) r
       → (went : Went) × (text : List ℕ) × Answers result went × PropsRead r x went (view_of me) (view_of u) × IsDump text x.revision.properties × IfOk result (IsRead (Some text) offset old new)
   props_tell r x there fits named = let f = met_props me taken.0 taken.2 r x there fits name named in (went, f.0, answers, by.properties r x there, f.2, reads f.0 f.1)
@@ -53,16 +49,6 @@ module _ {E : Type 0} (failed : Bool) (me u : SeatView) (told : Option Trace) (t
   pub floor_tells : name ≡ only_name MinUnpackedRev
       → (went : Went) × (floor : ℕ) × (text : List ℕ) × Answers result went × FloorRead floor went (view_of me) (view_of u) × IsRevLine text floor × IfOk result (IsRead (Some text) offset old new)
   floor_tells named = let f = met_floor me taken.0 taken.2 name named in (went, me.pass.floor, f.0, answers, by.floor, f.2, reads f.0 f.1)
-
-pub size_tells : {E : Type 0} (failed : Bool) (me u : SeatView) (told : Option Trace) → Taken me told → (name : List ℕ) (result : Result (Option ℕ) E) → failed ≡ is_err result → IfSome told (λ t. IfOk result (IsSize (file_at t name)))
-    → ReadBy (went_of failed) (view_of me) (view_of u) → (r : ℕ) (x : Recorded) → slice_get me.seen r ≡ Some x → r < 2 ^ 32 → me.pass.floor ≤ r → name ≡ rev_name (view_of me) r
-    → (went : Went) × Answers result went × ReadTurn r 0 0 x went (view_of me) (view_of u) × IfOk result (IsSize (Some x.bytes))
-size_tells failed me u told taken name result is size by r x there fits above named = (
-  went_of failed,
-  answers_so failed result (went_of failed) is (ended_still failed),
-  by.bytes r 0 0 x there,
-  subst (λ f. IfOk result (IsSize f)) (met_bytes me taken.0 taken.2 r x there fits above name named) (some_of (λ t. IfOk result (IsSize (file_at t name))) told taken.0 taken.1 size),
-)
 
 -- ---- a begin's first call
 

@@ -20,9 +20,9 @@ use Rattle.fsfs_machine.specs.declared.machine.Recorded.{Recorded}
 use Rattle.fsfs_machine.specs.declared.machine.Section.{Section}
 use Rattle.fsfs_machine.specs.declared.machine.Section.TheVariants.{CurrentFirm}
 use Rattle.fsfs_machine.specs.declared.machine.Lock.{Lock}
-use Rattle.fsfs_machine.specs.declared.machine.Lock.TheVariants.{Free, Held, Stuck, Down, DownDoubtful}
+use Rattle.fsfs_machine.specs.declared.machine.Lock.TheVariants.{Free, Held, Stuck, StuckFloor, Down, DownDoubtful, DownFloor}
 use Rattle.fsfs_machine.specs.Machine.{held_by, is_up, stuck_place}
-use Rattle.fsfs_machine.specs.Kept.{IsHolder, IsIn, AreOnce}
+use Rattle.fsfs_machine.specs.Kept.{IsHolder, IsIn, AreOnce, most_floor, may_rise}
 use Rattle.fsfs_machine.proofs.Answering.{seen_of}
 use Rattle.fsfs_turn.specs.Past.{doubt, stuck_with, Safe}
 use Rattle.fsfs_turn.specs.Standing.{IsStore}
@@ -53,6 +53,8 @@ use Rattle.fsfs_pass.proofs.Kinships.{set_there, map_there, same_kin, only_one, 
 use Rattle.fsfs_pass.proofs.WhoseOwn.{all_once, all_there}
 use Rattle.fsfs_pass.proofs.Failures.{failed, bench_failed, sum_of_one, sum_more, sum_same, later_then, later_less, later_as}
 use Rattle.fsfs_pass.proofs.Others.{reseated, left_apart, there_at, none_past, seated, replaced}
+use Rattle.fsfs_pass.specs.OtherLabels.{AreAbove, KeepsOthersOf}
+use Rattle.fsfs_pass.proofs.LabelsStay.{keeps_itself, keeps_then}
 use Rattle.fsfs_pass.proofs.Stores as stores
 
 abbrev pub St : Type 0
@@ -88,8 +90,10 @@ not_held_doubt : (lock : Lock) → is_up lock ≡ true → ((q : ℕ) (s : Secti
 not_held_doubt Free up not = refl
 not_held_doubt (Held q s) up not = absurd (not q s refl)
 not_held_doubt (Stuck place x) up not = refl
+not_held_doubt (StuckFloor place) up not = refl
 not_held_doubt Down up not = refl
 not_held_doubt (DownDoubtful x) up not = absurd cc
+not_held_doubt DownFloor up not = absurd cc
 
 held_none : (lock : Lock) (q : ℕ) (s : Section) → held_by q lock ≡ None → held_by q lock ≡ Some s → ⊥
 held_none lock q s nobody it = let no : None ≡ Some s = sym nobody ∙ it in absurd cc
@@ -107,17 +111,24 @@ restored first views lock young t id me u at s own same seen turns left_is = rep
 
 -- only what is known of the disk was changed
 rehand : (first : SeatView) (views : List SeatView) (lock young : ℕ) (t : Trace) (id : ℕ) (me : SeatView) (h : Hand) → Sits views id me → Store first views lock young t → Store first (slice_set views id (record me { hand = h })) lock young t
-rehand first views lock young t id me h at s = restored first views lock young t id me (record me { hand = h }) at s (reseated first s.world t id me (record me { hand = h }) refl refl (seated first views lock young t s id me at)) refl (omega arith) (quiet_turn me (record me { hand = h }) lock refl refl refl) refl
+rehand first views lock young t id me h at s = restored first views lock young t id me (record me { hand = h }) at s (reseated first s.world t id me (record me { hand = h }) refl refl refl (seated first views lock young t s id me at)) refl (omega arith) (quiet_turn me (record me { hand = h }) lock refl refl refl) refl
 
 -- a seat stays as it was
 unseated : (first : SeatView) (views : List SeatView) (lock young : ℕ) (t : Trace) (id : ℕ) (me : SeatView) → get_elem? views id ≡ some me → Store first views lock young t → Store first (slice_set views id me) lock young t
 unseated first views lock young t id me at s = subst (λ (l : List SeatView). Store first l lock young t) (sym (set_again views id me at)) s
 
+-- the names that the seats know, where one seat's view was changed
+names_set : (first : SeatView) (views : List SeatView) (id : ℕ) (me u : SeatView) → get_elem? views id ≡ some me → ((j : ℕ) (v : SeatView) → get_elem? views j ≡ some v → AreAbove first.given v.given) → AreAbove first.given u.given
+    → (j : ℕ) (v : SeatView) → get_elem? (slice_set views id u) j ≡ some v → AreAbove first.given v.given
+names_set first views id me u at names its j z e = ⊎_elim
+    (λ (here : (j ≡ id) × (u ≡ z)). subst (λ (a : SeatView). AreAbove first.given a.given) here.1 its)
+    (λ (there : (j ≢ id) × (get_elem? views j ≡ some z)). names j z there.1) (at_set views id j u z e)
+
 module _ (began : DiskSeen) (first : SeatView) where
   -- one seat's view and a word change, and the disk stays where it is
-  pub goes : (s : St) (r : Rule began first s) (id : ℕ) (me u : SeatView) (ws : List ℕ) (lock young : ℕ) → get_elem? s.views id ≡ some me → is_left me.kin.stage ≡ false → ws ≡ r.out ∷ lock ∷ young ∷ [] → young ≤ last_rev → u.hand ≡ me.hand → u.failures ≡ me.failures → u.bench_failures ≡ me.bench_failures → u.told ≡ me.told → is_some u.met ≡ is_some r.disk.trace → (IsSitting u → u.kin.parts ≡ all_parts → u.met ≡ r.disk.trace)
+  pub goes : (s : St) (r : Rule began first s) (id : ℕ) (me u : SeatView) (ws : List ℕ) (lock young : ℕ) → get_elem? s.views id ≡ some me → is_left me.kin.stage ≡ false → ws ≡ r.out ∷ lock ∷ young ∷ [] → young ≤ last_rev → u.hand ≡ me.hand → u.failures ≡ me.failures → u.bench_failures ≡ me.bench_failures → u.told ≡ me.told → u.given ≡ me.given → is_some u.met ≡ is_some r.disk.trace → (IsSitting u → u.kin.parts ≡ all_parts → u.met ≡ r.disk.trace)
       → ((t : Trace) → r.disk.trace ≡ Some t → Store first (slice_set s.views id u) lock young t) → Rule began first record { words = ws; homes = s.homes; views = slice_set s.views id u }
-  goes s r id me u ws lock young at stays words bound hand fails benches told met alone store = record {
+  goes s r id me u ws lock young at stays words bound hand fails benches told given met alone store = record {
     out = r.out;
     lock = lock;
     young = young;
@@ -139,6 +150,8 @@ module _ (began : DiskSeen) (first : SeatView) where
     alone = λ j z e. ⊎_elim
         (λ (here : (j ≡ id) × (u ≡ z)). subst (λ (a : SeatView). IsSitting a → a.kin.parts ≡ all_parts → a.met ≡ r.disk.trace) here.1 alone)
         (λ (there : (j ≢ id) × (get_elem? s.views j ≡ some z)). r.alone j z there.1) (at_set s.views id j u z e);
+    names = names_set first s.views id me u at r.names (subst (λ ks. AreAbove first.given ks) (sym given) (r.names id me at));
+    labels = r.labels;
     store = store;
   }
 
@@ -158,7 +171,7 @@ module _ (began : DiskSeen) (first : SeatView) where
         keeps,
         tt,
         subst (λ n. Rule began first record { words = slice_set s.words 2 (slice_index s.words 2); homes = s.homes; views = slice_set s.views id (look_view n r.disk.trace me.0) }) (sym found)
-            (goes s r id me.0 (look_view r.young r.disk.trace me.0) (slice_set s.words 2 (slice_index s.words 2)) r.lock r.young at (seat_stays me.0 sits) next r.bound refl refl refl refl refl (λ _ _. refl) (λ t is. (looks_at t is).1)),
+            (goes s r id me.0 (look_view r.young r.disk.trace me.0) (slice_set s.words 2 (slice_index s.words 2)) r.lock r.young at (seat_stays me.0 sits) next r.bound refl refl refl refl refl refl (λ _ _. refl) (λ t is. (looks_at t is).1)),
         subst (λ n. looked (step slots 2 0 0 none) me n (look_view n r.disk.trace me.0, me.1)) (sym found) (r.bound, refl, (λ told. let t = trace_of s r id me.0 at (seat_stays me.0 sits) told in (looks_at t.0 t.1).0), by_told me.0.told refl, tells_it, λ all. sym (r.alone id me.0 at sits all)),
       )
     where
@@ -168,8 +181,8 @@ module _ (began : DiskSeen) (first : SeatView) where
 
       by_told : (b : Bool) → me.0.told ≡ b → Later (seat_store me.0) (seat_store (look_view r.young r.disk.trace me.0))
       by_told true told = let t = trace_of s r id me.0 at (seat_stays me.0 sits) told in
-          stores.later first s.views r.lock r.young t.0 (r.store t.0 t.1) id me.0 (at, sits) (look_view r.young r.disk.trace me.0) told t.1 refl (stores.looks_further first s.views r.lock r.young t.0 (r.store t.0 t.1) id me.0 (at, sits) told)
-      by_told false told = later_untold me.0 (look_view r.young r.disk.trace me.0) told (none_of me.0.met (r.met id me.0 at (seat_stays me.0 sits) ∙ sym (r.told id me.0 at (seat_stays me.0 sits)) ∙ told)) refl
+          stores.later first s.views r.lock r.young t.0 (r.store t.0 t.1) id me.0 (at, sits) (look_view r.young r.disk.trace me.0) told t.1 refl refl (stores.looks_further first s.views r.lock r.young t.0 (r.store t.0 t.1) id me.0 (at, sits) told)
+      by_told false told = later_untold me.0 (look_view r.young r.disk.trace me.0) told (none_of me.0.met (r.met id me.0 at (seat_stays me.0 sits) ∙ sym (r.told id me.0 at (seat_stays me.0 sits)) ∙ told)) refl refl
 
       tells_it : TellsIt (look_view r.young r.disk.trace me.0)
       tells_it = (
@@ -189,7 +202,7 @@ module _ (began : DiskSeen) (first : SeatView) where
         lock_view me.0,
         keeps,
         tt,
-        goes s r id me.0 (lock_view me.0) _ 1 r.young at (seat_stays me.0 sits) (next ∙ ap (λ b. r.out ∷ either b 1 r.lock ∷ r.young ∷ []) (eq-eqb r.lock 0 zero)) r.bound refl refl refl refl (r.met id me.0 at (seat_stays me.0 sits)) (λ _. r.alone id me.0 at sits)
+        goes s r id me.0 (lock_view me.0) _ 1 r.young at (seat_stays me.0 sits) (next ∙ ap (λ b. r.out ∷ either b 1 r.lock ∷ r.young ∷ []) (eq-eqb r.lock 0 zero)) r.bound refl refl refl refl refl (r.met id me.0 at (seat_stays me.0 sits)) (λ _. r.alone id me.0 at sits)
             (λ t is. let k = r.store t is in (stores.takes first s.views r.lock r.young t k id me.0 (at, sits) (word_free k.world.lock k.up (sym k.lock_is ∙ zero))).1),
         tell (lock_view me.0) (
           (λ _. (refl, λ told. let t = trace_of s r id me.0 at (seat_stays me.0 sits) told in let k = r.store t.0 t.1 in (stores.takes first s.views r.lock r.young t.0 k id me.0 (at, sits) (word_free k.world.lock k.up (sym k.lock_is ∙ zero))).0)),
@@ -202,14 +215,14 @@ module _ (began : DiskSeen) (first : SeatView) where
         me.0,
         keeps,
         tt,
-        goes s r id me.0 me.0 _ r.lock r.young at (seat_stays me.0 sits) (same no) r.bound refl refl refl refl (r.met id me.0 at (seat_stays me.0 sits)) (λ _. r.alone id me.0 at sits) (λ t is. unseated first s.views r.lock r.young t id me.0 at (r.store t is)),
+        goes s r id me.0 me.0 _ r.lock r.young at (seat_stays me.0 sits) (same no) r.bound refl refl refl refl refl (r.met id me.0 at (seat_stays me.0 sits)) (λ _. r.alone id me.0 at sits) (λ t is. unseated first s.views r.lock r.young t id me.0 at (r.store t is)),
         tell me.0 ((λ zero. absurd (no zero)), (λ _. refl), λ more. absurd (omega (arith, one, more))),
       ))
       (λ not_one. let above : 2 ≤ r.lock = above_one r.lock no not_one in (
         stuck_view (place_at r.lock) me.0,
         keeps,
         tt,
-        goes s r id me.0 (stuck_view (place_at r.lock) me.0) _ r.lock r.young at (seat_stays me.0 sits) (same no) r.bound refl refl refl refl (r.met id me.0 at (seat_stays me.0 sits)) (λ _. r.alone id me.0 at sits) (λ t is. stays r.lock above t (r.store t is)),
+        goes s r id me.0 (stuck_view (place_at r.lock) me.0) _ r.lock r.young at (seat_stays me.0 sits) (same no) r.bound refl refl refl refl refl (r.met id me.0 at (seat_stays me.0 sits)) (λ _. r.alone id me.0 at sits) (λ t is. stays r.lock above t (r.store t is)),
         tell (stuck_view (place_at r.lock) me.0) (
           (λ zero. absurd (no zero)),
           (λ one. absurd (not_one one)),
@@ -217,23 +230,21 @@ module _ (began : DiskSeen) (first : SeatView) where
         ),
       )))
     where
-      stuck_at : (lock : ℕ) → 2 ≤ lock → (t : Trace) (k : Store first s.views lock r.young t) → (x : Coming) × (k.world.lock ≡ Stuck (place_at lock) x)
-      stuck_at lock above t k =
-          let x = word_stuck k.world.lock k.up (subst (λ n. 2 ≤ n) k.lock_is above) in
-          (x.0, x.1 ∙ ap (λ n. Stuck (place_at n) x.0) (sym k.lock_is))
+      stuck_at : (lock : ℕ) → 2 ≤ lock → (t : Trace) (k : Store first s.views lock r.young t) → stuck_place k.world.lock ≡ Some (place_at lock)
+      stuck_at lock above t k = word_stuck k.world.lock k.up (subst (λ n. 2 ≤ n) k.lock_is above) ∙ ap (λ n. Some (place_at n)) (sym k.lock_is)
 
       stays : (lock : ℕ) → 2 ≤ lock → (t : Trace) → Store first s.views lock r.young t → Store first (slice_set s.views id (stuck_view (place_at lock) me.0)) lock r.young t
-      stays lock above t k = let x = stuck_at lock above t k in (stores.finds first s.views lock r.young t k id me.0 (at, sits) (place_at lock) x.0 x.1).1
+      stays lock above t k = (stores.finds first s.views lock r.young t k id me.0 (at, sits) (place_at lock) (stuck_at lock above t k)).1
 
       found_so : (lock : ℕ) → 2 ≤ lock → (t : Trace) → Store first s.views lock r.young t → FoundStuck (place_at lock) (view_of me.0) (view_of (stuck_view (place_at lock) me.0))
-      found_so lock above t k = let x = stuck_at lock above t k in (stores.finds first s.views lock r.young t k id me.0 (at, sits) (place_at lock) x.0 x.1).0
+      found_so lock above t k = (stores.finds first s.views lock r.young t k id me.0 (at, sits) (place_at lock) (stuck_at lock above t k)).0
 
   pub gives_lock : (slots id : ℕ) (me : Sat) → IsSitting me.0 → CanGive me.0 → Allows (Rule began first) slots id me 1 (λ _. 0) (λ _. gave_lock (step slots 1 0 0 none) me 0)
   gives_lock slots id me sits may s r long at small = (
     outside_view me.0,
     keeps,
     tt,
-    goes s r id me.0 (outside_view me.0) _ 0 r.young at (seat_stays me.0 sits) (ap (λ ws. slice_set ws 1 0) r.words) r.bound refl refl refl refl (r.met id me.0 at (seat_stays me.0 sits)) (λ _. r.alone id me.0 at sits)
+    goes s r id me.0 (outside_view me.0) _ 0 r.young at (seat_stays me.0 sits) (ap (λ ws. slice_set ws 1 0) r.words) r.bound refl refl refl refl refl (r.met id me.0 at (seat_stays me.0 sits)) (λ _. r.alone id me.0 at sits)
         (λ t is. (stores.gives first s.views r.lock r.young t (r.store t is) id me.0 (at, sits) (may (told_of s r id me.0 at (seat_stays me.0 sits) t is))).1),
     (refl, λ told. let t = trace_of s r id me.0 at (seat_stays me.0 sits) told in (stores.gives first s.views r.lock r.young t.0 (r.store t.0 t.1) id me.0 (at, sits) (may told)).0),
   )
@@ -243,7 +254,7 @@ module _ (began : DiskSeen) (first : SeatView) where
     outside_view me.0,
     keeps,
     tt,
-    goes s r id me.0 (outside_view me.0) _ n r.young at (seat_stays me.0 sits) (ap (λ ws. slice_set ws 1 n) r.words) r.bound refl refl refl refl (r.met id me.0 at (seat_stays me.0 sits)) (λ _. r.alone id me.0 at sits)
+    goes s r id me.0 (outside_view me.0) _ n r.young at (seat_stays me.0 sits) (ap (λ ws. slice_set ws 1 n) r.words) r.bound refl refl refl refl refl (r.met id me.0 at (seat_stays me.0 sits)) (λ _. r.alone id me.0 at sits)
         (λ t is. let m = may (told_of s r id me.0 at (seat_stays me.0 sits) t is) in subst (λ k. Store first (slice_set s.views id (outside_view me.0)) k r.young t) (sym is_n) (stores.sticks first s.views r.lock r.young t (r.store t is) id me.0 (at, sits) place m.0 m.1).1),
     (refl, λ told. let t = trace_of s r id me.0 at (seat_stays me.0 sits) told in let m = may told in (stores.sticks first s.views r.lock r.young t.0 (r.store t.0 t.1) id me.0 (at, sits) place m.0 m.1).0),
   )
@@ -253,7 +264,7 @@ module _ (began : DiskSeen) (first : SeatView) where
     reveal_in me.0.section r.disk.trace me.0,
     keeps,
     tt,
-    goes s r id me.0 (reveal_in me.0.section r.disk.trace me.0) _ r.lock rev at (seat_stays me.0 sits) (ap (λ ws. slice_set ws 2 rev) r.words) fits (hand_in me.0.section) (failures_at me.0.section) (benches_at me.0.section) (told_in me.0.section) (met_in me.0.section) (alone_in me.0.section) after,
+    goes s r id me.0 (reveal_in me.0.section r.disk.trace me.0) _ r.lock rev at (seat_stays me.0 sits) (ap (λ ws. slice_set ws 2 rev) r.words) fits (hand_in me.0.section) (failures_at me.0.section) (benches_at me.0.section) (told_in me.0.section) (given_in me.0.section) (met_in me.0.section) (alone_in me.0.section) after,
     ((λ i. (meets_as me.0.section i, me.1)), told_so, tells_it),
   )
     where
@@ -272,6 +283,10 @@ module _ (began : DiskSeen) (first : SeatView) where
       told_in : (o : Option Section) → (reveal_in o r.disk.trace me.0).told ≡ me.0.told
       told_in (Some (CurrentFirm x)) = refl
       told_in o = refl
+
+      given_in : (o : Option Section) → (reveal_in o r.disk.trace me.0).given ≡ me.0.given
+      given_in (Some (CurrentFirm x)) = refl
+      given_in o = refl
 
       sits_in : (o : Option Section) → IsSitting (reveal_in o r.disk.trace me.0)
       sits_in (Some (CurrentFirm x)) = sits
@@ -323,7 +338,7 @@ module _ (began : DiskSeen) (first : SeatView) where
   pub reveals_as : (slots id : ℕ) (me : Sat) (rev n : ℕ) → IsSitting me.0 → n ≡ rev → n ≤ last_rev → CanReveal rev me.0 → Allows (Rule began first) slots id me 2 (λ _. n) (λ _. revealed (step slots 2 n 0 none) me n)
   reveals_as slots id me rev n sits is fits may = reveals_it slots id me n sits fits (subst (λ k. CanReveal k me.0) (sym is) may)
 
-  pub takes_out : (slots id : ℕ) (me : Sat) → IsSitting me.0 → Allows (Rule began first) slots id me 0 (λ n. either (eqb n 0) 1 n) (taken began (step slots 0 0 1 none) me)
+  pub takes_out : (slots id : ℕ) (me : Sat) → IsSitting me.0 → Allows (Rule began first) slots id me 0 (λ n. either (eqb n 0) 1 n) (taken began first.given (step slots 0 0 1 none) me)
   takes_out slots id me sits s r long at small =
       let found : slice_index s.words 0 ≡ r.out = ap (λ ws. slice_index ws 0) r.words in
       let next : slice_set s.words 0 (either (eqb (slice_index s.words 0) 0) 1 (slice_index s.words 0)) ≡ either (eqb r.out 0) 1 r.out ∷ r.lock ∷ r.young ∷ [] = ap (λ ws. slice_set ws 0 (either (eqb (slice_index ws 0) 0) 1 (slice_index ws 0))) r.words in
@@ -354,15 +369,17 @@ module _ (began : DiskSeen) (first : SeatView) where
           alone = λ j z e. ⊎_elim
               (λ (here : (j ≡ id) × (u ≡ z)). subst (λ (a : SeatView). IsSitting a → a.kin.parts ≡ all_parts → a.met ≡ r.disk.trace) here.1 (r.alone id me.0 at))
               (λ (there : (j ≢ id) × (get_elem? s.views j ≡ some z)). r.alone j z there.1) (at_set s.views id j u z e);
+          names = names_set first s.views id me.0 u at r.names (r.names id me.0 at);
+          labels = r.labels;
           store = λ t is. rehand first s.views r.lock r.young t id me.0 (Out r.disk) (at, sits) (r.store t is);
         },
-        ((λ _. (r.disk, refl, r.told id me.0 at (seat_stays me.0 sits), (λ all. sym (r.alone id me.0 at sits all)), later_less (failures_in s.views) me.0.failures (bench_failures_in s.views) me.0.bench_failures began r.disk (sum_of_one failed s.views id me.0 at) (sum_of_one bench_failed s.views id me.0 at) r.later, λ t is. met t (r.store t is))), λ no. absurd (no (found ∙ hit))),
+        ((λ _. (r.disk, refl, r.told id me.0 at (seat_stays me.0 sits), (λ all. sym (r.alone id me.0 at sits all)), later_less (failures_in s.views) me.0.failures (bench_failures_in s.views) me.0.bench_failures began r.disk (sum_of_one failed s.views id me.0 at) (sum_of_one bench_failed s.views id me.0 at) r.later, r.labels, λ t is. met t (r.store t is))), λ no. absurd (no (found ∙ hit))),
       ))
       (λ miss. (
         me.0,
         keeps,
         tt,
-        goes s r id me.0 me.0 _ r.lock r.young at (seat_stays me.0 sits) (next ∙ ap (λ b. either b 1 r.out ∷ r.lock ∷ r.young ∷ []) (ne_eqb r.out 0 miss)) r.bound refl refl refl refl (r.met id me.0 at (seat_stays me.0 sits)) (λ _. r.alone id me.0 at sits) (λ t is. unseated first s.views r.lock r.young t id me.0 at (r.store t is)),
+        goes s r id me.0 me.0 _ r.lock r.young at (seat_stays me.0 sits) (next ∙ ap (λ b. either b 1 r.out ∷ r.lock ∷ r.young ∷ []) (ne_eqb r.out 0 miss)) r.bound refl refl refl refl refl (r.met id me.0 at (seat_stays me.0 sits)) (λ _. r.alone id me.0 at sits) (λ t is. unseated first s.views r.lock r.young t id me.0 at (r.store t is)),
         ((λ z. absurd (miss (sym found ∙ z))), λ _. refl),
       ))
     where
@@ -373,9 +390,9 @@ module _ (began : DiskSeen) (first : SeatView) where
       met : (t : Trace) → Store first s.views r.lock r.young t → IsMet me.0 t
       met t k = record {
         world = k.world;
-        store = subst (λ l. IsStore l k.world.young (stuck_place k.world.lock) t k.world) (sym o.layout) (subst (λ n. IsStore first.layout n (stuck_place k.world.lock) t k.world) (sym k.store.young_is) k.store);
+        store = subst (λ (y : Layout × ℕ). IsStore y.0 y.1 k.world.young (stuck_place k.world.lock) t k.world) (λ i. (sym o.layout i, sym o.low i)) (subst (λ n. IsStore first.layout first.low n (stuck_place k.world.lock) t k.world) (sym k.store.young_is) k.store);
         sees = o.sees;
-        least = (seen_of (length k.world.history) k.world.floor k.world.passes me.0.number me.0.pass k.store.kept.seen o.sees.pass).least;
+        least = (seen_of (length k.world.history) k.world.low (most_floor (may_rise k.world.lock) k.world.size k.world.floor) k.world.passes me.0.number me.0.pass k.store.kept.seen o.sees.pass).least;
         joined = its_own;
         once = its_once;
         apart = all_once k.world me.0 k.store.kept.whose o.sees.pass its_own its_once;
@@ -405,7 +422,7 @@ module _ (began : DiskSeen) (first : SeatView) where
             let here : c.0 ≡ id = only_one (branches s.views) k.kin id (branch_of me.0) (map_there s.views id me.0 at) all c.0 (branch_of c.1) (map_there s.views c.0 c.1 c.2) c.3 in
             let same : c.1 ≡ me.0 = some-injective c.1 me.0 (sym c.2 ∙ ap (λ n. get_elem? s.views n) here ∙ at) in
             ap (λ (v : SeatView). v.left) (sym same) ∙ c.4);
-        safe = subst (λ (y : Layout × (Since × ℕ)). Safe y.0 y.1.0 t y.1.1 k.world.floor k.world.history (doubt k.world.lock)) (λ i. (sym o.layout i, (sym o.since i, sym o.opened i))) k.safe;
+        safe = subst (λ (y : Layout × (Since × ℕ)). Safe y.0 y.1.0 t y.1.1 k.world.history (doubt k.world.lock)) (λ i. (sym o.layout i, (sym o.since i, sym o.opened i))) k.safe;
         own = subst (λ (y : Layout × Since). OwnFilesLast y.0 y.1 (Some t)) (λ i. (sym o.layout i, sym o.since i)) k.own;
       }
         where
@@ -452,15 +469,15 @@ module _ (began : DiskSeen) (first : SeatView) where
               let nobody : held_by j.1.0 k.world.lock ≡ None = left_holds x.seat x.left j.1.0 (k.seats j.1.0 x.seat x.at) in
               held_none k.world.lock q z (ap (λ n. held_by n k.world.lock) (sym j.3) ∙ nobody) here) (no_more all q holder.0)
 
-  -- the same by a disk that is equal
-  pub takes_of : (k : DiskSeen) → began ≡ k → (slots id : ℕ) (me : Sat) → IsSitting me.0 → Allows (Rule began first) slots id me 0 (λ n. either (eqb n 0) 1 n) (taken k (step slots 0 0 1 none) me)
-  takes_of k is slots id me sits = subst (λ b. Allows (Rule began first) slots id me 0 (λ n. either (eqb n 0) 1 n) (taken b (step slots 0 0 1 none) me)) is (takes_out slots id me sits)
+  -- the same by a disk and names that are equal
+  pub takes_of : (k : DiskSeen) (names : List ℕ) → began ≡ k → first.given ≡ names → (slots id : ℕ) (me : Sat) → IsSitting me.0 → Allows (Rule began first) slots id me 0 (λ n. either (eqb n 0) 1 n) (taken k names (step slots 0 0 1 none) me)
+  takes_of k names is given slots id me sits = subst (λ (b : DiskSeen × List ℕ). Allows (Rule began first) slots id me 0 (λ n. either (eqb n 0) 1 n) (taken b.0 b.1 (step slots 0 0 1 none) me)) (λ i. (is i, given i)) (takes_out slots id me sits)
 
   -- the disk goes back to its slot, n calls of which have failed since it was taken, and k of benches that it took back, and the seat knows so much
   pub returned : (s : St) (r : Rule began first s) (id : ℕ) (me u : SeatView) (d : DiskSeen) (cs : List (ℕ × Option DiskSeen)) (was : DiskSeen) (n k : ℕ) → Sits s.views id me → 0 < length s.homes → cs ≡ (0, Some d) ∷ [] → me.hand ≡ Out was → IsLater n k was d
-      → u.hand ≡ Empty → u.failures ≡ me.failures + n → u.bench_failures ≡ me.bench_failures + k → u.told ≡ me.told → is_some u.met ≡ is_some d.trace → is_some d.trace ≡ is_some was.trace → u.kin ≡ me.kin → (me.kin.parts ≡ all_parts → u.met ≡ d.trace) → ((now : Trace) → d.trace ≡ Some now → Store first (slice_set s.views id u) r.lock r.young now)
+      → u.hand ≡ Empty → u.failures ≡ me.failures + n → u.bench_failures ≡ me.bench_failures + k → u.told ≡ me.told → is_some u.met ≡ is_some d.trace → is_some d.trace ≡ is_some was.trace → u.kin ≡ me.kin → (me.kin.parts ≡ all_parts → u.met ≡ d.trace) → AreAbove first.given u.given → KeepsOthersOf first.given r.disk.trace d.trace → ((now : Trace) → d.trace ≡ Some now → Store first (slice_set s.views id u) r.lock r.young now)
       → Rule began first record { words = slice_set s.words 0 0; homes = put_back s.homes cs; views = slice_set s.views id u }
-  returned s r id me u d cs was n k at room carried has later hand fails benches told met same kin alone store = record {
+  returned s r id me u d cs was n k at room carried has later hand fails benches told met same kin alone names others store = record {
     out = 0;
     lock = r.lock;
     young = r.young;
@@ -483,6 +500,8 @@ module _ (began : DiskSeen) (first : SeatView) where
     alone = λ j z e sits all. ⊎_elim
         (λ (here : (j ≡ id) × (u ≡ z)). subst (λ (a : SeatView). a.kin.parts ≡ all_parts → a.met ≡ d.trace) here.1 (λ its. alone (sym (ap (λ (c : Kin). c.parts) kin) ∙ its)) all)
         (λ (there : (j ≢ id) × (get_elem? s.views j ≡ some z)). alone_still j z there.0 there.1 sits all r.disk.trace refl) (at_set s.views id j u z e);
+    names = names_set first s.views id me u at.0 r.names names;
+    labels = keeps_then first.given began.trace r.disk.trace d.trace (sym is_told) r.labels others;
     store = store;
   }
     where
@@ -512,7 +531,7 @@ module _ (began : DiskSeen) (first : SeatView) where
         u,
         gives,
         tt,
-        returned s r id me.0 u d me.1 was 0 0 (at, sits) (omega (arith, room, long)) carried has later refl (omega arith) (omega arith) refl (r.met id me.0 at (seat_stays me.0 sits) ∙ ap (λ o. is_some o) (sym stays)) (ap (λ o. is_some o) same) refl (λ all. r.alone id me.0 at sits all ∙ sym stays)
+        returned s r id me.0 u d me.1 was 0 0 (at, sits) (omega (arith, room, long)) carried has later refl (omega arith) (omega arith) refl (r.met id me.0 at (seat_stays me.0 sits) ∙ ap (λ o. is_some o) (sym stays)) (ap (λ o. is_some o) same) refl (λ all. r.alone id me.0 at sits all ∙ sym stays) (r.names id me.0 at) (subst (λ o. KeepsOthersOf first.given r.disk.trace o) (sym stays) (keeps_itself first.given r.disk.trace))
             (λ t is. rehand first s.views r.lock r.young t id me.0 Empty (at, sits) (r.store t (sym stays ∙ is))),
         ap (λ (cs : List (ℕ × Option DiskSeen)). (u, rest cs)) carried,
       )

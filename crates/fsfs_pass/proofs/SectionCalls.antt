@@ -1,11 +1,12 @@
 -- Calls of a section, as the disk goes back.
-use Rattle.std.proofs.Common.{length, ◌≡◌, ◌<◌, ℕ, List, [], ◌∷◌, ◌++◌, true, false, ⊎_elim, inl, refl, sym, ap, subst, ◌∙◌, arith}
+use Rattle.std.proofs.Common.{length, ◌≡◌, ◌⊎◌, ◌<◌, ℕ, List, [], ◌∷◌, ◌++◌, true, false, ⊎_elim, inl, inr, refl, sym, ap, subst, ◌∙◌, arith}
 use Rattle.std.specs.Prelude.{Option, Some, None, Bool, Result, Ok, Err, OnOk, OnErr, is_some}
 use mathlib.Core.Option.{none}
 use Rattle.atomic_table.specs.Table.{step, Allows}
 use Rattle.fsfs_tree.specs.Revisions.{Revision}
 use Rattle.fsfs_disk.specs.Trace.{Trace, files_now, Performs, FailsAt, FailsToPut}
 use Rattle.fsfs_disk.specs.Trace as real
+use Rattle.fsfs_layout.specs.declared.layout.Layout.{Layout}
 use Rattle.fsfs_base.specs.declared.places.place.DiskPlace.{DiskPlace}
 use Rattle.fsfs_base.specs.declared.places.place.DiskPlace.TheVariants.{Begin, Commit}
 use Rattle.fsfs_base.specs.declared.places.place.BeginPlace.TheVariants as begin
@@ -14,16 +15,21 @@ use Rattle.fsfs_machine.specs.declared.machine.Section.{Section}
 use Rattle.fsfs_machine.specs.declared.machine.Section.TheVariants.{Begun, CountRead, CountPut, CountRenamed, RevPut, PropsPut, RevFirm, CurrentPut, CurrentRenamed, Over}
 use Rattle.fsfs_machine.specs.declared.machine.Txn.{Txn}
 use Rattle.fsfs_machine.specs.declared.machine.Went.{Went}
-use Rattle.fsfs_machine.specs.declared.machine.Went.TheVariants.{Before}
-use Rattle.fsfs_machine.specs.Machine.{either, is_due, stuck_place}
+use Rattle.fsfs_machine.specs.declared.machine.Went.TheVariants.{Fine, Before, After, Torn}
+use Rattle.fsfs_machine.specs.declared.machine.Drawn.{Drawn}
+use Rattle.fsfs_machine.specs.Machine.{World, either, is_due, stuck_place}
+use Rattle.fsfs_machine.specs.Kept.{AllBelow, IsIn, KnowsAt}
 use Rattle.fsfs_turn.specs.Alone.{are_harmless, is_doubtful_at}
-use Rattle.fsfs_turn.specs.Views.{View, is_held, coming_of, IsDue, Answers, Called, MayAdopt, Adopted}
+use Rattle.fsfs_turn.specs.Past.{doubt, Safe}
+use Rattle.fsfs_turn.specs.Standing.{IsStore}
+use Rattle.fsfs_turn.specs.Views.{View, Sees, is_held, coming_of, given_by, IsDue, Answers, Called, MayAdopt, Adopted}
 use Rattle.fsfs_turn.specs.Adoptions.{NeedsFolder}
 use Rattle.fsfs_turn.proofs.TurnEnds.{IsAfter, Comes}
 use Rattle.fsfs_turn.proofs.Due.{put_comes, rename_comes, firm_comes, folder_fails}
 use Rattle.fsfs_turn.proofs.Adopting.{adopt_fails}
 use Rattle.fsfs_turn.proofs.Alone.{harmless_before, either_calm}
 use Rattle.fsfs_turn.proofs.OwnFiles.{due_spares}
+use Rattle.fsfs_turn.proofs.Locking.{held_in}
 use Rattle.fsfs_disk.specs.Seen.{DiskSeen, IsLater}
 use Rattle.fsfs_pass.specs.declared.seats.seat_view.SeatView.{SeatView}
 use Rattle.fsfs_pass.specs.declared.seats.seat_view.Hand.TheVariants.{Out}
@@ -36,6 +42,7 @@ use Rattle.fsfs_pass.specs.SeatCalls.Made.{Made, Ended, carried, failed_of, once
 use Rattle.fsfs_pass.specs.SeatCalls.Tells.{CalledBy, Unmade, called_back, unmade_back}
 use Rattle.fsfs_pass.proofs.Doubting.{place_due, called_calm}
 use Rattle.fsfs_pass.proofs.FilesLast.{made_lasts, made_own}
+use Rattle.fsfs_pass.proofs.LabelsStay.{IsByNames, made_stay}
 use Rattle.fsfs_pass.proofs.Going.{IsShort, StaysSure, after_more, Turn, gives_so}
 
 -- ---- how it ended
@@ -143,8 +150,17 @@ sections_due v (Commit RenameCurrent) (real.Rename from to) d = tt
 sections_due v (Commit FirmCurrent) real.FirmNames d = tt
 sections_due v place change d = absurd d
 
-called_stays : (place : DiskPlace) (change : real.NameChange) (went : Went) (v u : View) → IsDue v place change → Called place went v u → StaysSure v u
-called_stays place change went v u due c =
+-- a name that comes is above all that were given
+given_names : (s : Section) (went : Went) (given old : List ℕ) (k : ℕ) → ((x : Drawn) → s ≡ CountRenamed x → AllBelow x.name given) → IsIn k (given_by s went old) → IsIn k old ⊎ AllBelow k given
+given_names (CountRenamed x) Fine given old k above (inl same) = inr (subst (λ n. AllBelow n given) same (above x refl))
+given_names (CountRenamed x) Fine given old k above (inr more) = inl more
+given_names (CountRenamed x) Before given old k above i = inl i
+given_names (CountRenamed x) After given old k above i = inl i
+given_names (CountRenamed x) (Torn any) given old k above i = inl i
+given_names s went given old k above i = inl i
+
+called_stays : (place : DiskPlace) (change : real.NameChange) (went : Went) (given : List ℕ) (v u : View) → ((x : Drawn) → v.section ≡ Some (CountRenamed x) → AllBelow x.name given) → IsDue v place change → Called place went v u → StaysSure given v u
+called_stays place change went given v u above due c =
     let here = at_place v place change due in
     let inside : c.inside ≡ here.section = one_section c.inside here.section (sym c.was ∙ here.inside) in
     let place_is : place ≡ place_due c.inside = sym here.place_is ∙ ap (λ s. place_due s) (sym inside) in
@@ -157,10 +173,11 @@ called_stays place change went v u due c =
       harm = λ few. harmless_before went v.pass.faults place (sym (ap (λ (x : View). are_harmless x.pass.faults) c.is) ∙ few);
       calm = λ few so. ap (λ (x : View). is_doubtful_at x.section) c.is
           ∙ called_calm went c.inside v.pass.faults (subst (λ p. are_harmless (either went v.pass.faults (v.pass.faults ++ p ∷ [])) ≡ true) place_is (sym (ap (λ (x : View). are_harmless x.pass.faults) c.is) ∙ few));
+      names = λ k i. given_names c.inside went given v.given k (λ x is. above x (c.was ∙ ap (λ s. Some s) is)) (subst (λ ks. IsIn k ks) (ap (λ (x : View). x.given) c.is) i);
     }
 
-pub adopted_stays : (txn : Txn) (properties : List (List ℕ × List ℕ)) (next : Revision) (bytes : List ℕ) (went : Went) (v u : View) → Adopted txn properties next bytes went v u → StaysSure v u
-adopted_stays txn properties next bytes went v u c = record {
+pub adopted_stays : (txn : Txn) (properties : List (List ℕ × List ℕ)) (next : Revision) (bytes : List ℕ) (went : Went) (given : List ℕ) (v u : View) → Adopted txn properties next bytes went v u → StaysSure given v u
+adopted_stays txn properties next bytes went given v u c = record {
   same = ap (λ (x : View). x.sure) c.is;
   least = ap (λ (x : View). x.pass.least) c.is;
   mine = ap (λ (x : View). x.pass.mine) c.is;
@@ -168,7 +185,19 @@ adopted_stays txn properties next bytes went v u c = record {
   held = λ _. ap (λ (x : View). is_held x.section) c.is;
   harm = λ few. harmless_before went v.pass.faults (Commit PutRev) (sym (ap (λ (x : View). are_harmless x.pass.faults) c.is) ∙ few);
   calm = λ few so. ap (λ (x : View). is_doubtful_at x.section) c.is ∙ either_calm went (RevPut (coming_of v txn properties next bytes)) Over refl refl;
+  names = λ k i. inl (subst (λ ks. IsIn k ks) (ap (λ (x : View). x.given) c.is) i);
 }
+
+-- the name that a section is to give is above all that were given
+pub naming : (layout : Layout) (low young : ℕ) (t : Trace) (w : World) (v : View) → IsStore layout low young (stuck_place w.lock) t w → Sees w v → Safe layout v.since t v.opened w.history (doubt w.lock) → (x : Drawn) → v.section ≡ Some (CountRenamed x) → AllBelow x.name w.given
+naming layout low young t w v store sees safe x inside =
+    (subst (λ l. KnowsAt w.size w.floor w.history w.given l w.disk) (held_in layout low young (stuck_place w.lock) t w v store sees safe (CountRenamed x) inside) store.kept.knows).1
+
+section_names : (given : List ℕ) (change : real.NameChange) → IsSections change → IsByNames given change
+section_names given (real.Put name bytes) its = tt
+section_names given (real.Rename from to) its = tt
+section_names given real.FirmNames its = tt
+section_names given change its = absurd its
 
 pub called_turn : (me : SeatView) (d : DiskSeen) (t : Option Trace) (place : DiskPlace) (change : real.NameChange) → IsDue (view_of me) place change → Made d.failed change t d.trace → Turn me d t (CalledBy d.failed (view_of me))
 called_turn me d t place change due made told old is young w store sees safe =
@@ -177,21 +206,22 @@ called_turn me d t place change due made told old is young w store sees safe =
     inl (
       c.0,
       c.2,
-      after_more me.layout young (stuck_place w.lock) c.0 w v (λ u. Called place c.1 v u) (λ u. StaysSure v u × CalledBy d.failed v u)
-          (λ u _ call. (called_stays place change c.1 v u due call, λ other its its_due. (c.1, ended_so d.failed c.1 c.3, subst (λ p. Called p c.1 v u) (one_place v place other (at_place v place change due) (at_place v other its its_due)) call))) c.4,
+      after_more me.layout me.low young (stuck_place w.lock) c.0 w v (λ u. Called place c.1 v u) (λ u. StaysSure w.given v u × CalledBy d.failed v u)
+          (λ u _ call. (called_stays place change c.1 w.given v u (naming me.layout me.low young old w v store sees safe) due call, λ other its its_due. (c.1, ended_so d.failed c.1 c.3, subst (λ p. Called p c.1 v u) (one_place v place other (at_place v place change due) (at_place v other its its_due)) call))) c.4,
       made_lasts me.layout (length w.history) old c.0 d.failed change (due_passes (length w.history) v place change due (λ x coming. let e : length v.seen ≡ length w.history = ap length (sees.whole x coming) in omega (arith, e))) (subst (λ o. Made d.failed change (Some old) o) c.2 here),
       made_own me.layout me.since old c.0 d.failed change (due_spares v place change due) (subst (λ o. Made d.failed change (Some old) o) c.2 here),
+      made_stay me.given old c.0 d.failed change (section_names me.given change (sections_due v place change due)) (subst (λ o. Made d.failed change (Some old) o) c.2 here),
     )
   where
     v : View
     v = view_of me
 
-    comes : (change : real.NameChange) → IsDue v place change → IsSections change → Made d.failed change (Some old) d.trace → Comes me.layout young (stuck_place w.lock) d.trace w v (result_of d.failed) (λ went u. Called place went v u)
-    comes (real.Put name bytes) due its made = put_comes me.layout young (stuck_place w.lock) old w v store sees refl safe d.trace place name bytes (result_of d.failed) due
+    comes : (change : real.NameChange) → IsDue v place change → IsSections change → Made d.failed change (Some old) d.trace → Comes me.layout me.low young (stuck_place w.lock) d.trace w v (result_of d.failed) (λ went u. Called place went v u)
+    comes (real.Put name bytes) due its made = put_comes me.layout me.low young (stuck_place w.lock) old w v store sees refl safe d.trace place name bytes (result_of d.failed) due
         (made_well d.failed (real.Put name bytes) (Some old) d.trace made) (put_ill d.failed name bytes (Some old) d.trace made)
-    comes (real.Rename from to) due its made = rename_comes me.layout young (stuck_place w.lock) old w v store sees refl safe d.trace place from to (result_of d.failed) due
+    comes (real.Rename from to) due its made = rename_comes me.layout me.low young (stuck_place w.lock) old w v store sees refl safe d.trace place from to (result_of d.failed) due
         (made_well d.failed (real.Rename from to) (Some old) d.trace made) (rename_ill d.failed from to (Some old) d.trace made)
-    comes real.FirmNames due its made = firm_comes me.layout young (stuck_place w.lock) old w v store sees refl safe d.trace place (result_of d.failed) due
+    comes real.FirmNames due its made = firm_comes me.layout me.low young (stuck_place w.lock) old w v store sees refl safe d.trace place (result_of d.failed) due
         (made_well d.failed real.FirmNames (Some old) d.trace made) (firm_ill d.failed (Some old) d.trace made)
     comes change due its made = absurd its
 
@@ -206,24 +236,25 @@ unmade_turn me d t due same told old is young w store sees safe = ⊎_elim
     inl (
       old,
       same ∙ is,
-      after_more me.layout young (stuck_place w.lock) old w v (λ u. Called x.0 Before v u) (λ u. StaysSure v u × Unmade v u)
+      after_more me.layout me.low young (stuck_place w.lock) old w v (λ u. Called x.0 Before v u) (λ u. StaysSure w.given v u × Unmade v u)
           (λ u _ call. (
-            called_stays x.0 (real.Put x.1 x.2) Before v u x.3 call,
+            called_stays x.0 (real.Put x.1 x.2) Before w.given v u (naming me.layout me.low young old w v store sees safe) x.3 call,
             record {
               call = λ other file bytes its. subst (λ p. Called p Before v u) (one_place v x.0 other here (at_place v other (real.Put file bytes) its)) call;
               first = λ txn properties next bytes may. absurd (none_due v x.0 here may.begun);
             },
-          )) (folder_fails me.layout young (stuck_place w.lock) old w v store sees refl safe x.0 x.1 x.2 x.3),
+          )) (folder_fails me.layout me.low young (stuck_place w.lock) old w v store sees refl safe x.0 x.1 x.2 x.3),
       lasts_same me.layout (length w.history) (files_now old),
       λ own. own,
+      λ l other. refl,
     ))
     (λ (x : (txn : Txn) × (properties : List (List ℕ × List ℕ)) × (next : Revision) × (bytes : List ℕ) × MayAdopt v txn properties next bytes).
     inl (
       old,
       same ∙ is,
-      after_more me.layout young (stuck_place w.lock) old w v (λ u. Adopted x.0 x.1 x.2 x.3 Before v u) (λ u. StaysSure v u × Unmade v u)
+      after_more me.layout me.low young (stuck_place w.lock) old w v (λ u. Adopted x.0 x.1 x.2 x.3 Before v u) (λ u. StaysSure w.given v u × Unmade v u)
           (λ u _ one. (
-            adopted_stays x.0 x.1 x.2 x.3 Before v u one,
+            adopted_stays x.0 x.1 x.2 x.3 Before w.given v u one,
             record {
               call = λ other file bytes its. absurd (none_due v other (at_place v other (real.Put file bytes) its) x.4.begun);
               first = λ txn properties next bytes may. let k = unmade txn properties next bytes may in one_adopted x.0 txn x.1 properties x.2 next x.3 bytes v u k.view one k.turned;
@@ -231,13 +262,14 @@ unmade_turn me d t due same told old is young w store sees safe = ⊎_elim
           )) (unmade x.0 x.1 x.2 x.3 x.4),
       lasts_same me.layout (length w.history) (files_now old),
       λ own. own,
+      λ l other. refl,
     )) due
   where
     v : View
     v = view_of me
 
-    unmade : (txn : Txn) (properties : List (List ℕ × List ℕ)) (next : Revision) (bytes : List ℕ) → MayAdopt v txn properties next bytes → IsAfter me.layout young (stuck_place w.lock) old w v (λ u. Adopted txn properties next bytes Before v u)
-    unmade txn properties next bytes may = adopt_fails me.layout young (stuck_place w.lock) old w v store sees refl safe txn properties next bytes may
+    unmade : (txn : Txn) (properties : List (List ℕ × List ℕ)) (next : Revision) (bytes : List ℕ) → MayAdopt v txn properties next bytes → IsAfter me.layout me.low young (stuck_place w.lock) old w v (λ u. Adopted txn properties next bytes Before v u)
+    unmade txn properties next bytes may = adopt_fails me.layout me.low young (stuck_place w.lock) old w v store sees refl safe txn properties next bytes may
 
 pub gives_called : (began : DiskSeen) (first : SeatView) (slots id : ℕ) (me : Sat) (d : DiskSeen) → IsSitting me.0 → IsShort d → (was : DiskSeen) (change : real.NameChange) → 0 < slots → me.1 ≡ (0, Some d) ∷ [] → me.0.hand ≡ Out was → IsLater (once d.failed) 0 was d → Made d.failed change was.trace d.trace → (me.0.told ≡ true → (place : DiskPlace) × IsDue (view_of me.0) place change)
     → Allows (Rule began first) slots id me 0 (λ _. 0) (λ _. called_back (step slots 0 0 0 none) me 0)

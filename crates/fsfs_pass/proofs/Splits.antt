@@ -9,12 +9,12 @@ use Rattle.atomic_table.specs.Table.{step, keeps, Allows, Splits}
 use Rattle.atomic_table.proofs.Lists.{at_set, set_else, at_longer}
 use Rattle.fsfs_disk.specs.Trace.{Trace}
 use Rattle.fsfs_machine.specs.declared.machine.Lock.{Lock}
-use Rattle.fsfs_machine.specs.declared.machine.Lock.TheVariants.{Free, Held, Stuck, Down, DownDoubtful}
+use Rattle.fsfs_machine.specs.declared.machine.Lock.TheVariants.{Free, Held, Stuck, Down, DownDoubtful, StuckFloor, DownFloor}
 use Rattle.fsfs_machine.specs.declared.machine.Outcome.TheVariants as outcome
 use Rattle.fsfs_machine.specs.declared.machine.Pass.{Pass}
 use Rattle.fsfs_machine.specs.declared.machine.Step.TheVariants as step
 use Rattle.fsfs_machine.specs.Machine.{World, did, split_off, held_by, stuck_place}
-use Rattle.fsfs_machine.specs.Kept.{Kept, IsHolder}
+use Rattle.fsfs_machine.specs.Kept.{Kept, IsHolder, most_floor, may_rise}
 use Rattle.fsfs_machine.proofs.Steps.{step_keeps}
 use Rattle.fsfs_turn.specs.Views.{Sees, with_txns}
 use Rattle.fsfs_turn.proofs.Names.{names_stay}
@@ -36,6 +36,7 @@ use Rattle.fsfs_pass.specs.Causes.{IsSound, HasLock, Causes, Doubts}
 use Rattle.fsfs_pass.specs.Met.{Met, HasMet, seat_store}
 use Rattle.fsfs_pass.specs.Rule.{Seated, Knew, Placed, IsJoined, IsSeenBySome, Store, HandIs, failures_in, bench_failures_in, Rule}
 use Rattle.fsfs_pass.specs.Tells.{Sat, TellsIt, numbered}
+use Rattle.fsfs_pass.specs.OtherLabels.{AreAbove}
 use Rattle.fsfs_pass.proofs.Following.{met_now, last_grows, later_now, later_untold}
 use Rattle.fsfs_pass.proofs.Kinships.{at_end, set_there, map_there, parts_most, kin_split}
 use Rattle.fsfs_pass.proofs.Failures.{failed, bench_failed, sum_split, later_as}
@@ -71,6 +72,8 @@ held_beyond n (Held p s) k = held_other p n s (λ e. absurd (omega (arith, e, k.
 held_beyond n (Stuck place x) k = refl
 held_beyond n Down k = refl
 held_beyond n (DownDoubtful x) k = refl
+held_beyond n (StuckFloor place) k = refl
+held_beyond n DownFloor k = refl
 
 -- a seat behind a split: the one that was split, another, or the new one
 pub cases_of : (views : List SeatView) (id : ℕ) (me : SeatView) (P : ℕ → SeatView → Type 0) (j : ℕ) (z : SeatView) → get_elem? (slice_set views id (halved_view me) ++ split_pass me ∷ []) j ≡ some z
@@ -124,7 +127,7 @@ module _ (first : SeatView) (views : List SeatView) (lock young : ℕ) (t : Trac
       omega (arith, few, many, some_seat)
 
   met_on : (z : SeatView) → HasMet first.layout w t z → HasMet first.layout split_on t z
-  met_on z k = let m = k.2 in (k.0, k.1, record { world = m.world; store = m.store; grown = m.grown; seen = m.seen; least = m.least; lasts = m.lasts })
+  met_on z k = let m = k.2 in (k.0, k.1, record { world = m.world; store = m.store; low = m.low; grown = m.grown; seen = m.seen; least = m.least; lasts = m.lasts })
 
   seat_on : (j : ℕ) (z : SeatView) → Seated first w t j z → Seated first split_on t j z
   seat_on j z k = record {
@@ -132,13 +135,14 @@ module _ (first : SeatView) (views : List SeatView) (lock young : ℕ) (t : Trac
     sees = (let e = k.sees in record { pass = get_longer w.passes child z.pass z.number e.pass; seen = e.seen; section = e.section; up = e.up; sure = e.sure; whole = e.whole; given = e.given; opened = e.opened; shown = e.shown; names = e.names });
     sure = k.sure;
     layout = k.layout;
+    low = k.low;
     since = k.since;
     opened = k.opened;
     met = met_on z k.met;
   }
 
   knew_on : (z : SeatView) (b : Before) → Knew first w t z b → Knew first split_on t z b
-  knew_on z b k = record { layout = k.layout; told = k.told; least = k.least; line = k.line; met = met_on (as_before z b) k.met }
+  knew_on z b k = record { layout = k.layout; low = k.low; told = k.told; least = k.least; line = k.line; met = met_on (as_before z b) k.met }
 
   placed_on : (j : ℕ) (z : SeatView) (st : Stage) → Placed first w t j z st → Placed first split_on t j z st
   placed_on j z New k = (seat_on j (record z { number = j }) k.0, k.1)
@@ -164,16 +168,16 @@ module _ (first : SeatView) (views : List SeatView) (lock young : ℕ) (t : Trac
   }
 
   new_met : HasMet first.layout split_on t next
-  new_met = let k = own.met in let m = k.2 in (k.0, k.1, record { world = m.world; store = m.store; grown = m.grown; seen = m.seen; least = m.least; lasts = m.lasts })
+  new_met = let k = own.met in let m = k.2 in (k.0, k.1, record { world = m.world; store = m.store; low = m.low; grown = m.grown; seen = m.seen; least = m.least; lasts = m.lasts })
 
   new_seat : Placed first split_on t (length views) (split_pass me) New
   new_seat = (
-    record { number = refl; sees = new_sees; sure = λ e. absurd cc; layout = own.layout; since = own.since; opened = own.opened; met = new_met },
+    record { number = refl; sees = new_sees; sure = λ e. absurd cc; layout = own.layout; low = own.low; since = own.since; opened = own.opened; met = new_met },
     (let less = at_less views id me at.0 in omega (arith, own.number, less)),
   )
 
   halved : Placed first split_on t id (halved_view me) me.kin.stage
-  halved = subst (λ st. Placed first split_on t id (halved_view me) st) (sym at.1) (reseated first split_on t id me (halved_view me) refl refl (seat_on id me own))
+  halved = subst (λ st. Placed first split_on t id (halved_view me) st) (sym at.1) (reseated first split_on t id me (halved_view me) refl refl refl (seat_on id me own))
 
   abbrev halved_on : List SeatView
   halved_on = slice_set views id (halved_view me)
@@ -223,12 +227,13 @@ module _ (first : SeatView) (views : List SeatView) (lock young : ℕ) (t : Trac
   pub split_goes : 1 < me.kin.parts → Store first views_on lock young t
   split_goes enough = record {
     world = split_on;
-    store = (let k = s.store in record { trace = k.trace; whole = k.whole; kept = split_kept; shown = k.shown; coming = k.coming; young_is = k.young_is; stuck_is = k.stuck_is });
+    store = (let k = s.store in record { trace = k.trace; size = k.size; whole = k.whole; kept = split_kept; shown = k.shown; coming = k.coming; low_is = k.low_is; floor_is = k.floor_is; level = k.level; young_is = k.young_is; stuck_is = k.stuck_is });
     safe = s.safe;
     own = s.own;
     up = s.up;
     short = s.short;
     opening = s.opening;
+    before = s.before;
     known = seen_on;
     lock_is = s.lock_is;
     causes = causes_on;
@@ -259,6 +264,8 @@ module _ (began : DiskSeen) (first : SeatView) where
     told = λ j z e. cases_of s.views id v (λ j z. is_left z.kin.stage ≡ false → z.told ≡ is_some r.disk.trace) j z e (r.told id v at) (λ old. r.told j z old) (λ is_there. r.told id v at (seat_stays v sits));
     met = λ j z e. cases_of s.views id v (λ j z. is_left z.kin.stage ≡ false → is_some z.met ≡ is_some r.disk.trace) j z e (r.met id v at) (λ old. r.met j z old) (λ is_there. r.met id v at (seat_stays v sits));
     alone = λ j z e. cases_of s.views id v (λ j z. IsSitting z → z.kin.parts ≡ all_parts → z.met ≡ r.disk.trace) j z e (λ still all. halved_alone all r.disk.trace refl) (λ old. r.alone j z old) (λ still. absurd cc);
+    names = λ j z e. cases_of s.views id v (λ j z. AreAbove first.given z.given) j z e (r.names id v at) (λ old. r.names j z old) (r.names id v at);
+    labels = r.labels;
     store = λ t is. split_goes first s.views r.lock r.young t (r.store t is) id v (at, sits) enough;
   }
     where
@@ -275,7 +282,7 @@ module _ (began : DiskSeen) (first : SeatView) where
     numbered_view id r.disk.trace me.0,
     keeps,
     tt,
-    goes began first s r id me.0 (numbered_view id r.disk.trace me.0) (slice_set s.words 0 (slice_index s.words 0)) r.lock r.young at stays (ap (λ ws. slice_set ws 0 (slice_index ws 0)) r.words) r.bound refl refl refl refl refl (λ _ _. refl) after,
+    goes began first s r id me.0 (numbered_view id r.disk.trace me.0) (slice_set s.words 0 (slice_index s.words 0)) r.lock r.young at stays (ap (λ ws. slice_set ws 0 (slice_index ws 0)) r.words) r.bound refl refl refl refl refl refl (λ _ _. refl) after,
     (id, refl, (λ told. let t = trace_of began first s r id me.0 at stays told in (placed t.0 (r.store t.0 t.1)).1), by_told me.0.told refl, tells_it),
   )
     where
@@ -291,9 +298,10 @@ module _ (began : DiskSeen) (first : SeatView) where
         sees = p.sees;
         sure = p.sure;
         layout = p.layout;
+        low = p.low;
         since = p.since;
         opened = p.opened;
-        met = (t, is, met_now first.layout r.young (stuck_place k.world.lock) t k.world (numbered_view id r.disk.trace me.0) k.store (seen_within k.world (view_of (record me.0 { number = id })) p.sees) (seen_of (length k.world.history) k.world.floor k.world.passes id me.0.pass k.store.kept.seen p.sees.pass).least);
+        met = (t, is, met_now first.layout first.low r.young (stuck_place k.world.lock) t k.world (numbered_view id r.disk.trace me.0) k.store (seen_within k.world (view_of (record me.0 { number = id })) p.sees) (seen_of (length k.world.history) k.world.low (most_floor (may_rise k.world.lock) k.world.size k.world.floor) k.world.passes id me.0.pass k.store.kept.seen p.sees.pass).least);
       }
 
       same : branch_of (numbered_view id r.disk.trace me.0) ≡ branch_of me.0
@@ -308,10 +316,10 @@ module _ (began : DiskSeen) (first : SeatView) where
           let k = r.store t.0 t.1 in
           let p = (placed t.0 k).0 in
           let m = p.met.2 in
-          let mine : Met first.layout k.world t.0 me.0 p.met.0 = record { world = m.world; store = m.store; grown = m.grown; seen = m.seen; least = m.least; lasts = m.lasts } in
-          later_now k.world t.0 p.met.0 me.0 (numbered_view id r.disk.trace me.0) (subst (λ l. Met l k.world t.0 me.0 p.met.0) (sym p.layout) mine) told p.met.1 t.1 refl
+          let mine : Met first.layout k.world t.0 me.0 p.met.0 = record { world = m.world; store = m.store; low = m.low; grown = m.grown; seen = m.seen; least = m.least; lasts = m.lasts } in
+          later_now k.world t.0 p.met.0 me.0 (numbered_view id r.disk.trace me.0) (subst (λ l. Met l k.world t.0 me.0 p.met.0) (sym p.layout) mine) told p.met.1 t.1 refl refl
           (last_grows me.0 (numbered_view id r.disk.trace me.0) told told (omega arith) (omega arith))
-      by_told false told = later_untold me.0 (numbered_view id r.disk.trace me.0) told (none_of me.0.met (r.met id me.0 at stays ∙ sym (r.told id me.0 at stays) ∙ told)) refl
+      by_told false told = later_untold me.0 (numbered_view id r.disk.trace me.0) told (none_of me.0.met (r.met id me.0 at stays ∙ sym (r.told id me.0 at stays) ∙ told)) refl refl
 
       tells_it : TellsIt (numbered_view id r.disk.trace me.0)
       tells_it = (

@@ -24,7 +24,7 @@ use Rattle.fsfs_pass.specs.declared.seats.seat_view.Kin.{Kin}
 use Rattle.fsfs_pass.specs.declared.seats.seat_view.Stage.{Stage}
 use Rattle.fsfs_pass.specs.declared.seats.seat_view.Stage.TheVariants.{New, Sitting, Joining, Left}
 use Rattle.fsfs_pass.specs.Seats.{view_of, look_view, reveal_view, reveal_in, IsSitting}
-use Rattle.fsfs_pass.specs.Met.{known_last, seat_store, seat_labels}
+use Rattle.fsfs_pass.specs.Met.{Ground, ground_of, known_last, seat_store, seat_labels}
 use Rattle.fsfs_pass.specs.Tells.{TellsIt}
 use Rattle.fsfs_pass.specs.SeatCalls.Tells.{IsBack, counting}
 use Rattle.fsfs_pass.specs.Passes.{Seating, is_sitting, sits_at, mounted_at, reach_by, pass_store, KnowsIt}
@@ -58,8 +58,8 @@ pub knows_went : (first : Option Trace) (last now : ℕ) (old new : SeatView) (A
 knows_went first last now old new A R v k same tells step = (view_of new, step.0, knows_now first now new k.disk (same ∙ k.told) tells, step.1, subst (λ z. R step.0 z (view_of new)) k.is step.2)
 
 -- what was met stays where neither layout nor what was seen changed
-retell : {B : Type 0} (s : StoreView B) (v u : View) → u.layout ≡ v.layout → u.seen ≡ v.seen → TellsSeen s v → TellsSeen s u
-retell s v u layout seen t = record {
+retell : {B : Type 0} (low : ℕ) (s : StoreView B) (v u : View) → u.layout ≡ v.layout → u.seen ≡ v.seen → TellsSeen low s v → TellsSeen low s u
+retell low s v u layout seen t = record {
   layout = t.layout ∙ sym layout;
   files = t.files;
   told = t.told;
@@ -68,15 +68,15 @@ retell s v u layout seen t = record {
 }
 
 -- a step that met nothing
-pub knows_still : (first : Option Trace) (last : ℕ) (old new : SeatView) (R : View → View → Type 0) (v : View) → KnowsIt first last old v → new.told ≡ old.told → pass_store last new ≡ pass_store last old → new.layout ≡ old.layout → new.seen ≡ old.seen → (old.told ≡ true → R (view_of old) (view_of new))
+pub knows_still : (first : Option Trace) (last : ℕ) (old new : SeatView) (R : View → View → Type 0) (v : View) → KnowsIt first last old v → new.told ≡ old.told → pass_store last new ≡ pass_store last old → ground_of new ≡ ground_of old → new.seen ≡ old.seen → (old.told ≡ true → R (view_of old) (view_of new))
     → (u : View) × KnowsIt first last new u × R v u
-knows_still first last old new R v k same store layout seen step = (
+knows_still first last old new R v k same store ground seen step = (
   view_of new,
   record {
     disk = k.disk;
     told = same ∙ k.told;
     is = refl;
-    tells = subst (λ z. TellsSeen z (view_of new)) (sym store) (retell (pass_store last old) v (view_of new) (layout ∙ ap (λ z. z.layout) k.is) (seen ∙ ap (λ z. z.seen) k.is) k.tells);
+    tells = subst (λ n. TellsSeen n (pass_store last new) (view_of new)) (ap {A = Ground} (λ g. g.low) (sym ground)) (subst (λ z. TellsSeen old.low z (view_of new)) (sym store) (retell old.low (pass_store last old) v (view_of new) (ap {A = Ground} (λ g. g.layout) ground ∙ ap (λ z. z.layout) k.is) (seen ∙ ap (λ z. z.seen) k.is) k.tells));
   },
   subst (λ z. R z (view_of new)) k.is (step k.told),
 )
@@ -107,14 +107,14 @@ tells_later last now v u met same le l = later_by v.told u.told last now v u sam
 -- whatever the disk tells
 pub record Keeps (old new : SeatView) : Type 0 where
   pub told : new.told ≡ old.told
-  pub layout : new.layout ≡ old.layout
+  pub layout : ground_of new ≡ ground_of old
   pub met : is_some new.met ≡ new.told
   pub low : new.told ≡ true → known_last old ≤ known_last new
   pub kin : new.kin ≡ old.kin
   pub short : IfSome (option_map files_now new.met) HasShortFiles
 
 pub back_keeps : (failed : Bool) (v u : SeatView) → IsBack failed v u → TellsIt u → Later (seat_store v) (seat_store u) → Keeps v u
-back_keeps failed v u back tells later = record { told = ap {A = SeatView} (λ z. z.told) back; layout = ap {A = SeatView} (λ z. z.layout) back; met = tells.0; low = λ told. later.reach; kin = ap {A = SeatView} (λ z. z.kin) back; short = tells.2 }
+back_keeps failed v u back tells later = record { told = ap {A = SeatView} (λ z. z.told) back; layout = ap {A = SeatView} (λ z. ground_of z) back; met = tells.0; low = λ told. later.reach; kin = ap {A = SeatView} (λ z. z.kin) back; short = tells.2 }
 
 -- so its seat sits still
 pub stays : (old new : SeatView) → new.kin ≡ old.kin → is_sitting old.kin.stage ≡ true → is_sitting new.kin.stage ≡ true
@@ -141,7 +141,7 @@ count_dropped faults (Some b) before now more = let e : min (before + faults b) 
 pub empty_keeps : (v u : SeatView) → u ≡ record v { hand = Empty } → is_some v.met ≡ v.told → IfSome (option_map files_now v.met) HasShortFiles → Keeps v u
 empty_keeps v u is met short = record {
   told = ap {A = SeatView} (λ z. z.told) is;
-  layout = ap {A = SeatView} (λ z. z.layout) is;
+  layout = ap {A = SeatView} (λ z. ground_of z) is;
   met = ap {A = SeatView} (λ z. is_some z.met) is ∙ met ∙ sym (ap {A = SeatView} (λ z. z.told) is);
   low = λ told. let e : known_last u ≡ known_last v = ap {A = SeatView} (λ z. known_last z) is in omega (arith, e);
   kin = ap {A = SeatView} (λ z. z.kin) is;
@@ -201,7 +201,7 @@ reveal_told None met v = refl
 reveal_told (Some (CurrentFirm x)) met v = refl
 reveal_told (Some s) met v = refl
 
-reveal_layout : (s : Option Section) (met : Option Trace) (v : SeatView) → (reveal_in s met v).layout ≡ v.layout
+reveal_layout : (s : Option Section) (met : Option Trace) (v : SeatView) → ground_of (reveal_in s met v) ≡ ground_of v
 reveal_layout None met v = refl
 reveal_layout (Some (CurrentFirm x)) met v = refl
 reveal_layout (Some s) met v = refl
@@ -219,7 +219,7 @@ reveal_benches (Some s) met v = refl
 pub reveal_keeps : (v u : SeatView) → u ≡ reveal_in v.section u.met v → TellsIt u → (v.told ≡ true → (x : Coming) × (v.section ≡ Some (CurrentFirm x))) → Keeps v u
 reveal_keeps v u is tells at = record {
   told = ap {A = SeatView} (λ z. z.told) is ∙ reveal_told v.section u.met v;
-  layout = ap {A = SeatView} (λ z. z.layout) is ∙ reveal_layout v.section u.met v;
+  layout = ap {A = SeatView} (λ z. ground_of z) is ∙ reveal_layout v.section u.met v;
   met = tells.0;
   low = λ told.
       let was : v.told ≡ true = sym (ap {A = SeatView} (λ z. z.told) is ∙ reveal_told v.section u.met v) ∙ told in

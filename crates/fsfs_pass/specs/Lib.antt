@@ -2,6 +2,7 @@ pub mod LockWords
 pub mod Seats
 pub mod Kinship
 pub mod Causes
+pub mod OtherLabels
 pub mod Met
 pub mod Rule
 pub mod Tells

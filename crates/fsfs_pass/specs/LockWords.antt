@@ -8,7 +8,7 @@ use Rattle.fsfs_base.specs.declared.places.place.PackPlace.TheVariants as pack
 use Rattle.fsfs_base.specs.declared.places.place.DiskPlace.{DiskPlace}
 use Rattle.fsfs_base.specs.declared.places.place.DiskPlace.TheVariants as place
 use Rattle.fsfs_machine.specs.declared.machine.Lock.{Lock}
-use Rattle.fsfs_machine.specs.declared.machine.Lock.TheVariants.{Free, Held, Stuck, Down, DownDoubtful}
+use Rattle.fsfs_machine.specs.declared.machine.Lock.TheVariants.{Free, Held, Stuck, Down, DownDoubtful, StuckFloor, DownFloor}
 
 abbrev pub place_number : DiskPlace → ℕ
 place_number place.Read = 2
@@ -70,3 +70,5 @@ lock_word (Held p s) = 1
 lock_word (Stuck at x) = place_number at
 lock_word Down = 0
 lock_word (DownDoubtful x) = 0
+lock_word (StuckFloor at) = place_number at
+lock_word DownFloor = 0

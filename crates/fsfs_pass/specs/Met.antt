@@ -23,7 +23,8 @@ pub record Lasts (layout : Layout) (n : ℕ) (old new : Files) : Type 0 where
 -- files then stands in them now.
 pub record Met (layout : Layout) (w : World) (now : Trace) (v : SeatView) (t : Trace) : Type 0 where
   pub world : World
-  pub store : IsStore layout world.young (stuck_place world.lock) t world
+  pub store : IsStore layout world.low world.young (stuck_place world.lock) t world
+  pub low : w.low ≡ world.low
   pub grown : Begins w.history world.history
   pub seen : length v.seen ≤ length world.history
   pub least : v.pass.least < length world.history
@@ -36,9 +37,17 @@ HasMet layout w now v = (t : Trace) × (v.met ≡ Some t) × Met layout w now v 
 abbrev pub known_last : SeatView → ℕ
 known_last v = if v.told then v.pass.least + (length v.seen - 1 - v.pass.least) else 0
 
+-- what no turn changes: how the files are laid out, and the floor of the opening
+pub record Ground : Type 0 where
+  pub layout : Layout
+  pub low : ℕ
+
+abbrev pub ground_of : SeatView → Ground
+ground_of v = record { layout = v.layout; low = v.low }
+
 -- what the seat tells one who reads: its files as it met them last
-abbrev pub seat_store : SeatView → StoreView Layout
-seat_store v = record { layout = v.layout; reach = Grows (known_last v); files = option_map files_now v.met; below = v.layout }
+abbrev pub seat_store : SeatView → StoreView Ground
+seat_store v = record { layout = v.layout; reach = Grows (known_last v); files = option_map files_now v.met; below = ground_of v }
 
 abbrev pub seat_labels : SeatView → Option (List Label)
 seat_labels v = option_map labels_now v.met

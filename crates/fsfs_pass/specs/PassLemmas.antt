@@ -20,5 +20,5 @@ bench_tells first last s v held same k = same ∙ k.disk
 pub store_told : (last : ℕ) (s : SeatView) → s.told ≡ true → seat_store s ≡ pass_store last s
 store_told last s told = ap (λ b. record (seat_store s) { reach = reach_by b last (known_last s) }) (sym told)
 
-pub pass_tells : (last : ℕ) (s : SeatView) (v : View) → s.told ≡ true → TellsSeen (seat_store s) v → TellsSeen (pass_store last s) v
-pass_tells last s v told t = subst (λ z. TellsSeen z v) (store_told last s told) t
+pub pass_tells : (last : ℕ) (s : SeatView) (v : View) → s.told ≡ true → TellsSeen s.low (seat_store s) v → TellsSeen s.low (pass_store last s) v
+pass_tells last s v told t = subst (λ z. TellsSeen s.low z v) (store_told last s told) t

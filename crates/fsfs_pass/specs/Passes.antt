@@ -1,7 +1,6 @@
 -- What a pass at the table knows, and what it tells one who reads.
 use Rattle.std.specs.Prelude.{◌≡◌, ◌++◌, ◌||◌, ℕ, List, [], Bool, true, false, Option, None, is_some, if◌then◌else◌}
 use Rattle.atomic_table.specs.Seated.{TableId}
-use Rattle.fsfs_layout.specs.declared.layout.Layout.{Layout}
 use Rattle.fsfs_fetch.specs.Views.{View as StoreView, Reach, Grows}
 use Rattle.fsfs_disk.specs.Trace.{Trace}
 use Rattle.fsfs_machine.specs.Machine.{joined}
@@ -13,7 +12,7 @@ use Rattle.fsfs_pass.specs.declared.seats.seat_view.SeatView.{SeatView}
 use Rattle.fsfs_pass.specs.declared.seats.seat_view.Stage.{Stage}
 use Rattle.fsfs_pass.specs.declared.seats.seat_view.Stage.TheVariants.{Sitting}
 use Rattle.fsfs_pass.specs.Seats.{view_of, either_left}
-use Rattle.fsfs_pass.specs.Met.{known_last, seat_store}
+use Rattle.fsfs_pass.specs.Met.{Ground, known_last, seat_store}
 
 -- the seat has its number, and nothing is left to be told of a joining
 abbrev pub is_sitting : Stage → Bool
@@ -39,7 +38,7 @@ abbrev pub reach_by : Bool → ℕ → ℕ → Reach
 reach_by told last known = Grows (if told then known else last)
 
 -- what its seat tells
-abbrev pub pass_store : ℕ → SeatView → StoreView Layout
+abbrev pub pass_store : ℕ → SeatView → StoreView Ground
 pass_store last v = record (seat_store v) { reach = reach_by v.told last (known_last v) }
 
 -- The disk tells, as it did first, and the pass knows what its seat's view says; what it has seen stands in the files that it met last.
@@ -47,7 +46,7 @@ pub record KnowsIt (first : Option Trace) (last : ℕ) (s : SeatView) (v : View)
   pub disk : is_some first ≡ true
   pub told : s.told ≡ true
   pub is : view_of s ≡ v
-  pub tells : TellsSeen (pass_store last s) v
+  pub tells : TellsSeen s.low (pass_store last s) v
 
 -- the pass that is split off, under this number: it knows as much, but of no revisions, faults or section of its own
 abbrev pub split_off : ℕ → View → View

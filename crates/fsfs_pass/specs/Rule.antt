@@ -1,4 +1,6 @@
--- The rule of the table at which passes sit: it holds a state of the machine, and each seat knows what its pass knows of it.
+-- The rule of the table at which passes sit: it holds a state of the machine, and each seat knows what its pass knows of it. It began with a
+-- disk, and a view of its first seat, whose names were given before: no pass makes or drops the label of another transaction than of those that
+-- are given since.
 -- Word 0 is DISK: 0 where the disk is in its slot, 1 where a pass has it. Word 1 is LOCK. Word 2 is YOUNG, the youngest number.
 use Rattle.std.specs.Prelude.{◌≡◌, ◌≤◌, ◌<◌, ◌+◌, ℕ, List, [], ◌∷◌, length, true, false, Option, Some, None, is_some, slice_get}
 use mathlib.Core.Option.{some}
@@ -9,6 +11,7 @@ use Rattle.fsfs_disk.specs.Benches.{HasShortFiles}
 use Rattle.fsfs_disk.specs.Trace.{Trace, files_now}
 use Rattle.fsfs_machine.specs.declared.machine.Pass.{Pass}
 use Rattle.fsfs_machine.specs.Machine.{World, held_by, is_up, stuck_place}
+use Rattle.fsfs_machine.specs.Kept.{IsIn}
 use Rattle.fsfs_turn.specs.Views.{Sees, Begins, is_held}
 use Rattle.fsfs_turn.specs.Past.{doubt, stuck_with, Safe}
 use Rattle.fsfs_turn.specs.Standing.{IsStore}
@@ -25,6 +28,7 @@ use Rattle.fsfs_pass.specs.Seats.{all_parts, view_of, is_left, as_before, IsSitt
 use Rattle.fsfs_pass.specs.Kinship.{branches, Kinship}
 use Rattle.fsfs_pass.specs.Causes.{Causes, Doubts}
 use Rattle.fsfs_pass.specs.Met.{HasMet}
+use Rattle.fsfs_pass.specs.OtherLabels.{AreAbove, KeepsOthersOf}
 
 -- seat j is the pass of that number; images are spoken of from the opening on, which the first seat's view tells
 pub record Seated (first : SeatView) (w : World) (now : Trace) (j : ℕ) (v : SeatView) : Type 0 where
@@ -33,6 +37,7 @@ pub record Seated (first : SeatView) (w : World) (now : Trace) (j : ℕ) (v : Se
   -- who is sure of the youngest number holds the lock
   pub sure : v.sure ≡ true → is_held v.section ≡ true
   pub layout : v.layout ≡ first.layout
+  pub low : v.low ≡ first.low
   pub since : v.since ≡ first.since
   pub opened : v.opened ≡ first.opened
   -- it met the files of an earlier state
@@ -41,6 +46,7 @@ pub record Seated (first : SeatView) (w : World) (now : Trace) (j : ℕ) (v : Se
 -- before the joining it knew this
 pub record Knew (first : SeatView) (w : World) (now : Trace) (v : SeatView) (b : Before) : Type 0 where
   pub layout : b.layout ≡ first.layout
+  pub low : b.low ≡ first.low
   pub told : b.told ≡ true
   pub least : b.least ≤ v.pass.least
   pub line : Begins v.seen b.seen
@@ -70,14 +76,16 @@ IsSeenBySome views n = (j : ℕ) × (v : SeatView) × (get_elem? views j ≡ som
 -- each moment since the opening stands for a first part of its history, or for it with the revision in doubt.
 pub record Store (first : SeatView) (views : List SeatView) (lock young : ℕ) (t : Trace) : Type 0 where
   pub world : World
-  pub store : IsStore first.layout young (stuck_place world.lock) t world
-  pub safe : Safe first.layout first.since t first.opened world.floor world.history (doubt world.lock)
+  pub store : IsStore first.layout first.low young (stuck_place world.lock) t world
+  pub safe : Safe first.layout first.since t first.opened world.history (doubt world.lock)
   -- the files that no turn changes are in their formats, with the bytes of the opening, in each of these images
   pub own : OwnFilesLast first.layout first.since (Some t)
   pub up : is_up world.lock ≡ true
   pub short : HasShortFiles (files_now t)
   -- the machine tells whose each revision is from the same opening on
   pub opening : world.opening ≡ first.opened
+  -- the names that were given before it began are given
+  pub before : (k : ℕ) → IsIn k first.given → IsIn k world.given
   -- who reveals a revision has seen all before it; so one has seen all that there are
   pub known : IsSeenBySome views (length world.history)
   pub lock_is : lock ≡ lock_word world.lock
@@ -124,4 +132,7 @@ pub record Rule (began : DiskSeen) (first : SeatView) (s : State (Option DiskSee
   pub met : (j : ℕ) (v : SeatView) → get_elem? s.views j ≡ some v → is_left v.kin.stage ≡ false → is_some v.met ≡ is_some disk.trace
   -- while no other sits nobody else changes the disk
   pub alone : (j : ℕ) (v : SeatView) → get_elem? s.views j ≡ some v → IsSitting v → v.kin.parts ≡ all_parts → v.met ≡ disk.trace
+  -- the names that a seat knows to be given were given since the table began; and of labels all are as they were but those of such names
+  pub names : (j : ℕ) (v : SeatView) → get_elem? s.views j ≡ some v → AreAbove first.given v.given
+  pub labels : KeepsOthersOf first.given began.trace disk.trace
   pub store : (t : Trace) → disk.trace ≡ Some t → Store first s.views lock young t

@@ -63,6 +63,10 @@ abbrev pub is_left : Stage → Bool
 is_left Left = true
 is_left s = false
 
+-- the first seat as the table begins, with this view but for the names: those that were given before are none of its own
+abbrev pub nameless_view : SeatView → SeatView
+nameless_view v = record v { given = [] }
+
 -- a seat sits there
 abbrev pub Sits : List SeatView → ℕ → SeatView → Type 0
 Sits views j v = (get_elem? views j ≡ some v) × IsSitting v
@@ -119,11 +123,11 @@ joined_view met v z = record v {
 }
 
 abbrev pub before : SeatView → Before
-before v = record { layout = v.layout; told = v.told; least = v.pass.least; seen = v.seen; met = v.met }
+before v = record { layout = v.layout; low = v.low; told = v.told; least = v.pass.least; seen = v.seen; met = v.met }
 
 -- a seat that knows what was known before
 abbrev pub as_before : SeatView → Before → SeatView
-as_before u b = record u { layout = b.layout; told = b.told; pass = record u.pass { least = b.least }; seen = b.seen; met = b.met }
+as_before u b = record u { layout = b.layout; low = b.low; told = b.told; pass = record u.pass { least = b.least }; seen = b.seen; met = b.met }
 
 -- the same until it is told how the two lines fit
 abbrev pub joining_view : SeatView → SeatView → SeatView
@@ -136,6 +140,7 @@ settled_view met v = record v { met = met; kin = record v.kin { stage = Sitting 
 abbrev pub left_view : SeatView
 left_view = record {
   layout = record { format = Four; folders = OneFolder; sized = tt };
+  low = 0;
   since = record { operations = 0; files = empty };
   opened = 0;
   number = 0;

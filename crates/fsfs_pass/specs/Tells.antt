@@ -27,6 +27,7 @@ use Rattle.fsfs_pass.specs.declared.seats.seat_view.Stage.TheVariants.{Joining}
 use Rattle.fsfs_pass.specs.declared.seats.seat_view.SeatView.{SeatView}
 use Rattle.fsfs_pass.specs.LockWords.{place_at}
 use Rattle.fsfs_pass.specs.Met.{seat_store}
+use Rattle.fsfs_pass.specs.OtherLabels.{KeepsOthersOf}
 use Rattle.fsfs_pass.specs.Kinship.{numbers_of, all_own}
 use Rattle.fsfs_pass.specs.Seats.{all_parts, view_of, look_view, lock_view, stuck_view, outside_view, reveal_view, reveal_in, numbered_view, as_before, settled_view}
 
@@ -38,7 +39,7 @@ At = Step (Option DiskSeen)
 
 -- where the disk tells, what the seat has met tells what its pass has seen; and its files are short
 abbrev pub TellsIt : SeatView → Type 0
-TellsIt v = (is_some v.met ≡ v.told) × (v.told ≡ true → TellsSeen (seat_store v) (view_of v)) × IfSome (seat_store v).files HasShortFiles
+TellsIt v = (is_some v.met ≡ v.told) × (v.told ≡ true → TellsSeen v.low (seat_store v) (view_of v)) × IfSome (seat_store v).files HasShortFiles
 
 -- YOUNG was loaded: where the disk tells, this is the machine's look
 abbrev pub looked : At → Sat → ℕ → Sat → Type 0
@@ -87,7 +88,7 @@ pub record IsOwn (w : World) (number : ℕ) (x : ℕ × List ℕ) : Type 0 where
 -- has the files that no turn changes in their formats, with the bytes of the opening.
 pub record IsMet (v : SeatView) (t : Trace) : Type 0 where
   pub world : World
-  pub store : IsStore v.layout world.young (stuck_place world.lock) t world
+  pub store : IsStore v.layout v.low world.young (stuck_place world.lock) t world
   pub sees : Sees world (view_of v)
   -- the last revision that it was told of is there
   pub least : v.pass.least < length world.history
@@ -105,12 +106,13 @@ pub record IsMet (v : SeatView) (t : Trace) : Type 0 where
   pub calm : v.kin.parts ≡ all_parts → v.section ≡ None → are_harmless v.pass.faults ≡ true → (doubt world.lock ≡ None) × (v.pass.stuck ≡ None)
   -- and in no section the revision in doubt is the one that it left so
   pub left : v.kin.parts ≡ all_parts → v.section ≡ None → doubt world.lock ≡ v.left
-  pub safe : Safe v.layout v.since t v.opened world.floor world.history (doubt world.lock)
+  pub safe : Safe v.layout v.since t v.opened world.history (doubt world.lock)
   pub own : OwnFilesLast v.layout v.since (Some t)
 
--- the disk was taken where it was there: that with which the table began, of which as many calls have failed as failed of the seat's, or more, and as many of its benches'
-abbrev pub taken : DiskSeen → At → Sat → ℕ → Sat → Type 0
-taken began st m found m' = (found ≡ 0 → (d : DiskSeen) × (m' ≡ (record m.0 { hand = Out d }, (0, Some d) ∷ m.1)) × (m.0.told ≡ is_some d.trace) × (m.0.kin.parts ≡ all_parts → d.trace ≡ m.0.met) × IsLater m.0.failures m.0.bench_failures began d × ((t : Trace) → d.trace ≡ Some t → IsMet m.0 t)) × (found ≢ 0 → m' ≡ m)
+-- The disk was taken where it was there: that with which the table began, of which as many calls have failed as failed of the seat's, or more, and as many of its benches'.
+-- Of the labels that it kept then it keeps all, and no more, but for transactions whose names are above those that were given then.
+abbrev pub taken : DiskSeen → List ℕ → At → Sat → ℕ → Sat → Type 0
+taken began names st m found m' = (found ≡ 0 → (d : DiskSeen) × (m' ≡ (record m.0 { hand = Out d }, (0, Some d) ∷ m.1)) × (m.0.told ≡ is_some d.trace) × (m.0.kin.parts ≡ all_parts → d.trace ≡ m.0.met) × IsLater m.0.failures m.0.bench_failures began d × KeepsOthersOf names began.trace d.trace × ((t : Trace) → d.trace ≡ Some t → IsMet m.0 t)) × (found ≢ 0 → m' ≡ m)
 
 -- it went back as it was taken
 abbrev pub given_back : At → Sat → ℕ → Sat → Type 0

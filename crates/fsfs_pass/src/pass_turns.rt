@@ -2,7 +2,7 @@
 ghost use Rattle.std.specs.Prelude.{◌≡◌, ◌≤◌, [], true, is_some, IfSome, option_map};
 ghost use Rattle.fsfs_disk.specs.Trace.{files_now};
 ghost use Rattle.fsfs_disk.specs.Benches.{HasShortFiles};
-ghost use Rattle.fsfs_pass.specs.Met.{known_last};
+ghost use Rattle.fsfs_pass.specs.Met.{ground_of, known_last};
 ghost use Rattle.fsfs_pass.specs.Passes.{is_sitting};
 ghost use Rattle.fsfs_pass.specs.Short.{short_prop};
 
@@ -18,13 +18,15 @@ pub struct PassTurns<'a, D: Disk> {
     pub(crate) board: &'a Board<D>,
     pub(crate) seat: SharedSeat<D>,
     pub(crate) layout: Layout,
+    // The floor that the opening read.
+    pub(crate) floor: RevNum,
     // The greatest number that a look told.
     pub(crate) last: RevNum,
     // The disk as it was first, which clauses alone read: its path, and that it tells.
     pub(crate) first: Note<D>,
     ghost sits: { (seat.table_id ≡ board.now.shared.table_id) × (board.now.shared.table_id.words ≡ 3) × (board.now.shared.table_id.slots ≡ 1) × (seat.me.1 ≡ []) },
     ghost sitting: { is_sitting seat.me.0.kin.stage ≡ true },
-    ghost layout_is: { seat.me.0.layout ≡ layout },
+    ghost layout_is: { ground_of seat.me.0 ≡ record { layout = layout; low = floor } },
     ghost met_told: { is_some seat.me.0.met ≡ seat.me.0.told },
     ghost last_low: { seat.me.0.told ≡ true → last ≤ known_last seat.me.0 },
     ghost short: { IfSome (option_map files_now seat.me.0.met) HasShortFiles } by { short_prop (option_map files_now seat.me.0.met) },
@@ -39,28 +41,31 @@ impl<'a, D: Disk> PassTurns<'a, D> {
     ghost use Rattle.fsfs_pass.specs.Seats.{view_of, IsSitting, halved_view, split_pass, numbered_view, joined_view};
     ghost use Rattle.fsfs_pass.specs.Passes.{pass_store, KnowsIt, split_off, Joins};
 
-    /// The turns of the pass in this seat. The disk of the store, as it was first, is laid out so.
+    /// The turns of the pass in this seat. The disk of the store, as it was first, is laid out so, and the revisions below this floor are in
+    /// packs there.
     pub fn new(
         board: &'a Board<D>,
         seat: SharedSeat<D>,
         layout: Layout,
+        floor: RevNum,
         first: Note<D>,
     ) -> PassTurns<'a, D>
         requires sits { (seat.table_id ≡ board.now.shared.table_id) × (board.now.shared.table_id.words ≡ 3) × (board.now.shared.table_id.slots ≡ 1) × (seat.me.1 ≡ []) }
         requires sitting { IsSitting seat.me.0 }
-        requires layout { seat.me.0.layout ≡ layout }
+        requires layout { ground_of seat.me.0 ≡ record { layout = layout; low = floor } }
         requires met { is_some seat.me.0.met ≡ seat.me.0.told }
         requires short { IfSome (option_map files_now seat.me.0.met) HasShortFiles }
         ensures seat { result.seat ≡ seat }
         ensures first { result.first ≡ first }
         // Where the disk tells, what the seat's view says is known.
-        ensures known { is_some (D.trace first.value) ≡ true → seat.me.0.told ≡ true → TellsSeen (seat_store seat.me.0) (view_of seat.me.0)
+        ensures known { is_some (D.trace first.value) ≡ true → seat.me.0.told ≡ true → TellsSeen seat.me.0.low (seat_store seat.me.0) (view_of seat.me.0)
             → KnowsIt (D.trace result.first.value) result.last result.seat.me.0 (view_of seat.me.0) }
     {
         PassTurns {
             board,
             seat,
             layout,
+            floor,
             last: RevNum::ZERO,
             first,
         }
@@ -92,6 +97,7 @@ impl<'a, D: Disk> PassTurns<'a, D> {
             board,
             seat,
             layout: self.layout,
+            floor: self.floor,
             last: self.last,
             first,
         }
@@ -125,7 +131,7 @@ impl<'a, D: Disk> PassTurns<'a, D> {
         ensures seat { result ≡ self.entry.seat }
         ensures sits { (result.table_id ≡ self.entry.board.now.shared.table_id) × (result.me.1 ≡ []) }
         ensures sitting { IsSitting result.me.0 }
-        ensures layout { result.me.0.layout ≡ self.entry.layout }
+        ensures layout { ground_of result.me.0 ≡ record { layout = self.entry.layout; low = self.entry.floor } }
         ensures met { is_some result.me.0.met ≡ result.me.0.told }
         ensures short { IfSome (option_map files_now result.me.0.met) HasShortFiles }
     {

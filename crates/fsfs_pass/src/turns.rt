@@ -21,7 +21,6 @@ fn later_of(one: RevNum, other: RevNum) -> RevNum
 impl<'a, R: Wait, D: Disk + Drop> Turns<R> for PassTurns<'a, D> {
     ghost use Rattle.std.specs.Prelude.{◌≡◌, ℕ, true, None, IfOk, OnErr, MatchOption};
     ghost use Rattle.fsfs_base.specs.Failures.{HasCause};
-    ghost use Rattle.fsfs_layout.specs.declared.layout.Layout.{Layout};
     ghost use Rattle.fsfs_disk.specs.Labels.{Txn as TxnLabel, label_of, without_label};
     ghost use Rattle.fsfs_machine.specs.declared.machine.Txn.{Txn};
     ghost use Rattle.fsfs_machine.specs.declared.machine.Went.{Went};
@@ -30,7 +29,7 @@ impl<'a, R: Wait, D: Disk + Drop> Turns<R> for PassTurns<'a, D> {
     ghost use Rattle.fsfs_turn.specs.Labels.{MayRelabel, Drops};
     ghost use Rattle.fsfs_turn.specs.Learning.{MayPurge, Purged, SpentPurged};
     ghost use Rattle.fsfs_turn.specs.Mountings.{RoseBy};
-    ghost use Rattle.fsfs_pass.specs.Met.{seat_labels};
+    ghost use Rattle.fsfs_pass.specs.Met.{Ground, seat_labels};
     ghost use Rattle.fsfs_pass.specs.Passes.{Seating, sits_at, mounted_at, pass_store, KnowsIt};
     ghost use Rattle.fsfs_pass.specs.PassLemmas.{one_known, bench_tells};
 
@@ -43,7 +42,9 @@ impl<'a, R: Wait, D: Disk + Drop> Turns<R> for PassTurns<'a, D> {
     // What is due in a section says which names are in use.
     ghost in_use = { λ s name. Unit {0} };
 
-    ghost Lasting = { Layout };
+    ghost Lasting = { Ground };
+
+    ghost low = { λ g. g.low };
 
     ghost store = { λ s. pass_store s.last s.seat.me.0 };
 
@@ -57,6 +58,10 @@ impl<'a, R: Wait, D: Disk + Drop> Turns<R> for PassTurns<'a, D> {
 
     fn layout(&self) -> Layout {
         self.layout
+    }
+
+    fn floor(&self) -> RevNum {
+        self.floor
     }
 
     fn look(&mut self) -> RevNum {

@@ -29,7 +29,7 @@ use Rattle.fsfs_turn.specs.Stands.{HasOwnFiles}
 use Rattle.fsfs_turn.specs.Views.{Sees, with_txns}
 use Rattle.fsfs_turn.specs.Whole.{HasHistory}
 use Rattle.fsfs_turn.proofs.Alone.{same_by_length}
-use Rattle.fsfs_turn.proofs.Moments.{numbers, past_of}
+use Rattle.fsfs_turn.proofs.Moments.{stood_for}
 use Rattle.fsfs_turn.proofs.Standings.{files_stand}
 use Rattle.fsfs_turn.proofs.Stepping.{take_drop}
 use Rattle.fsfs_turn.proofs.Wholeness.{has_history, part_shown, if_doubtful}
@@ -48,7 +48,7 @@ module _ (v : SeatView) (t : Trace) (met : IsMet v t) where
   abbrev w : World
   w = met.world
 
-  store : IsStore v.layout w.young (stuck_place w.lock) t w
+  store : IsStore v.layout v.low w.young (stuck_place w.lock) t w
   store = met.store
 
   sees : Sees w (view_of v)
@@ -58,19 +58,19 @@ module _ (v : SeatView) (t : Trace) (met : IsMet v t) where
   abbrev HasPart : ℕ → Files → Type 0
   HasPart n m = (g : List Recorded) × IsPart w.history (doubt w.lock) g × (n ≤ length g) × HasHistory v.layout m g × StandsFor m (revisions g)
 
-  has_past : (n : ℕ) (m : Files) → WasLeft v.layout n w.floor w.history (doubt w.lock) m → HasOwnFiles m v.layout → HasPart n m
+  has_past : (n : ℕ) (m : Files) → WasLeft v.layout n w.history (doubt w.lock) m → HasOwnFiles m v.layout → HasPart n m
   has_past n m left own =
-      let p = left.2 in
+      let stood = left.2 in
+      let p = stood.3 in
       let names = p.1.1 in
       let some : 0 < length p.0 = omega (arith, names.2) in
-      let has = has_history v.layout w.floor m left.0 p.0 store.whole left.3 left.1 p.1 (part_shown w.history w.lock p.0 store.shown store.coming some p.3) in
-      (p.0, p.3, p.2, has, files_stand v.layout w.floor m left.0 p.0 store.whole left.1 left.3 left.4 p.4 has own)
+      let has = has_history v.layout stood.0 m left.0 p.0 stood.1 stood.2 left.1 p.1 (part_shown w.history w.lock p.0 store.shown store.coming some p.3) in
+      (p.0, p.3, p.2, has, files_stand v.layout stood.0 m left.0 p.0 stood.1 left.1 stood.2 stood.4 p.4 has own)
 
-  left_now : (m : Files) → real.IsImage t.first t.operations m → WasLeft v.layout (length w.history) w.floor w.history (doubt w.lock) m
+  left_now : (m : Files) → real.IsImage t.first t.operations m → WasLeft v.layout (length w.history) w.history (doubt w.lock) m
   left_now m i =
-      let r = image_read v.layout w.floor no_others t.first t.operations w.disk store.trace m i in
-      let n = numbers (with_txns [] w) store.kept r.0 r.1 in
-      (r.0, r.2, past_of (length w.history) w.floor w.history w.lock r.0 (omega arith) store.kept.floor (store.kept.stands r.0 r.1), n.0, n.1)
+      let r = image_read v.layout no_others t.first t.operations w.disk store.trace m i in
+      (r.0, r.2, stood_for v.layout (length w.history) (with_txns [] w) store.size store.whole store.kept (omega arith) r.0 r.1)
 
   all_now : (m : Files) → real.IsImage t.first t.operations m → HasPart (length w.history) m
   all_now m i = has_past (length w.history) m (left_now m i) (met.own m (image_now v.since.operations t.first t.operations m i)).0
@@ -78,7 +78,7 @@ module _ (v : SeatView) (t : Trace) (met : IsMet v t) where
   no_name : v.full ≡ true → LeavesNoName (real.files_now t)
   no_name full =
       let last = sees.names.full full in
-      let at = at_found Counter (get (real.files_now t) (machine_name v.layout Counter)) (found w.disk Counter) (Number last.0) last.1 (now_read v.layout w.floor no_others t.first t.operations w.disk store.trace Counter tt) in
+      let at = at_found v.layout Counter (get (real.files_now t) (machine_name v.layout Counter)) (found w.disk Counter) (Number last.0) last.1 ((now_read v.layout no_others t.first t.operations w.disk store.trace).read Counter tt) in
       record { number = last.0; line = text_there (real.files_now t) (only_name TxnCurrent) at.0 IsBase36Line last.0 at.1 at.2; last = last.2 }
 
   pub leaves : Leaves v t

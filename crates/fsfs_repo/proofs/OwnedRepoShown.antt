@@ -9,6 +9,6 @@ use Rattle.fsfs_turn.specs.Views.{View}
 use Rattle.fsfs_turn.specs.Alone.{KnowsAlone}
 
 -- what a pass has seen is shown
-pub known_shown : (layout : Layout) (young : ℕ) (stuck : Option DiskPlace) (told : Option Trace) (v : View) → KnowsAlone layout young stuck told v → AllShow v.seen
-known_shown layout young stuck None v known = absurd known.0
-known_shown layout young stuck (Some t) v known = known.0.2.shown
+pub known_shown : (layout : Layout) (low young : ℕ) (stuck : Option DiskPlace) (told : Option Trace) (v : View) → KnowsAlone layout low young stuck told v → AllShow v.seen
+known_shown layout low young stuck None v known = absurd known.0
+known_shown layout low young stuck (Some t) v known = known.0.2.shown

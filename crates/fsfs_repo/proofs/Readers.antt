@@ -29,7 +29,7 @@ pub tells_all : (s other : OwnedState) (floor : ℕ) (kept : Option KeptManifest
 tells_all s other floor kept v known below told = record {
   revisions_are = told;
   revs = λ r le. told.revs r (omega (arith, le, count, known.1.all));
-  shown = shown_trees v.seen some (seen_shows v.seen (known_shown s.layout s.young s.stuck s.trace v known) some);
+  shown = shown_trees v.seen some (seen_shows v.seen (known_shown s.layout s.floor s.young s.stuck s.trace v known) some);
   youngest = youngest_of s other floor kept below ∙ ap (λ n. Some n) last;
   known = subst (λ z. KnowsIn z v) (sym below) known;
 }

@@ -27,7 +27,7 @@ use Rattle.fsfs_stands.specs.Texts.{End}
 use Rattle.fsfs_cli.specs.Readings.{Asks}
 use Rattle.fsfs_cli.specs.Requests.{printed_path}
 use Rattle.fsfs_cli.specs.declared.request.Look.{Look as SomeLook}
-use Rattle.fsfs_cli.specs.declared.request.Look.TheVariants.{Youngest, Uuid, Dump, AtRevision}
+use Rattle.fsfs_cli.specs.declared.request.Look.TheVariants.{Youngest, Uuid, Dump, Verify, AtRevision}
 use Rattle.fsfs_cli.specs.declared.request.Printed.{Printed}
 use Rattle.fsfs_cli.specs.declared.request.Printed.TheVariants.{Tree, Text, Author, Date, Log, Info, Changed, History}
 use Rattle.fsfs_cli.specs.declared.request.RevisionLook.{RevisionLook}
@@ -38,12 +38,12 @@ use Rattle.fsfs_cli.specs.declared.tool.Tool.TheVariants as tools
 use Rattle.fsfs_cli.proofs.TaskLemmas.{tool_of_look, asks_task}
 use Rattle.fsfs_top.specs.Command.{Did, Tells, answer_of}
 use Rattle.fsfs_top.specs.Looks.{all_bytes, TextOf}
-use Rattle.fsfs_top.specs.Replies.{Gives, HasNone, HasTxns, ShowsIds, AreIds, IsOfSmallFiles, look_command, answer_to, Replies}
+use Rattle.fsfs_top.specs.Replies.{Gives, HasNone, HasTxns, ShowsIds, Suits, IsOfSmallFiles, look_command, answer_to, Replies}
 use Rattle.fsfs_top.specs.TxnAnswers.{refuses_admin}
 use Rattle.fsfs_top.specs.Scenes.{Scene, SinkScene}
 use Rattle.fsfs_top.proofs.TaskDone.{task_done}
 use Rattle.fsfs_top.proofs.FlatTexts.{tree_is_by_tree, file_is_by_tree, author_is_by_props, date_is_by_props, log_is_by_props, info_is_by_props, changed_is_by_changes, history_is_by_trees, no_rev_line}
-use Rattle.fsfs_top.proofs.LookReplies.{last_is, Fits, given_none, given_no_listing, given_no_removal, given_listing, given_removal, given_youngest, given_uuid, given_dump, given_look, given_create, given_again}
+use Rattle.fsfs_top.proofs.LookReplies.{last_is, Fits, given_none, given_no_listing, given_no_removal, given_listing, given_removal, given_youngest, given_uuid, given_dump, given_verify, given_look, given_create, given_again}
 
 -- ---- a look at a revision, by what is printed
 
@@ -93,6 +93,7 @@ none_of : (look : SomeLook) (shown : Path → List ℕ) → refuses (line_of (to
 none_of Youngest shown = refl
 none_of Uuid shown = refl
 none_of Dump shown = refl
+none_of Verify shown = refl
 none_of (AtRevision look) shown = none_at look.revision look.printed shown
 
 module _ (tool : Tool) (ws : List (List ℕ)) (clock : Option ℕ) (dice : Option (List ℕ)) (a b : Scene) (err_old err_new : SinkScene) (status : ℕ) (fault : Option Fault)
@@ -142,11 +143,12 @@ module _ (tool : Tool) (ws : List (List ℕ)) (clock : Option ℕ) (dice : Optio
       given_youngest status tool a b err_old err_new repos t here fault ends o h is last (task_done clock dice a b fault tool ws repos (Look Youngest) did asks).0
   opened repos (Look Uuid) t o h shown names txns asks here small is last has = given_uuid status tool a b err_old err_new repos t here fault ends o is (task_done clock dice a b fault tool ws repos (Look Uuid) did asks).0
   opened repos (Look Dump) t o h shown names txns asks here small is last has = absurd small
+  opened repos (Look Verify) t o h shown names txns asks here small is last has = absurd small
   opened repos (Look (AtRevision look)) t o h shown names txns asks here small is last has = absurd small
   opened repos (RunJobs run) t o h shown names txns asks here small is last has = absurd small
 
   stands : (repos : List ℕ) (task : Task) (t : Trace) (h : List Revision) (shown : Path → List ℕ) (names : List (List ℕ)) (txns : List (ℕ × ℕ)) → Asks tool ws repos task → a.host.disk_at repos ≡ Some t → (s : StandsFor (files_now t) h)
-      → AreIds task (rev_bytes s.opened.layout (files_now t)) h shown → HasTxns task (labels_now t) names txns → Given (answer_to task shown (Some (record { history = h; identifier = s.opened.uuid; names = names; txns = txns })))
+      → Suits task (rev_bytes s.opened.layout (files_now t)) h shown → HasTxns task (labels_now t) names txns → Given (answer_to task shown (Some (record { history = h; identifier = s.opened.uuid; names = names; txns = txns })))
   stands repos (Create shard) t h shown names txns asks here s are has =
       let made = task_done clock dice a b fault tool ws repos (Create shard) did asks in
       let by_admin = (asks_task tool ws repos (Create shard) asks).0 in
@@ -158,6 +160,7 @@ module _ (tool : Tool) (ws : List (List ℕ)) (clock : Option ℕ) (dice : Optio
   stands repos (Look Uuid) t h shown names txns asks here s are has = opened repos (Look Uuid) t s.opened h shown names txns asks here tt s.small (last_is (files_now t) h s) tt
   stands repos (Look Dump) t h shown names txns asks here s are has =
       given_dump status tool a b err_old err_new repos t here fault ends h s (asks_task tool ws repos (Look Dump) asks) (task_done clock dice a b fault tool ws repos (Look Dump) did asks).0
+  stands repos (Look Verify) t h shown names txns asks here s are has = given_verify status tool a b err_old err_new repos t here fault ends h s are (task_done clock dice a b fault tool ws repos (Look Verify) did asks).0
   stands repos (Look (AtRevision look)) t h shown names txns asks here s are has = subst Given (answer_at look.revision look.printed shown h) (at_revision repos look t h shown asks here s are)
   stands repos (RunJobs run) t h shown names txns asks here s are has = absurd are
 

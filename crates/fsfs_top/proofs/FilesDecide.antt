@@ -29,14 +29,14 @@ use Rattle.fsfs_base.specs.declared.places.open_fault.OpenFault.TheVariants as o
 use Rattle.fsfs_stands.specs.Texts.{End, Whole, Refused}
 use Rattle.fsfs_stands.specs.declared.look_fault.LookFault.{LookFault}
 use Rattle.fsfs_stands.specs.declared.look_fault.LookFault.TheVariants as refusal
-use Rattle.fsfs_top.specs.Looks.{AllBytes, all_bytes, TextOf, TextIn, revision_line, uuid_line, looked_revision, LacksRevision, IsFaultOf, DumpIn, PrintsLine, LooksInto, IsOutside, Agrees, DecidesRevision, DecidesDump, DecidesOpened, DecidesOpening, LookIsDecided}
+use Rattle.fsfs_top.specs.Looks.{AllBytes, all_bytes, TextOf, TextIn, revision_line, uuid_line, looked_revision, LacksRevision, IsFaultOf, DumpIn, VerifyIn, PrintsLine, LooksInto, IsOutside, Agrees, AreSound, TellsDamage, DecidesRevision, DecidesDump, DecidesVerify, DecidesOpened, DecidesOpening, LookIsDecided}
 use Rattle.fsfs_workers.specs.Openings.{OpensAs, DoesNotOpen}
 use Rattle.fsfs_workers.proofs.Unopened.{formatted, refused_behind}
 use Rattle.fsfs_top.specs.Transactions.{OpeningIsDecided}
 use Rattle.fsfs_top.specs.Scenes.{SinkScene}
 use Rattle.fsfs_cli.specs.Requests.{printed_path}
 use Rattle.fsfs_cli.specs.declared.request.Look.{Look}
-use Rattle.fsfs_cli.specs.declared.request.Look.TheVariants.{Youngest, Uuid, Dump, AtRevision}
+use Rattle.fsfs_cli.specs.declared.request.Look.TheVariants.{Youngest, Uuid, Dump, Verify, AtRevision}
 use Rattle.fsfs_cli.specs.declared.request.Printed.{Printed}
 use Rattle.fsfs_cli.specs.declared.request.Printed.TheVariants.{Tree, Text, Author, Date, Log, Info, Changed, History}
 use Rattle.fsfs_cli.specs.declared.request.RevisionLook.{RevisionLook}
@@ -50,6 +50,9 @@ use Rattle.fsfs_revision.specs.RevBytes.{rev_bytes, props_bytes}
 use Rattle.fsfs_revision.specs.RevProps.{only}
 use Rattle.fsfs_dump.specs.Texts.{DumpText}
 use Rattle.fsfs_dump.proofs.OneText.{dumps_one}
+use Rattle.fsfs_sound.specs.Laws.{ShowsOpenHistory}
+use Rattle.fsfs_verify.specs.Texts.{VerifyText}
+use Rattle.fsfs_verify.proofs.OneText.{nothing_refused, one_refused}
 
 -- ---- failures of the outside
 
@@ -71,6 +74,7 @@ opened_outside : (look : Look) (o : Opened) (m : Files) (fault : Fault) → IsOu
 opened_outside Youngest o m fault out = inr out
 opened_outside Uuid o m fault out = inr out
 opened_outside Dump o m fault out = record { whole = λ text is. inr out; refused = λ text why is. inr out }
+opened_outside Verify o m fault out = record { sound = λ sound. inr out; wrong = λ text why is. inr out }
 opened_outside (AtRevision look) o m fault out = record { lacking = λ rev lacks. inr out; whole = λ text there is. inr out; refused = λ text why there is. inr out }
 
 pub look_outside : (look : Look) (at : Option Trace) (fault : Fault) → IsOutside fault → LookIsDecided look at (Some fault)
@@ -247,6 +251,51 @@ dump_done disk m o p old new fault opened w dumped = record {
   refused = λ text why t. refused_agrees disk (Rose old.faults new.faults) (DumpIn o m) (dump_one o m) [] old.written new.written dumped.result fault dumped.writes dumped.fault_is text why (same_dump o p m text (Refused why) opened w t);
 }
 
+-- ---- a repository that was checked
+
+-- the text is by what every opening says, and so is the history
+pub same_verify : (o p : Opened) (m : Files) (text : List ℕ) (end : End) → IsOpened (small_texts m) o → IsOpened (small_texts m) p → VerifyIn p m text end → VerifyIn o m text end
+same_verify o p m text end opened also is =
+    let s = small_texts m in
+    subst (λ (l : Layout). VerifyText (rev_bytes l m) (props_bytes l m) o.youngest text end) (sym (one_layout s o p opened also))
+    (subst (λ (y : ℕ). VerifyText (rev_bytes p.layout m) (props_bytes p.layout m) y text end) (sym (one_youngest s o p opened also)) is)
+
+same_sound : (o p : Opened) (m : Files) → IsOpened (small_texts m) o → IsOpened (small_texts m) p → AreSound p m → AreSound o m
+same_sound o p m opened also sound =
+    let s = small_texts m in
+    subst (λ (l : Layout). ShowsOpenHistory (rev_bytes l m) (props_bytes l m) o.youngest) (sym (one_layout s o p opened also))
+    (subst (λ (y : ℕ). ShowsOpenHistory (rev_bytes p.layout m) (props_bytes p.layout m) y) (sym (one_youngest s o p opened also)) sound)
+
+outside_tells : (o : Opened) (m : Files) (text : List ℕ) (fault : Option Fault) (told : Fault) → fault ≡ Some told → IsOutside told → TellsDamage o m text fault
+outside_tells o m text fault told is out = subst (TellsDamage o m text) (sym is) (inr out)
+
+module _ (disk write : Type 0) (m : Files) (o p : Opened) (opened : IsOpened (small_texts m) o) (also : IsOpened (small_texts m) p) (old new : Option (List ℕ)) where
+  sound_agrees : (r : Result (Unit {0}) LookError) (fault : Option Fault) → Writes (VerifyIn o m) old new r → IsFaultOf disk write [] r fault → AreSound p m → Agrees None fault
+  sound_agrees (Ok done) fault w is sound = subst (Agrees None) (sym is) refl
+  sound_agrees (Err (errors.Fault why)) fault w is sound = absurd (nothing_refused (rev_bytes o.layout m) (props_bytes o.layout m) o.youngest w.0 why (same_sound o p m opened also sound) w.1)
+  sound_agrees (Err errors.DiskFault) fault w (told, is, at, d, e) sound = outside_agrees None fault told is (subst IsOutside (sym at) tt)
+  sound_agrees (Err errors.WriteFault) fault w (told, is, at, d, e) sound = outside_agrees None fault told is (subst IsOutside (sym at) tt)
+  sound_agrees (Err errors.OutOfMemory) fault w (told, is, at, d, e) sound = outside_agrees None fault told is (subst IsOutside (sym at) tt)
+
+  damage_told : (r : Result (Unit {0}) LookError) (fault : Option Fault) → Writes (VerifyIn o m) old new r → IsFaultOf disk write [] r fault → (text : List ℕ) (why : LookFault) → VerifyIn p m text (Refused why) → TellsDamage p m text fault
+  damage_told (Ok done) fault w is text why t =
+      absurd (nothing_refused (rev_bytes o.layout m) (props_bytes o.layout m) o.youngest text why w.1.1 (same_verify o p m text (Refused why) opened also t))
+  damage_told (Err (errors.Fault other)) fault w (told, is, from, d, e) text why t =
+      let here = same_verify p o m w.0 (Refused other) also opened w.1 in
+      let same = one_refused (rev_bytes p.layout m) (props_bytes p.layout m) p.youngest w.0 text other why here t in
+      let now = subst (λ (x : List ℕ). VerifyIn p m x (Refused other)) same here in
+      subst (TellsDamage p m text) (sym is)
+      (⊎_elim (λ k. inl (other, now, k)) (λ k. inr (subst IsOutside (sym k) tt)) (look_or_memory [] other told from))
+  damage_told (Err errors.DiskFault) fault w (told, is, at, d, e) text why t = outside_tells p m text fault told is (subst IsOutside (sym at) tt)
+  damage_told (Err errors.WriteFault) fault w (told, is, at, d, e) text why t = outside_tells p m text fault told is (subst IsOutside (sym at) tt)
+  damage_told (Err errors.OutOfMemory) fault w (told, is, at, d, e) text why t = outside_tells p m text fault told is (subst IsOutside (sym at) tt)
+
+verified_done : (disk : Type 0) (m : Files) (o p : Opened) (old new : SinkScene) (fault : Option Fault) → IsOpened (small_texts m) o → IsOpened (small_texts m) p → LooksInto disk Verify o (Some m) old new fault → DecidesVerify p m fault
+verified_done disk m o p old new fault opened w verified = record {
+  sound = λ sound. sound_agrees disk (Rose old.faults new.faults) m o p opened w old.written new.written verified.result fault verified.writes verified.fault_is sound;
+  wrong = λ text why t. damage_told disk (Rose old.faults new.faults) m o p opened w old.written new.written verified.result fault verified.writes verified.fault_is text why t;
+}
+
 -- ---- a look at an opened repository
 
 line_agrees : (line : List ℕ) (old new : SinkScene) (fault : Option Fault) → PrintsLine line old new fault → Agrees None fault
@@ -257,6 +306,7 @@ opened_done : (disk : Type 0) (look : Look) (m : Files) (o p : Opened) (old new 
 opened_done disk Youngest m o p old new fault opened w into = line_agrees (revision_line o.youngest) old new fault into
 opened_done disk Uuid m o p old new fault opened w into = line_agrees (uuid_line o.uuid) old new fault into
 opened_done disk Dump m o p old new fault opened w into = dump_done disk m o p old new fault opened w into
+opened_done disk Verify m o p old new fault opened w into = verified_done disk m o p old new fault opened w into
 opened_done disk (AtRevision look) m o p old new fault opened w into = revision_done disk look m o p old new fault opened w into
 
 pub look_decided : (disk : Type 0) (look : Look) (told at : Option Trace) (o : Opened) (old new : SinkScene) (fault : Option Fault) → told ≡ at → IfSome told (λ t. IsOpened (small_texts (files_now t)) o)

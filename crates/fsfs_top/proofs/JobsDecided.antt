@@ -24,7 +24,7 @@ beside_opening : (moment before after : ℕ) (benches : ℕ → Type 0) (a b : R
 beside_opening moment before after benches a b _ (beside.NotOpened why because unopened untouched unread) = opening_because (Rose before after) a.trace why because
 beside_opening moment before after benches a b _ (beside.NotRead o error opens read rose untouched) = opening_as a.trace o (Some (fault_from_script error)) opens
 beside_opening moment before after benches a b _ (beside.NoRoom o js opens read untouched) = opening_as a.trace o (Some Memory) opens
-beside_opening moment before after benches a b _ (beside.Done o js answers youngest result opens read ends each rose failed over printed) = opening_as a.trace o (ended_fault result) opens
+beside_opening moment before after benches a b _ (beside.Done o js answers youngest result opens read ends each rose failed kept over printed) = opening_as a.trace o (ended_fault result) opens
 beside_opening moment before after benches a b _ (beside.Lost unknown written failed) = absurd cc
 
 pub run_decided : (run : JobRun) (known : Bool) (moment before after : ℕ) (benches : ℕ → Type 0) (a b : RunScene) (ended : Result ℕ Fault) → RunsBy run known moment before after benches a b ended → RunIsDecided run known a.trace ended

@@ -41,10 +41,10 @@ use Rattle.fsfs_stands.specs.Agreeing.{IsFront}
 use Rattle.fsfs_stands.specs.Texts.{End, Whole, Refused, Stopped}
 use Rattle.fsfs_cli.specs.Requests.{printed_path}
 use Rattle.fsfs_cli.specs.declared.request.Look.{Look}
-use Rattle.fsfs_cli.specs.declared.request.Look.TheVariants.{Youngest, Uuid, Dump, AtRevision}
+use Rattle.fsfs_cli.specs.declared.request.Look.TheVariants.{Youngest, Uuid, Dump, Verify, AtRevision}
 use Rattle.fsfs_cli.specs.declared.request.RevisionLook.{RevisionLook}
 use Rattle.fsfs_top.specs.Command.{Created, Tells, answer_of, identifier_of}
-use Rattle.fsfs_top.specs.Looks.{all_bytes, TextOf, TextIn, revision_line, uuid_line, looked_revision, LacksRevision, IsFaultOf, DumpIn, Looked, LooksInto, NotOpened, PrintsLine, PrintsLook}
+use Rattle.fsfs_top.specs.Looks.{all_bytes, TextOf, TextIn, revision_line, uuid_line, looked_revision, LacksRevision, IsFaultOf, DumpIn, VerifyIn, Looked, LooksInto, NotOpened, PrintsLine, PrintsLook}
 use Rattle.fsfs_workers.specs.Openings.{OpensAs, DoesNotOpen}
 use Rattle.fsfs_top.specs.Replies.{Gives, OutsideFailed}
 use Rattle.fsfs_top.specs.TxnAnswers.{first_missing, removal_reply, ListingAnswer, RemovalAnswer, names_text}
@@ -53,7 +53,8 @@ use Rattle.fsfs_top.specs.Scenes.{Scene, SinkScene}
 use Rattle.fsfs_top.proofs.TxnsTold.{first_same}
 use Rattle.fsfs_layout.proofs.OpeningLemmas.{one_youngest, one_layout, same_uuid}
 use Rattle.fsfs_top.specs.DumpAnswers.{stops, dump_reply, DumpAnswer}
-use Rattle.fsfs_top.proofs.FilesDecide.{same_text, same_dump, look_or_memory}
+use Rattle.fsfs_top.specs.VerifyAnswers.{VerifyAnswer}
+use Rattle.fsfs_top.proofs.FilesDecide.{same_text, same_dump, same_verify, look_or_memory}
 use Rattle.fsfs_revision.specs.Damage.Damages.{place_of}
 use Rattle.fsfs_revision.specs.declared.wrong.Wrong.TheVariants as wrongs
 use Rattle.fsfs_stands.specs.declared.look_fault.LookFault.{LookFault}
@@ -61,6 +62,11 @@ use Rattle.fsfs_stands.specs.declared.look_fault.LookFault.TheVariants as faults
 use Rattle.fsfs_dump.specs.Flat.{CutText, history_dump}
 use Rattle.fsfs_dump.specs.Laws.{IsCut}
 use Rattle.fsfs_dump.proofs.ByHistory.{dumps_by}
+use Rattle.fsfs_revision.specs.RevBytes.{rev_bytes, props_bytes}
+use Rattle.fsfs_sound.specs.Laws.{ShowsOpenHistory}
+use Rattle.fsfs_sound.specs.OpenTexts.{HasOpenTexts}
+use Rattle.fsfs_verify.specs.Texts.{verified_lines}
+use Rattle.fsfs_verify.proofs.OneText.{nothing_refused, stopped_front}
 use Rattle.fsfs_cli.specs.declared.tool.Tool.{Tool}
 use Rattle.fsfs_cli.specs.declared.tool.Tool.TheVariants as tools
 
@@ -135,6 +141,17 @@ dump_fits (whole, None) text Stopped is = is
 dump_fits (front, Some at) text Whole is = absurd is
 dump_fits (front, Some at) text (Refused why) is = delta_fits text front at why is.0 is.1
 dump_fits (front, Some at) text Stopped is = is
+
+-- a check of files that stand for a history no text of which is a delta
+module _ (files : Files) (h : List Revision) (s : StandsFor files h) (open_texts : HasOpenTexts h) where
+  shows : ShowsOpenHistory (rev_bytes s.opened.layout files) (props_bytes s.opened.layout files) s.opened.youngest
+  shows = record { history = h; count = s.count; shown = s.history; open_texts = open_texts }
+
+  verify_fits : (tool : Tool) (text : List ℕ) (end : End) → VerifyIn s.opened files text end → EndsFit tool [] (VerifyAnswer (Some h)) text end
+  verify_fits tool text Whole is = ap (λ (n : ℕ). prints (verified_lines n)) s.count ∙ ap prints (sym is.0)
+  verify_fits tool text (Refused why) is = absurd (nothing_refused (rev_bytes s.opened.layout files) (props_bytes s.opened.layout files) s.opened.youngest text why shows is)
+  verify_fits tool text Stopped is =
+      subst (λ (n : ℕ). IsFront text (verified_lines n)) (sym s.count) (stopped_front (rev_bytes s.opened.layout files) (props_bytes s.opened.layout files) s.opened.youngest text is)
 
 -- ---- where the outside failed
 
@@ -318,6 +335,16 @@ module _ (status : ℕ) (tool : Tool) (a b : Scene) (err_old err_new : SinkScene
         (λ text end x. subst (λ (k : Tool). EndsFit k [] (dump_reply cut) text end) (sym admin)
         (dump_fits cut text end (dumps_by (files_now t) h s s.opened.uuid text end (same_dump s.opened o (files_now t) text end s.small there x))))
         dumped.writes dumped.fault_is
+
+    -- a check
+    pub given_verify : (h : List Revision) (s : StandsFor (files_now t) h) → HasOpenTexts h → PrintsLook repos Verify a b fault → Given (VerifyAnswer (Some h))
+    given_verify h s open_texts (inl not) = not_opened (VerifyAnswer (Some h)) s.opened s.small not
+    given_verify h s open_texts (inr (o, opens, into)) =
+        let there = subst (λ (x : Option Trace). OpensAs x o) here opens in
+        let verified = subst (λ (x : Option Trace). LooksInto (Rose a.host.disk_faults b.host.disk_faults) Verify o (option_map files_now x) a.out b.out fault) here into in
+        ended_look (VerifyIn o (files_now t)) [] (VerifyAnswer (Some h)) verified.result
+        (λ text end x. verify_fits (files_now t) h s open_texts tool text end (same_verify s.opened o (files_now t) text end s.small there x))
+        verified.writes verified.fault_is
 
     -- of a history, whose reply is by the revision
     module _ (look : RevisionLook) (h : List Revision) (s : StandsFor (files_now t) h) (reply : Revision → Reply) where

@@ -15,6 +15,7 @@ use Rattle.fsfs_look.specs.Written.{Writes, IfDisk, IfWrite}
 use Rattle.fsfs_look.proofs.NodeTexts.{writes_as}
 use Rattle.fsfs_dump.specs.Texts.{DumpText}
 use Rattle.fsfs_dump.proofs.MayLemmas.{dump_as}
+use Rattle.fsfs_verify.specs.Texts.{VerifyText}
 use Rattle.fsfs_look.specs.declared.look_error.LookError.{LookError}
 use Rattle.fsfs_look.specs.declared.look_error.LookError.TheVariants as errors
 use Rattle.fsfs_layout.specs.Opening.{small_texts, IsOpened}
@@ -25,9 +26,9 @@ use Rattle.fsfs_base.specs.declared.places.open_fault.OpenFault.{OpenFault}
 use Rattle.fsfs_base.specs.declared.places.open_fault.OpenFault.TheVariants as opening
 use Rattle.fsfs_cli.specs.Requests.{printed_path}
 use Rattle.fsfs_cli.specs.declared.request.Look.{Look}
-use Rattle.fsfs_cli.specs.declared.request.Look.TheVariants.{Youngest, Uuid, Dump, AtRevision}
+use Rattle.fsfs_cli.specs.declared.request.Look.TheVariants.{Youngest, Uuid, Dump, Verify, AtRevision}
 use Rattle.fsfs_cli.specs.declared.request.RevisionLook.{RevisionLook}
-use Rattle.fsfs_top.specs.Looks.{AllBytes, all_bytes, KnowsAll, TextOf, TextIn, looked_revision, IsFaultAt, IsFaultOf, DumpIn, LooksInto, NotOpened, PrintsLook}
+use Rattle.fsfs_top.specs.Looks.{AllBytes, all_bytes, KnowsAll, TextOf, TextIn, looked_revision, IsFaultAt, IsFaultOf, DumpIn, VerifyIn, LooksInto, NotOpened, PrintsLook}
 use Rattle.fsfs_workers.specs.Openings.{OpensAs, DoesNotOpen}
 use Rattle.fsfs_top.specs.Scenes.{Scene, SinkScene}
 use Rattle.fsfs_revision.proofs.FloorLemmas.{floor_is}
@@ -63,6 +64,18 @@ dump_writes (Some t) o uuid telling may old new r opened tells reads is writes =
     subst (λ (u : List ℕ). Writes (DumpText look (only props) u o.youngest) old new r) is
     (writes_as (DumpText look may uuid o.youngest) (DumpText look (only props) uuid o.youngest) old new r (dump_as may (only props) look uuid o.youngest (reads t refl)) (writes look (λ q below. all.revs q below)))
 
+-- and of a check of them
+pub verify_writes : {Below : Type 0} (trace : Option Trace) (o : Opened) (telling : Telling Below) (may : MayRead) (old new : Option (List ℕ)) (r : Result (Unit {0}) LookError)
+    → IfSome (option_map files_now trace) (λ m. IsOpened (small_texts m) o)
+    → ((t : Trace) → trace ≡ Some t → floor_in o.layout (files_now t) ≡ Ok o.min_unpacked_rev → TellsAll o.youngest o.layout (files_now t) telling)
+    → ((t : Trace) → trace ≡ Some t → ReadsOnly may o.youngest (props_bytes o.layout (files_now t)))
+    → ((look props : RevisionBytes) → Knows telling.revs o.youngest look → ReadsOnly may o.youngest props → Writes (VerifyText look props o.youngest) old new r)
+    → IfSome (option_map files_now trace) (λ m. Writes (VerifyIn o m) old new r)
+verify_writes None o telling may old new r opened tells reads writes = tt
+verify_writes (Some t) o telling may old new r opened tells reads writes =
+    let all = tells t refl (floor_is o.layout o.min_unpacked_rev (files_now t) opened.behind.min_unpacked_rev) in
+    writes (rev_bytes o.layout (files_now t)) (props_bytes o.layout (files_now t)) (λ q below. all.revs q below) (reads t refl)
+
 pub fault_with_cause : (disk write : Type 0) (path : Path) (e : LookError) (fault : Fault) → IsFaultAt path e fault → IfDisk e disk → IfWrite e write → IsFaultOf disk write path (Err e) (Some fault)
 fault_with_cause disk write path e fault is d w = (fault, refl, is, d, w)
 
@@ -86,6 +99,7 @@ counted_look : (rose disk : Type 0) (look : Look) (o : Opened) (files : Option F
 counted_look rose disk Youngest o files old new fault counted into = into
 counted_look rose disk Uuid o files old new fault counted into = into
 counted_look rose disk Dump o files old new fault counted dumped = record { result = dumped.result; writes = dumped.writes; fault_is = counted_fault rose disk (Rose old.faults new.faults) [] dumped.result fault counted dumped.fault_is }
+counted_look rose disk Verify o files old new fault counted verified = record { result = verified.result; writes = verified.writes; fault_is = counted_fault rose disk (Rose old.faults new.faults) [] verified.result fault counted verified.fault_is }
 counted_look rose disk (AtRevision look) o files old new fault counted (inl lacks) = inl lacks
 counted_look rose disk (AtRevision look) o files old new fault counted (inr looked) = inr (record {
   there = looked.there;

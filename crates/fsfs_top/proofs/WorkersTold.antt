@@ -19,7 +19,7 @@ module _ (known : Bool) (moment before after old new : ℕ) (none : before ≡ 0
   beside_by_host workers a b _ (NotOpened why because unopened untouched unread) = NotOpened why (opens_weaker a.trace why (by_host 1 before after old new none is) because) unopened untouched unread
   beside_by_host workers a b _ (NotRead o error opens read rose untouched) = NotRead o error opens read rose untouched
   beside_by_host workers a b _ (NoRoom o js opens read untouched) = NoRoom o js opens read untouched
-  beside_by_host workers a b _ (Done o js answers youngest result opens read ends each rose failed ran printed) = Done o js answers youngest result opens read ends each (by_host _ before after old new none is rose) (on _ failed) ran printed
+  beside_by_host workers a b _ (Done o js answers youngest result opens read ends each rose failed kept ran printed) = Done o js answers youngest result opens read ends each (by_host _ before after old new none is rose) (on _ failed) kept ran printed
   beside_by_host workers a b _ (Lost unknown unwritten same) = Lost unknown unwritten same
 
   pub run_by_host : (a b : RunScene) (run : JobRun) (ended : Result ℕ Fault) → RunsBy run known moment before after B a b ended → RunsBy run known moment old new C a b ended

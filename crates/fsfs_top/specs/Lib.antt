@@ -1,6 +1,7 @@
 pub mod Scenes
 pub mod TxnAnswers
 pub mod DumpAnswers
+pub mod VerifyAnswers
 pub mod Looks
 pub mod Transactions
 pub mod Command

@@ -32,9 +32,11 @@ use Rattle.fsfs_look.specs.Revprops.Texts.{AuthorText, DateText, LogText, InfoTe
 use Rattle.fsfs_stands.specs.ChangedTexts.{ChangedText}
 use Rattle.fsfs_stands.specs.HistoryTexts.{HistoryText}
 use Rattle.fsfs_dump.specs.Texts.{DumpText}
+use Rattle.fsfs_sound.specs.Laws.{ShowsOpenHistory}
+use Rattle.fsfs_verify.specs.Texts.{VerifyText}
 use Rattle.fsfs_cli.specs.Requests.{printed_path}
 use Rattle.fsfs_cli.specs.declared.request.Look.{Look}
-use Rattle.fsfs_cli.specs.declared.request.Look.TheVariants.{Youngest, Uuid, Dump, AtRevision}
+use Rattle.fsfs_cli.specs.declared.request.Look.TheVariants.{Youngest, Uuid, Dump, Verify, AtRevision}
 use Rattle.fsfs_cli.specs.declared.request.Printed.{Printed}
 use Rattle.fsfs_cli.specs.declared.request.Printed.TheVariants.{Tree, Text, Author, Date, Log, Info, Changed, History}
 use Rattle.fsfs_cli.specs.declared.request.RevisionLook.{RevisionLook}
@@ -132,6 +134,19 @@ pub record IsDumped (disk : Type 0) (o : Opened) (files : Option Files) (old new
   pub writes : IfSome files (λ m. Writes (DumpIn o m) old.written new.written result)
   pub fault_is : IsFaultOf disk (Rose old.faults new.faults) [] result fault
 
+-- ---- a check
+
+-- what is printed of a check of all revisions of an opened repository, as a reading of its files
+abbrev pub VerifyIn : Opened → Files → List ℕ → End → Type 0
+VerifyIn o files = VerifyText (rev_bytes o.layout files) (props_bytes o.layout files) o.youngest
+
+-- A repository was checked: a line was printed for each revision, or for those before the first with which something is wrong; or where
+-- that failed a first part.
+pub record IsVerified (disk : Type 0) (o : Opened) (files : Option Files) (old new : SinkScene) (fault : Option Fault) : Type 0 where
+  pub result : Result (Unit {0}) LookError
+  pub writes : IfSome files (λ m. Writes (VerifyIn o m) old.written new.written result)
+  pub fault_is : IsFaultOf disk (Rose old.faults new.faults) [] result fault
+
 -- ---- a look
 
 -- what a look at an opened repository printed
@@ -139,6 +154,7 @@ abbrev pub LooksInto : Type 0 → Look → Opened → Option Files → SinkScene
 LooksInto disk Youngest o files old new fault = PrintsLine (revision_line o.youngest) old new fault
 LooksInto disk Uuid o files old new fault = PrintsLine (uuid_line o.uuid) old new fault
 LooksInto disk Dump o files old new fault = IsDumped disk o files old new fault
+LooksInto disk Verify o files old new fault = IsVerified disk o files old new fault
 LooksInto disk (AtRevision look) o files old new fault =
     ((rev : ℕ) × LacksRevision look o rev × (fault ≡ Some (Request (NoRev rev o.youngest))) × (new ≡ old)) ⊎ Looked disk look o files old new fault
 
@@ -172,11 +188,26 @@ pub record DecidesDump (o : Opened) (files : Files) (fault : Option Fault) : Typ
   pub whole : (text : List ℕ) → DumpIn o files text Whole → Agrees None fault
   pub refused : (text : List ℕ) (why : LookFault) → DumpIn o files text (Refused why) → Agrees (Some (fault_from_look [] why)) fault
 
+-- the files show a history, and no text in it is a delta
+abbrev pub AreSound : Opened → Files → Type 0
+AreSound o files = ShowsOpenHistory (rev_bytes o.layout files) (props_bytes o.layout files) o.youngest
+
+-- what is told is wrong with the files, and with no revision before this text's end; or the outside failed
+abbrev pub TellsDamage : Opened → Files → List ℕ → Option Fault → Type 0
+TellsDamage o files text None = ⊥
+TellsDamage o files text (Some fault) = ((why : LookFault) × VerifyIn o files text (Refused why) × (fault ≡ fault_from_look [] why)) ⊎ IsOutside fault
+
+-- a check is answered wherever the files show a history; where something is wrong with them, it tells what
+pub record DecidesVerify (o : Opened) (files : Files) (fault : Option Fault) : Type 0 where
+  pub sound : AreSound o files → Agrees None fault
+  pub wrong : (text : List ℕ) (why : LookFault) → VerifyIn o files text (Refused why) → TellsDamage o files text fault
+
 -- a look at the small files is answered wherever they open
 abbrev pub DecidesOpened : Look → Opened → Files → Option Fault → Type 0
 DecidesOpened Youngest o files fault = Agrees None fault
 DecidesOpened Uuid o files fault = Agrees None fault
 DecidesOpened Dump o files fault = DecidesDump o files fault
+DecidesOpened Verify o files fault = DecidesVerify o files fault
 DecidesOpened (AtRevision look) o files fault = DecidesRevision look o files fault
 
 -- Each refusal of an opening comes wherever its cause is there; what is left is Small. Where the files open, `Then` holds.

@@ -17,12 +17,14 @@ use Rattle.fsfs_tree.specs.Answers.{Reply, prints, Answer, UuidAnswer, asked_rev
 use Rattle.fsfs_tree.specs.Answers as model
 use Rattle.fsfs_top.specs.TxnAnswers.{ListingAnswer, RemovalAnswer}
 use Rattle.fsfs_top.specs.DumpAnswers.{DumpAnswer}
+use Rattle.fsfs_top.specs.VerifyAnswers.{VerifyAnswer}
 use Rattle.fsfs_layout.specs.Opening.{small_texts, IsOpened, IsNone}
 use Rattle.fsfs_layout.specs.declared.opened.Opened.{Opened}
 use Rattle.fsfs_stands.specs.Files.{StandsFor}
 use Rattle.fsfs_stands.specs.ByTree.{AreShownIds}
+use Rattle.fsfs_sound.specs.OpenTexts.{HasOpenTexts}
 use Rattle.fsfs_cli.specs.Readings.{Asks}
-use Rattle.fsfs_cli.specs.declared.request.Look.TheVariants.{Youngest, Uuid, Dump, AtRevision}
+use Rattle.fsfs_cli.specs.declared.request.Look.TheVariants.{Youngest, Uuid, Dump, Verify, AtRevision}
 use Rattle.fsfs_cli.specs.declared.request.Printed.{Printed}
 use Rattle.fsfs_cli.specs.declared.request.Printed.TheVariants.{Tree, Text, Author, Date, Log, Info, Changed, History}
 use Rattle.fsfs_cli.specs.declared.request.Task.{Task}
@@ -79,6 +81,7 @@ answer_to (RemoveTxns txns) shown r = RemovalAnswer txns (option_map (λ (x : Re
 answer_to (Look Youngest) shown r = Answer model.Youngest (option_map (λ (x : Repository). x.history) r)
 answer_to (Look Uuid) shown r = UuidAnswer (option_map (λ (x : Repository). x.identifier) r)
 answer_to (Look Dump) shown r = DumpAnswer (option_map (λ (x : Repository). (x.identifier, x.history)) r)
+answer_to (Look Verify) shown r = VerifyAnswer (option_map (λ (x : Repository). x.history) r)
 answer_to (Look (AtRevision look)) shown r = Answer (look_command look.revision look.printed shown) (option_map (λ (x : Repository). x.history) r)
 answer_to (RunJobs run) shown r = prints []
 
@@ -101,15 +104,17 @@ ShowsIds Info bytes rev shown = Unit {0}
 ShowsIds Changed bytes rev shown = Unit {0}
 ShowsIds (History path) bytes rev shown = Unit {0}
 
-abbrev pub AreIds : Task → RevisionBytes → List Revision → (Path → List ℕ) → Type 0
-AreIds (Create shard) bytes h shown = Unit {0}
-AreIds ListTxns bytes h shown = Unit {0}
-AreIds (RemoveTxns txns) bytes h shown = Unit {0}
-AreIds (Look Youngest) bytes h shown = Unit {0}
-AreIds (Look Uuid) bytes h shown = Unit {0}
-AreIds (Look Dump) bytes h shown = Unit {0}
-AreIds (Look (AtRevision look)) bytes h shown = ShowsIds look.printed bytes (asked_revision look.revision h) shown
-AreIds (RunJobs run) bytes h shown = ⊥
+-- what a task is answered by of the history: of a tree what is shown behind its names; of a check, which reads all texts, that none is a delta
+abbrev pub Suits : Task → RevisionBytes → List Revision → (Path → List ℕ) → Type 0
+Suits (Create shard) bytes h shown = Unit {0}
+Suits ListTxns bytes h shown = Unit {0}
+Suits (RemoveTxns txns) bytes h shown = Unit {0}
+Suits (Look Youngest) bytes h shown = Unit {0}
+Suits (Look Uuid) bytes h shown = Unit {0}
+Suits (Look Dump) bytes h shown = Unit {0}
+Suits (Look Verify) bytes h shown = HasOpenTexts h
+Suits (Look (AtRevision look)) bytes h shown = ShowsIds look.printed bytes (asked_revision look.revision h) shown
+Suits (RunJobs run) bytes h shown = ⊥
 
 -- what a task is answered by of the transactions that are there: a listing by their names in order, a removal by the transactions
 abbrev pub HasTxns : Task → List Label → List (List ℕ) → List (ℕ × ℕ) → Type 0
@@ -127,6 +132,7 @@ IsOfSmallFiles (RemoveTxns txns) = Unit {0}
 IsOfSmallFiles (Look Youngest) = Unit {0}
 IsOfSmallFiles (Look Uuid) = Unit {0}
 IsOfSmallFiles (Look Dump) = ⊥
+IsOfSmallFiles (Look Verify) = ⊥
 IsOfSmallFiles (Look (AtRevision look)) = ⊥
 IsOfSmallFiles (RunJobs run) = ⊥
 
@@ -137,7 +143,7 @@ pub record Replies (tool : Tool) (words : List (List ℕ)) (at : List ℕ → Op
   pub none : (repos : List ℕ) (task : Task) (t : Trace) (shown : Path → List ℕ) → Asks tool words repos task → at repos ≡ Some t → HasNone task (files_now t) → Given (answer_to task shown None)
   -- where the files stand for a history
   pub stands : (repos : List ℕ) (task : Task) (t : Trace) (h : List Revision) (shown : Path → List ℕ) (names : List (List ℕ)) (txns : List (ℕ × ℕ)) → Asks tool words repos task → at repos ≡ Some t → (s : StandsFor (files_now t) h)
-      → AreIds task (rev_bytes s.opened.layout (files_now t)) h shown → HasTxns task (labels_now t) names txns → Given (answer_to task shown (Some (record { history = h; identifier = s.opened.uuid; names = names; txns = txns })))
+      → Suits task (rev_bytes s.opened.layout (files_now t)) h shown → HasTxns task (labels_now t) names txns → Given (answer_to task shown (Some (record { history = h; identifier = s.opened.uuid; names = names; txns = txns })))
   -- and of the small files wherever they open: of any history that ends with the revision that they name
   pub opened : (repos : List ℕ) (task : Task) (t : Trace) (o : Opened) (h : List Revision) (shown : Path → List ℕ) (names : List (List ℕ)) (txns : List (ℕ × ℕ)) → Asks tool words repos task → at repos ≡ Some t → IsOfSmallFiles task → IsOpened (small_texts (files_now t)) o
       → last_of h ≡ o.youngest → HasTxns task (labels_now t) names txns → Given (answer_to task shown (Some (record { history = h; identifier = o.uuid; names = names; txns = txns })))

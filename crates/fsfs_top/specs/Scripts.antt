@@ -6,7 +6,6 @@ use Rattle.fsfs_disk.specs.Trace.{Trace, files_now}
 use Rattle.fsfs_tree.specs.Revisions.{Revision}
 use Rattle.fsfs_stands.specs.Files.{StandsFor}
 use Rattle.fsfs_turn.specs.Mountings.{RoseBy}
-use Rattle.fsfs_turn.specs.Opening.{LeftoversAgree}
 use Rattle.fsfs_disk.specs.Transactions.Removals.{WasKept}
 use Rattle.fsfs_cli.specs.CommandFaults.{fault_from_words}
 use Rattle.fsfs_cli.specs.Lines.{status_of}
@@ -39,9 +38,9 @@ ended_fault (Err fault) = Some fault
 abbrev pub run_scene : List ℕ → Scene → RunScene
 run_scene repos a = record { trace = a.host.disk_at repos; remaining = a.input.remaining; read_faults = a.input.faults; written = a.out.written; write_faults = a.out.faults }
 
--- The disk tells nothing; or its files stand for a history, packed or not, and files that are left over of packed revisions have the same bytes.
+-- The disk tells nothing; or its files stand for a history, packed or not.
 abbrev pub HasHistory : Option Trace → Type 0
-HasHistory told = IfSome told (λ t. (h : List Revision) × (stands : StandsFor (files_now t) h) × LeftoversAgree stands)
+HasHistory told = IfSome told (λ t. (h : List Revision) × StandsFor (files_now t) h)
 
 -- What a run of so many workers did over a disk whose count of faults went from `before` to `after`, and of whose benches so many calls failed (`benches`). One does the jobs one after another; two do them beside each
 -- other, and what is told of them rests on whether the disk is known to have a history (`known`).

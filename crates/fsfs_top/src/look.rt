@@ -10,7 +10,7 @@ ghost use Rattle.fsfs_look.specs.Written.{Writes, HasDiskCause, HasSinkCause};
 ghost use Rattle.fsfs_layout.specs.Opening.{small_texts, IsOpened};
 ghost use Rattle.fsfs_top.specs.Command.{fault_of};
 ghost use Rattle.fsfs_cli.specs.Requests.{printed_path};
-ghost use Rattle.fsfs_cli.specs.declared.request.Look.TheVariants.{Dump, AtRevision};
+ghost use Rattle.fsfs_cli.specs.declared.request.Look.TheVariants.{Dump, Verify, AtRevision};
 ghost use Rattle.fsfs_top.specs.Looks.{AllBytes, KnowsAll, TextOf, LacksRevision, LooksInto, PrintsLook, LookIsDecided, looked_revision, IsFaultAt};
 ghost use Rattle.fsfs_top.specs.Scenes.{SourceScene, scene, sink_scene};
 
@@ -26,7 +26,9 @@ use fsfs_layout::Opened;
 use fsfs_look::{LookError, author, cat, date, info, log, tree_text};
 use fsfs_revision::RevProps;
 use fsfs_stands::LookFault;
+use fsfs_verify::verify;
 use std::alloc::Global;
+use std::thread::Threads;
 
 // The revision of this number, if there is one.
 fn up_to(youngest: RevNum, number: u64) -> Option<RevNum>
@@ -110,15 +112,16 @@ fn fault_at(alloc: Global, printed: &Printed, error: LookError) -> Fault
     fault_of_error(alloc, printed.path(), error)
 }
 
-// The fault of a dump that ended so.
-fn fault_dumped(alloc: Global, error: LookError) -> Fault
+// The fault of a dump or a check that ended so.
+fn fault_of_all(alloc: Global, error: LookError) -> Fault
     ensures { IsFaultAt [] error result }
 {
     fault_of_error(alloc, None, error)
 }
 
 // Prints all revisions of an opened repository, and gives its disk back.
-fn dump_into<D: Disk, O: Sink, G: Gate>(
+fn dump_into<T: Threads, D: Disk, O: Sink, G: Gate>(
+    rt: &T,
     alloc: Global,
     disk: D,
     opened: &Opened,
@@ -139,6 +142,7 @@ fn dump_into<D: Disk, O: Sink, G: Gate>(
         opened.min_unpacked_rev,
     );
     let dumped = dump(
+        rt,
         alloc,
         &mut book,
         opened.uuid.as_bytes(),
@@ -149,7 +153,35 @@ fn dump_into<D: Disk, O: Sink, G: Gate>(
     let disk = disk_of(book);
     match dumped {
         Ok(()) => (disk, Ok(())),
-        Err(error) => (disk, Err(fault_dumped(alloc, error))),
+        Err(error) => (disk, Err(fault_of_all(alloc, error))),
+    }
+}
+
+// Checks all revisions of an opened repository, and gives its disk back.
+fn verify_into<D: Disk, O: Sink>(
+    alloc: Global,
+    disk: D,
+    opened: &Opened,
+    out: &mut O,
+) -> (D, Result<(), Fault>)
+    requires { IfSome (option_map files_now (D.trace disk)) (λ m. IsOpened (small_texts m) opened.now) }
+    ensures printed { LooksInto (Rose (D.faults disk) (D.faults result.0)) Verify opened.now (option_map files_now (D.trace disk)) (sink_scene O.Sink out.old) (sink_scene O.Sink out.new) (fault_of result.1) }
+    ensures same { D.trace result.0 ≡ D.trace disk }
+    ensures mounted { D.mount_path result.0 ≡ D.mount_path disk }
+    ensures later { D.faults disk ≤ D.faults result.0 }
+{
+    let mut book = over_disk(
+        alloc,
+        disk,
+        opened.youngest,
+        opened.layout,
+        opened.min_unpacked_rev,
+    );
+    let verified = verify(alloc, &mut book, opened.youngest, out);
+    let disk = disk_of(book);
+    match verified {
+        Ok(()) => (disk, Ok(())),
+        Err(error) => (disk, Err(fault_of_all(alloc, error))),
     }
 }
 
@@ -187,7 +219,8 @@ fn look_at_revision<D: Disk, O: Sink>(
 }
 
 // Prints of an opened repository what is looked at, and gives its disk back.
-fn look_into<D: Disk, O: Sink, G: Gate>(
+fn look_into<T: Threads, D: Disk, O: Sink, G: Gate>(
+    rt: &T,
     alloc: Global,
     disk: D,
     opened: &Opened,
@@ -204,13 +237,15 @@ fn look_into<D: Disk, O: Sink, G: Gate>(
     match look {
         Look::Youngest => (disk, line_fault(print_revision(out, opened.youngest))),
         Look::Uuid => (disk, line_fault(print_uuid(out, &opened.uuid))),
-        Look::Dump => dump_into(alloc, disk, opened, out, gate),
+        Look::Dump => dump_into(rt, alloc, disk, opened, out, gate),
+        Look::Verify => verify_into(alloc, disk, opened, out),
         Look::AtRevision(look) => look_at_revision(alloc, disk, opened, look, out),
     }
 }
 
 /// Mounts a path to read it, and prints what is looked at of the repository there.
-pub(crate) fn look_at<H: Host, O: Sink, G: Gate>(
+pub(crate) fn look_at<T: Threads, H: Host, O: Sink, G: Gate>(
+    rt: &T,
     alloc: Global,
     repos: &str,
     look: &Look,
@@ -231,7 +266,7 @@ pub(crate) fn look_at<H: Host, O: Sink, G: Gate>(
     };
     match open(alloc, &mut disk) {
         Ok(opened) => {
-            let (disk, looked) = look_into(alloc, disk, &opened, look, out, gate);
+            let (disk, looked) = look_into(rt, alloc, disk, &opened, look, out, gate);
             host.unmount(disk);
             looked
         }

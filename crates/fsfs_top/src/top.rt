@@ -63,7 +63,8 @@ fn create_at<H: Host, C: Clock, R: Dice>(
 }
 
 // Reads the words of a program that has commands, and does what they ask for.
-fn run<H: Host, O: Sink, C: Clock, R: Dice, G: Gate>(
+fn run<T: Threads, H: Host, O: Sink, C: Clock, R: Dice, G: Gate>(
+    rt: &T,
     alloc: Global,
     tool: Tool,
     words: &[String],
@@ -91,7 +92,7 @@ fn run<H: Host, O: Sink, C: Clock, R: Dice, G: Gate>(
         Task::Create { shard } => create_at(alloc, request.repos, *shard, host, clock, dice),
         Task::ListTxns => list_at(alloc, request.repos, host, out),
         Task::RemoveTxns { names } => remove_at(alloc, request.repos, names, host),
-        Task::Look(look) => look_at(alloc, request.repos, look, host, out, gate),
+        Task::Look(look) => look_at(rt, alloc, request.repos, look, host, out, gate),
         // It is svnjobs' own.
         Task::RunJobs(_) => unreachable!(),
     }
@@ -107,7 +108,8 @@ fn tell<E: Sink>(err: &mut E, tool: Tool, fault: &Fault) -> u8
 }
 
 // The call of a program that has commands.
-fn do_command<H: Host, O: Sink, E: Sink, C: Clock, R: Dice, G: Gate>(
+fn do_command<T: Threads, H: Host, O: Sink, E: Sink, C: Clock, R: Dice, G: Gate>(
+    rt: &T,
     alloc: Global,
     tool: Tool,
     words: &[String],
@@ -154,7 +156,7 @@ fn do_command<H: Host, O: Sink, E: Sink, C: Clock, R: Dice, G: Gate>(
     ensures labels { (path : List ℕ) → ((shard : ℕ) → Asks tool (map string_bytes words.now) path (Create shard) → ⊥) → ((txns : List (ℕ × ℕ)) → Asks tool (map string_bytes words.now) path (RemoveTxns txns) → ⊥)
         → HasSameLabels (H.disk_at host.old path) (H.disk_at host.new path) }
 {
-    match run(alloc, tool, words, host, out, clock, dice, gate) {
+    match run(rt, alloc, tool, words, host, out, clock, dice, gate) {
         Ok(()) => 0,
         Err(fault) => tell(err, tool, &fault),
     }
@@ -248,6 +250,6 @@ where
             Ok(status) => status,
             Err(fault) => tell(err, tool, &fault),
         },
-        _ => do_command(alloc, tool, words, host, out, err, clock, dice, gate),
+        _ => do_command(rt, alloc, tool, words, host, out, err, clock, dice, gate),
     }
 }

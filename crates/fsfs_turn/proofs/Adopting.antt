@@ -25,20 +25,20 @@ use Rattle.fsfs_machine.specs.declared.machine.Step.TheVariants as step
 use Rattle.fsfs_base.specs.Files.{Files}
 use Rattle.fsfs_machine.specs.Disk.{Disk, IsImage}
 use Rattle.fsfs_machine.specs.Machine.{World, did, either, answer, learns, disk_after, is_begun, has_begun_by, file_of, recorded, revisions, with_next, entry_of, Adopts, adopted, stuck_place}
-use Rattle.fsfs_machine.specs.Kept.{Kept, IsIn, FloorIs, coming, one}
+use Rattle.fsfs_machine.specs.Kept.{Kept, IsIn, coming, may_rise, one}
 use Rattle.fsfs_machine.proofs.Steps.{step_keeps}
 use Rattle.fsfs_images.specs.RealNames.{machine_name}
-use Rattle.fsfs_images.specs.Shown.{IsTraceOf, MayChange, Reads, AreRead, Putting, Adopting, Attempting}
+use Rattle.fsfs_images.specs.Shown.{IsTraceOf, Fits, Reads, AreRead, Putting, Adopting, Attempting}
 use Rattle.fsfs_turn.specs.Bytes.{BytesShow}
 use Rattle.fsfs_turn.specs.Views.{View, Sees, with_txns, rev_name, IsTxnOver, MayAdopt, coming_of, adopting_view, Adopted}
-use Rattle.fsfs_turn.specs.Past.{doubt_in, doubt, IsPart, HasCounter, Safe}
+use Rattle.fsfs_turn.specs.Past.{doubt_in, doubt, IsPart, StoodFor, Safe}
 use Rattle.fsfs_turn.specs.Standing.{no_others, IsStore}
 use Rattle.fsfs_turn.proofs.Names.{found_apart, names_stay, none_drawn}
 use Rattle.fsfs_turn.proofs.TurnEnds.{section_leaves, IsAfter, Comes}
 use Rattle.fsfs_turn.proofs.Stepping.{kept_bare, at_itself, held_here, lock_is}
 use Rattle.fsfs_turn.proofs.Due.{junk, le, torn_put}
 use Rattle.fsfs_images.proofs.Showing.{image_read}
-use Rattle.fsfs_turn.proofs.Moments.{numbers, safe_step}
+use Rattle.fsfs_turn.proofs.Moments.{stood_for, safe_step}
 
 use_of_one : (given : List ℕ) (name k : ℕ) → IsIn name given → (0 + (one name k + 0) + 0 ≤ 1) × (0 < 0 + (one name k + 0) + 0 → IsIn k given)
 use_of_one given name k in_it = elim (name == k) as (λ b. (name == k) ≡ b → (0 + (cond b 1 0 + 0) + 0 ≤ 1) × (0 < 0 + (cond b 1 0 + 0) + 0 → IsIn k given)) [
@@ -56,6 +56,8 @@ kept_one w x k over given = record {
   stands = k.stands;
   floor = k.floor;
   floors = k.floors;
+  left = k.left;
+  low = k.low;
   counts = k.counts;
   once = k.once;
   labels = (given, tt);
@@ -68,7 +70,7 @@ kept_one w x k over given = record {
   holder = k.holder;
 }
 
-module _ (layout : Layout) (young : ℕ) (stuck : Option DiskPlace) (old : Trace) (w : World) (v : View) (store : IsStore layout young stuck old w) (sees : Sees w v) (layout_is : v.layout ≡ layout) (safe : Safe layout v.since old v.opened w.floor w.history (doubt w.lock))
+module _ (layout : Layout) (low young : ℕ) (stuck : Option DiskPlace) (old : Trace) (w : World) (v : View) (store : IsStore layout low young stuck old w) (sees : Sees w v) (layout_is : v.layout ≡ layout) (safe : Safe layout v.since old v.opened w.history (doubt w.lock))
     (txn : Txn) (properties : List (List ℕ × List ℕ)) (next : Revision) (bytes : List ℕ) (may : MayAdopt v txn properties next bytes) where
   -- it has seen all
   all : v.seen ≡ w.history
@@ -106,8 +108,14 @@ module _ (layout : Layout) (young : ℕ) (stuck : Option DiskPlace) (old : Trace
   kept_after : (went : Went) → Kept (with_txns [] (after_it went))
   kept_after went = kept_bare (after_it went) (step_keeps laid (step.AdoptRev v.number 0 properties bytes went) (did (after_it went) (answer went)) (happens went) kept_laid).kept
 
-  numbers_after : (went : Went) (e : Disk) → IsImage (after_it went).disk e → FloorIs w.floor e × HasCounter e
-  numbers_after went e i = numbers (with_txns [] (after_it went)) (kept_after went) e i
+  stood_after : (went : Went) (e : Disk) → IsImage (after_it went).disk e → StoodFor layout v.opened w.history (doubt_in (either went (RevPut x) Over)) e
+  stood_after went = stood_for layout v.opened (with_txns [] (after_it went)) store.size store.whole (kept_after went) (le layout low young stuck old w v store sees layout_is safe)
+
+  level_then : (went : Went) → may_rise (Held v.number (either went (RevPut x) Over)) ≡ false
+  level_then Fine = refl
+  level_then Before = refl
+  level_then After = refl
+  level_then (Torn any) = refl
 
   coming_then : (went : Went) → IfSome (coming (after_it went).lock) (λ y. BytesShow (with_next w.history y))
   coming_then Fine = shown
@@ -115,9 +123,9 @@ module _ (layout : Layout) (young : ℕ) (stuck : Option DiskPlace) (old : Trace
   coming_then After = tt
   coming_then (Torn any) = tt
 
-  adopts : (new : Trace) (went : Went) → IsTraceOf layout w.floor no_others new.first new.operations (disk_after went (Put (Rev (length w.history)) (file_of (recorded x))) w.disk)
-      → Safe layout v.since new v.opened w.floor w.history (doubt_in (either went (RevPut x) Over))
-      → IsAfter layout young stuck new w v (λ u. Adopted txn properties next bytes went v u)
+  adopts : (new : Trace) (went : Went) → IsTraceOf layout no_others new.first new.operations (disk_after went (Put (Rev (length w.history)) (file_of (recorded x))) w.disk)
+      → Safe layout v.since new v.opened w.history (doubt_in (either went (RevPut x) Over))
+      → IsAfter layout low young stuck new w v (λ u. Adopted txn properties next bytes went v u)
   adopts new went trace safe_then = record {
     world = after_it went;
     view = adopting_view went x v;
@@ -129,7 +137,7 @@ module _ (layout : Layout) (young : ℕ) (stuck : Option DiskPlace) (old : Trace
     };
     all = all;
     safe = safe_then;
-    leaves = section_leaves w (after_it went) v.number (learns (length w.history) (Commit PutRev) went) Begun (either went (RevPut x) Over) went refl refl refl refl lock refl refl
+    leaves = section_leaves w (after_it went) v.number (learns (length w.history) (Commit PutRev) went) Begun (either went (RevPut x) Over) went refl refl refl refl refl lock refl refl
         (λ last. (last.0, found_apart (Put (Rev (length w.history)) (file_of (recorded x))) went w.disk refl ∙ last.1, last.2));
     layout_is = refl;
     since_is = refl;
@@ -138,13 +146,17 @@ module _ (layout : Layout) (young : ℕ) (stuck : Option DiskPlace) (old : Trace
     left_is = refl;
   }
     where
-      now : IsStore layout young stuck new (after_it went)
+      now : IsStore layout low young stuck new (after_it went)
       now = record {
         trace = trace;
+        size = store.size;
         whole = store.whole;
         kept = kept_after went;
         shown = store.shown;
         coming = coming_then went;
+        low_is = store.low_is;
+        floor_is = store.floor_is;
+        level = level_then went;
         young_is = store.young_is;
         stuck_is = sym (ap stuck_place lock) ∙ store.stuck_is;
       }
@@ -164,8 +176,8 @@ module _ (layout : Layout) (young : ℕ) (stuck : Option DiskPlace) (old : Trace
             (found_apart (Put (Rev (length w.history)) (file_of (recorded x))) went w.disk refl) sees.names;
       }
 
-  safe_here : Safe layout v.since old v.opened w.floor w.history None
-  safe_here = subst (λ l. Safe layout v.since old v.opened w.floor w.history (doubt l)) lock safe
+  safe_here : Safe layout v.since old v.opened w.history None
+  safe_here = subst (λ l. Safe layout v.since old v.opened w.history (doubt l)) lock safe
 
   doubtless : (went : Went) → doubt_in Over ≡ doubt_in (either went (RevPut x) Over)
   doubtless Fine = refl
@@ -173,12 +185,15 @@ module _ (layout : Layout) (young : ℕ) (stuck : Option DiskPlace) (old : Trace
   doubtless After = refl
   doubtless (Torn any) = refl
 
+  stood_over : (went : Went) (e : Disk) → StoodFor layout v.opened w.history (doubt_in Over) e → StoodFor layout v.opened w.history (doubt_in (either went (RevPut x) Over)) e
+  stood_over went e s = subst (λ d. StoodFor layout v.opened w.history d e) (doubtless went) s
+
   part_here : (went : Went) (g : List Recorded) → IsPart w.history None g → IsPart w.history (doubt_in (either went (RevPut x) Over)) g
   part_here went g p = subst (λ d. IsPart w.history d g) (doubtless went) p
 
   -- how a commit's first call ends
   abbrev pub Ends : {X E : Type 0} → Option Trace → Result X E → Type 0
-  Ends told result = Comes layout young stuck told w v result (λ went u. Adopted txn properties next bytes went v u)
+  Ends told result = Comes layout low young stuck told w v result (λ went u. Adopted txn properties next bytes went v u)
 
   pub adopt_comes : {X E : Type 0} (told : Option Trace) (name : List ℕ) (result : Result X E) → name ≡ rev_name v (length v.seen)
       → OnOk result (Performs (real.Put name bytes) (Some old) told) → OnErr result (FailsToPut name bytes (Some old) told)
@@ -188,22 +203,22 @@ module _ (layout : Layout) (young : ℕ) (stuck : Option DiskPlace) (old : Trace
       name_is : name ≡ machine_name layout (Rev (length w.history))
       name_is = named ∙ ap (λ k. machine_name k (Rev (length v.seen))) layout_is ∙ ap (λ h. machine_name layout (Rev (length h))) all
 
-      fits : MayChange w.floor (Rev (length w.history))
-      fits = (subst (λ h. length h < 2 ^ 32) all may.fits, store.kept.floor)
+      fits : Fits (Rev (length w.history))
+      fits = subst (λ h. length h < 2 ^ 32) all may.fits
 
-      put : (any : List ℕ) (c : Contents) → Reads (Rev (length w.history)) any c → IsTraceOf layout w.floor no_others old.first (Done (real.Put name any) ∷ old.operations) (Put (Rev (length w.history)) c ∷ w.disk)
-      put any c reads = subst (λ n. IsTraceOf layout w.floor no_others old.first (Done (real.Put n any) ∷ old.operations) (Put (Rev (length w.history)) c ∷ w.disk)) (sym name_is)
+      put : (any : List ℕ) (c : Contents) → Reads layout (Rev (length w.history)) any c → IsTraceOf layout no_others old.first (Done (real.Put name any) ∷ old.operations) (Put (Rev (length w.history)) c ∷ w.disk)
+      put any c reads = subst (λ n. IsTraceOf layout no_others old.first (Done (real.Put n any) ∷ old.operations) (Put (Rev (length w.history)) c ∷ w.disk)) (sym name_is)
           (Putting old.operations w.disk (Rev (length w.history)) any c store.trace fits reads)
 
-      safe_then : (op : Operation) (went : Went) → IsTraceOf layout w.floor no_others old.first (op ∷ old.operations) (disk_after went (Put (Rev (length w.history)) (file_of (recorded x))) w.disk)
-          → ((m : Files) → (ImageAfter (change_of op) (files_after old.first old.operations) (real.IsImage old.first old.operations) m) ⊎ (TornBy (change_of op) (real.IsImage old.first old.operations) m) → (e : Disk) × IsImage (Put (Rev (length w.history)) Junk ∷ w.disk) e × AreRead layout w.floor m e)
-          → Safe layout v.since (add_operation op old) v.opened w.floor w.history (doubt_in (either went (RevPut x) Over))
+      safe_then : (op : Operation) (went : Went) → IsTraceOf layout no_others old.first (op ∷ old.operations) (disk_after went (Put (Rev (length w.history)) (file_of (recorded x))) w.disk)
+          → ((m : Files) → (ImageAfter (change_of op) (files_after old.first old.operations) (real.IsImage old.first old.operations) m) ⊎ (TornBy (change_of op) (real.IsImage old.first old.operations) m) → (e : Disk) × IsImage (Put (Rev (length w.history)) Junk ∷ w.disk) e × AreRead layout m e)
+          → Safe layout v.since (add_operation op old) v.opened w.history (doubt_in (either went (RevPut x) Over))
       safe_then op went trace middle =
-          safe_step layout v.since v.opened w.floor w.history old op (disk_after went (Put (Rev (length w.history)) (file_of (recorded x))) w.disk) (Put (Rev (length w.history)) Junk ∷ w.disk) (Held v.number (either went (RevPut x) Over)) (Held v.number Over) None
-          (le layout young stuck old w v store sees layout_is safe) store.kept.floor (image_read layout w.floor no_others old.first (op ∷ old.operations) (disk_after went (Put (Rev (length w.history)) (file_of (recorded x))) w.disk) trace) (kept_after went).stands (numbers_after went) middle (kept_after (Torn Junk)).stands (numbers_after (Torn Junk)) (doubtless went) (part_here went) safe_here
+          safe_step layout v.since v.opened w.history old op (disk_after went (Put (Rev (length w.history)) (file_of (recorded x))) w.disk) (Put (Rev (length w.history)) Junk ∷ w.disk) None (doubt_in (either went (RevPut x) Over))
+          (image_read layout no_others old.first (op ∷ old.operations) (disk_after went (Put (Rev (length w.history)) (file_of (recorded x))) w.disk) trace) (stood_after went) middle (λ e i. stood_over went e (stood_after (Torn Junk) e i)) (part_here went) safe_here
 
-      torn_here : (bytes : List ℕ) (m : Files) → (ImageAfter (real.Put name bytes) (files_after old.first old.operations) (real.IsImage old.first old.operations) m) ⊎ (TornBy (real.Put name bytes) (real.IsImage old.first old.operations) m) → (e : Disk) × IsImage (Put (Rev (length w.history)) Junk ∷ w.disk) e × AreRead layout w.floor m e
-      torn_here bytes m c = torn_put layout young stuck old w v store sees layout_is safe (Rev (length w.history)) name bytes name_is fits m c
+      torn_here : (bytes : List ℕ) (m : Files) → (ImageAfter (real.Put name bytes) (files_after old.first old.operations) (real.IsImage old.first old.operations) m) ⊎ (TornBy (real.Put name bytes) (real.IsImage old.first old.operations) m) → (e : Disk) × IsImage (Put (Rev (length w.history)) Junk ∷ w.disk) e × AreRead layout m e
+      torn_here bytes m c = torn_put layout low young stuck old w v store sees layout_is safe (Rev (length w.history)) name bytes name_is fits m c
 
       by_result : {X E : Type 0} (result : Result X E) → OnOk result (Performs (real.Put name bytes) (Some old) told) → OnErr result (FailsToPut name bytes (Some old) told)
           → Ends told result
@@ -213,9 +228,9 @@ module _ (layout : Layout) (young : ℕ) (stuck : Option DiskPlace) (old : Trace
       by_result (Err e) ok err =
           ⊎_elim (λ same. (old, Before, same, refl, adopts old Before store.trace safe_here))
           (λ more. ⊎_elim (λ same. let c = adopts (add_operation (Attempted (real.Put name bytes)) old) Before (Attempting old.operations w.disk (real.Put name bytes) store.trace) (safe_then (Attempted (real.Put name bytes)) Before (Attempting old.operations w.disk (real.Put name bytes) store.trace) (torn_here bytes)) in (add_operation (Attempted (real.Put name bytes)) old, Before, same, refl, c))
-          (λ torn. let c = adopts (add_operation (Done (real.Put name torn.0)) old) (Torn Junk) (put torn.0 Junk (junk (Rev (length w.history)) torn.0)) (safe_then (Done (real.Put name torn.0)) (Torn Junk) (put torn.0 Junk (junk (Rev (length w.history)) torn.0)) (torn_here torn.0)) in (add_operation (Done (real.Put name torn.0)) old, Torn Junk, torn.1, refl, c)) more) err
+          (λ torn. let c = adopts (add_operation (Done (real.Put name torn.0)) old) (Torn Junk) (put torn.0 Junk (junk layout (Rev (length w.history)) torn.0)) (safe_then (Done (real.Put name torn.0)) (Torn Junk) (put torn.0 Junk (junk layout (Rev (length w.history)) torn.0)) (torn_here torn.0)) in (add_operation (Done (real.Put name torn.0)) old, Torn Junk, torn.1, refl, c)) more) err
 
-  pub adopt_fails : IsAfter layout young stuck old w v (λ u. Adopted txn properties next bytes Before v u)
+  pub adopt_fails : IsAfter layout low young stuck old w v (λ u. Adopted txn properties next bytes Before v u)
   adopt_fails = adopts old Before store.trace safe_here
 
   -- a bench's file gets the name by one change: the bytes are all there, or the name is as it was
@@ -227,25 +242,25 @@ module _ (layout : Layout) (young : ℕ) (stuck : Option DiskPlace) (old : Trace
       name_is : name ≡ machine_name layout (Rev (length w.history))
       name_is = named ∙ ap (λ k. machine_name k (Rev (length v.seen))) layout_is ∙ ap (λ h. machine_name layout (Rev (length h))) all
 
-      fits : MayChange w.floor (Rev (length w.history))
-      fits = (subst (λ h. length h < 2 ^ 32) all may.fits, store.kept.floor)
+      fits : Fits (Rev (length w.history))
+      fits = subst (λ h. length h < 2 ^ 32) all may.fits
 
-      done : IsTraceOf layout w.floor no_others old.first (Done (real.Adopt name bytes) ∷ old.operations) (Put (Rev (length w.history)) (file_of (recorded x)) ∷ w.disk)
-      done = subst (λ n. IsTraceOf layout w.floor no_others old.first (Done (real.Adopt n bytes) ∷ old.operations) (Put (Rev (length w.history)) (file_of (recorded x)) ∷ w.disk)) (sym name_is)
+      done : IsTraceOf layout no_others old.first (Done (real.Adopt name bytes) ∷ old.operations) (Put (Rev (length w.history)) (file_of (recorded x)) ∷ w.disk)
+      done = subst (λ n. IsTraceOf layout no_others old.first (Done (real.Adopt n bytes) ∷ old.operations) (Put (Rev (length w.history)) (file_of (recorded x)) ∷ w.disk)) (sym name_is)
           (Adopting old.operations w.disk (Rev (length w.history)) bytes (file_of (recorded x)) store.trace fits refl)
 
-      middle : (m : Files) → (ImageAfter (real.Adopt name bytes) (files_after old.first old.operations) (real.IsImage old.first old.operations) m) ⊎ (TornBy (real.Adopt name bytes) (real.IsImage old.first old.operations) m) → (e : Disk) × IsImage (Put (Rev (length w.history)) (file_of (recorded x)) ∷ w.disk) e × AreRead layout w.floor m e
-      middle m c = ⊎_elim (λ i. image_read layout w.floor no_others old.first (Done (real.Adopt name bytes) ∷ old.operations) (Put (Rev (length w.history)) (file_of (recorded x)) ∷ w.disk) done m i) (λ t. absurd t) c
+      middle : (m : Files) → (ImageAfter (real.Adopt name bytes) (files_after old.first old.operations) (real.IsImage old.first old.operations) m) ⊎ (TornBy (real.Adopt name bytes) (real.IsImage old.first old.operations) m) → (e : Disk) × IsImage (Put (Rev (length w.history)) (file_of (recorded x)) ∷ w.disk) e × AreRead layout m e
+      middle m c = ⊎_elim (λ i. image_read layout no_others old.first (Done (real.Adopt name bytes) ∷ old.operations) (Put (Rev (length w.history)) (file_of (recorded x)) ∷ w.disk) done m i) (λ t. absurd t) c
 
-      safe_then : (op : Operation) (went : Went) → change_of op ≡ real.Adopt name bytes → IsTraceOf layout w.floor no_others old.first (op ∷ old.operations) (disk_after went (Put (Rev (length w.history)) (file_of (recorded x))) w.disk)
-          → Safe layout v.since (add_operation op old) v.opened w.floor w.history (doubt_in (either went (RevPut x) Over))
+      safe_then : (op : Operation) (went : Went) → change_of op ≡ real.Adopt name bytes → IsTraceOf layout no_others old.first (op ∷ old.operations) (disk_after went (Put (Rev (length w.history)) (file_of (recorded x))) w.disk)
+          → Safe layout v.since (add_operation op old) v.opened w.history (doubt_in (either went (RevPut x) Over))
       safe_then op went change trace =
-          safe_step layout v.since v.opened w.floor w.history old op (disk_after went (Put (Rev (length w.history)) (file_of (recorded x))) w.disk) (Put (Rev (length w.history)) (file_of (recorded x)) ∷ w.disk) (Held v.number (either went (RevPut x) Over)) (Held v.number Over) None
-          (le layout young stuck old w v store sees layout_is safe) store.kept.floor (image_read layout w.floor no_others old.first (op ∷ old.operations) (disk_after went (Put (Rev (length w.history)) (file_of (recorded x))) w.disk) trace) (kept_after went).stands (numbers_after went)
-          (subst (λ k. (m : Files) → (ImageAfter k (files_after old.first old.operations) (real.IsImage old.first old.operations) m) ⊎ (TornBy k (real.IsImage old.first old.operations) m) → (e : Disk) × IsImage (Put (Rev (length w.history)) (file_of (recorded x)) ∷ w.disk) e × AreRead layout w.floor m e) (sym change) middle)
-          (kept_after After).stands (numbers_after After) (doubtless went) (part_here went) safe_here
+          safe_step layout v.since v.opened w.history old op (disk_after went (Put (Rev (length w.history)) (file_of (recorded x))) w.disk) (Put (Rev (length w.history)) (file_of (recorded x)) ∷ w.disk) None (doubt_in (either went (RevPut x) Over))
+          (image_read layout no_others old.first (op ∷ old.operations) (disk_after went (Put (Rev (length w.history)) (file_of (recorded x))) w.disk) trace) (stood_after went)
+          (subst (λ k. (m : Files) → (ImageAfter k (files_after old.first old.operations) (real.IsImage old.first old.operations) m) ⊎ (TornBy k (real.IsImage old.first old.operations) m) → (e : Disk) × IsImage (Put (Rev (length w.history)) (file_of (recorded x)) ∷ w.disk) e × AreRead layout m e) (sym change) middle)
+          (λ e i. stood_over went e (stood_after After e i)) (part_here went) safe_here
 
-      tried : IsTraceOf layout w.floor no_others old.first (Attempted (real.Adopt name bytes) ∷ old.operations) w.disk
+      tried : IsTraceOf layout no_others old.first (Attempted (real.Adopt name bytes) ∷ old.operations) w.disk
       tried = Attempting old.operations w.disk (real.Adopt name bytes) store.trace
 
       by_result : {X E : Type 0} (result : Result X E) → OnOk result (Performs (real.Adopt name bytes) (Some old) told) → OnErr result ((StaysAt (real.Adopt name bytes) (Some old) told × A) ⊎ (Performs (real.Adopt name bytes) (Some old) told × B))

@@ -22,12 +22,12 @@ use Rattle.fsfs_machine.specs.declared.machine.Coming.{Coming}
 use Rattle.fsfs_machine.specs.declared.machine.Drawn.{Drawn}
 use Rattle.fsfs_machine.specs.declared.machine.Txn.{Txn}
 use Rattle.fsfs_machine.specs.declared.machine.Section.{Section}
-use Rattle.fsfs_machine.specs.declared.machine.Section.TheVariants.{Begun, CountRead, CountPut, CountRenamed, RevPut, PropsPut, RevFirm, CurrentPut, CurrentRenamed, CurrentFirm, Doubtful, Over}
+use Rattle.fsfs_machine.specs.declared.machine.Section.TheVariants.{Begun, CountRead, CountPut, CountRenamed, RevPut, PropsPut, RevFirm, CurrentPut, CurrentRenamed, CurrentFirm, Doubtful, PackPut, ManifestPut, PackFirm, FloorPut, FloorRenamed, Packed, FloorDoubtful, Over}
 use Rattle.fsfs_machine.specs.declared.machine.Step.{Step}
 use Rattle.fsfs_machine.specs.declared.machine.Went.{Went}
 use Rattle.fsfs_machine.specs.declared.machine.Went.TheVariants.{Fine, Before, After, Torn}
 use Rattle.fsfs_machine.specs.Machine.{recorded, either, after, spoiled}
-use Rattle.fsfs_turn.specs.Views.{View, Begins, coming_of, IsDue, Answers, Called, Adopted, Looked, LockTaken, FoundStuck, LockGiven, Revealed, ReadTurn}
+use Rattle.fsfs_turn.specs.Views.{View, Begins, coming_of, IsDue, Answers, Called, Adopted, Looked, LockTaken, FoundStuck, LockGiven, Revealed}
 use Rattle.fsfs_turn.specs.Learning.{PropsRead, FloorRead, drawn_of, CounterRead, ReadsCounter, Listed, BenchMade, Purged, SpentPurged}
 use Rattle.fsfs_turn.specs.Standing.{Knows}
 use Rattle.fsfs_turn.specs.Stands.{OwnFilesLast}
@@ -91,6 +91,13 @@ after_calm (CurrentPut x) = refl
 after_calm (CurrentRenamed x) = refl
 after_calm (CurrentFirm x) = refl
 after_calm (Doubtful place x) = refl
+after_calm PackPut = refl
+after_calm ManifestPut = refl
+after_calm PackFirm = refl
+after_calm FloorPut = refl
+after_calm FloorRenamed = refl
+after_calm Packed = refl
+after_calm (FloorDoubtful place) = refl
 after_calm Over = refl
 
 spoiled_sound : (s : Section) (place : DiskPlace) → (is_doubtful (spoiled s) ≡ true → brings_doubt place ≡ true) → brings_doubt place ≡ false → is_doubtful (spoiled s) ≡ false
@@ -166,18 +173,18 @@ own_next layout since now old new same goes own = subst (λ n. OwnFilesLast layo
 -- ---- turns
 
 -- no more is seen than there is
-pub seen_bound : (layout : Layout) (young : ℕ) (stuck : Option DiskPlace) (told : Option Trace) (v : View) → Knows layout young stuck told v → length v.seen ≤ young + 1
-seen_bound layout young stuck None v known = absurd known
-seen_bound layout young stuck (Some t) v known = let up : known.0.young + 1 ≡ length known.0.history = known.1.kept.young known.2.up in omega (arith, up, seen_within known.0 v known.2, known.1.young_is)
+pub seen_bound : (layout : Layout) (low young : ℕ) (stuck : Option DiskPlace) (told : Option Trace) (v : View) → Knows layout low young stuck told v → length v.seen ≤ young + 1
+seen_bound layout low young stuck None v known = absurd known
+seen_bound layout low young stuck (Some t) v known = let up : known.0.young + 1 ≡ length known.0.history = known.1.kept.young known.2.up in omega (arith, up, seen_within known.0 v known.2, known.1.young_is)
 
 pub no_shorter : (h g : List Recorded) → Begins g h → length h ≤ length g
 no_shorter h g b = let long : length g ≡ length h + length b.0 = ap length b.1 ∙ length-append h b.0 in omega (arith, long)
 
 -- what the pass knows after a turn
-module _ (layout : Layout) (young : ℕ) (stuck : Option DiskPlace) (old new : Option Trace) (goes : GoesOn old new) (v : View) (known : KnowsAlone layout young stuck old v) where
+module _ (layout : Layout) (low young : ℕ) (stuck : Option DiskPlace) (old new : Option Trace) (goes : GoesOn old new) (v : View) (known : KnowsAlone layout low young stuck old v) where
   -- one that added no revision, and by which no section came to be in doubt but by a fault that isn't harmless
-  then_known : (u : View) → Knows layout young stuck new u → length u.seen ≡ length v.seen → u.opened ≡ v.opened → u.since ≡ v.since → u.pass.mine ≡ v.pass.mine → u.pass.stuck ≡ v.pass.stuck → (are_harmless u.pass.faults ≡ true → are_harmless v.pass.faults ≡ true)
-      → (are_harmless u.pass.faults ≡ true → is_doubtful_at v.section ≡ false → is_doubtful_at u.section ≡ false) → KnowsAlone layout young stuck new u
+  then_known : (u : View) → Knows layout low young stuck new u → length u.seen ≡ length v.seen → u.opened ≡ v.opened → u.since ≡ v.since → u.pass.mine ≡ v.pass.mine → u.pass.stuck ≡ v.pass.stuck → (are_harmless u.pass.faults ≡ true → are_harmless v.pass.faults ≡ true)
+      → (are_harmless u.pass.faults ≡ true → is_doubtful_at v.section ≡ false → is_doubtful_at u.section ≡ false) → KnowsAlone layout low young stuck new u
   then_known u now seen opened since mine found faults sound =
       let own : length u.pass.mine ≡ length v.pass.mine = ap length mine in (
         now,
@@ -186,29 +193,29 @@ module _ (layout : Layout) (young : ℕ) (stuck : Option DiskPlace) (old new : O
       )
 
   -- one that leaves what was seen, and the faults
-  leaves : (u : View) → Knows layout young stuck new u → u.seen ≡ v.seen → u.opened ≡ v.opened → u.since ≡ v.since → u.pass.mine ≡ v.pass.mine → u.pass.stuck ≡ v.pass.stuck → u.pass.faults ≡ v.pass.faults
-      → (is_doubtful_at v.section ≡ false → is_doubtful_at u.section ≡ false) → KnowsAlone layout young stuck new u
+  leaves : (u : View) → Knows layout low young stuck new u → u.seen ≡ v.seen → u.opened ≡ v.opened → u.since ≡ v.since → u.pass.mine ≡ v.pass.mine → u.pass.stuck ≡ v.pass.stuck → u.pass.faults ≡ v.pass.faults
+      → (is_doubtful_at v.section ≡ false → is_doubtful_at u.section ≡ false) → KnowsAlone layout low young stuck new u
   leaves u now seen opened since mine found faults sound = then_known u now (ap length seen) opened since mine found (λ few. sym (ap (λ l. are_harmless l) faults) ∙ few) (λ few s. sound s)
 
   -- one that tells the history as it is
-  learned : (place : DiskPlace) (went : Went) (u : View) → Knows layout young stuck new u → Begins u.seen v.seen → u.opened ≡ v.opened → u.since ≡ v.since → u.pass.mine ≡ v.pass.mine → u.pass.stuck ≡ v.pass.stuck → u.pass.faults ≡ either went v.pass.faults (v.pass.faults ++ place ∷ [])
-      → (are_harmless (either went v.pass.faults (v.pass.faults ++ place ∷ [])) ≡ true → is_doubtful_at v.section ≡ false → is_doubtful_at u.section ≡ false) → KnowsAlone layout young stuck new u
+  learned : (place : DiskPlace) (went : Went) (u : View) → Knows layout low young stuck new u → Begins u.seen v.seen → u.opened ≡ v.opened → u.since ≡ v.since → u.pass.mine ≡ v.pass.mine → u.pass.stuck ≡ v.pass.stuck → u.pass.faults ≡ either went v.pass.faults (v.pass.faults ++ place ∷ [])
+      → (are_harmless (either went v.pass.faults (v.pass.faults ++ place ∷ [])) ≡ true → is_doubtful_at v.section ≡ false → is_doubtful_at u.section ≡ false) → KnowsAlone layout low young stuck new u
   learned place went u now grows opened since mine found faults sound =
       let same : are_harmless u.pass.faults ≡ are_harmless (either went v.pass.faults (v.pass.faults ++ place ∷ [])) = ap (λ l. are_harmless l) faults in
-      then_known u now (omega (arith, known.1.all, seen_bound layout young stuck new u now, no_shorter v.seen u.seen grows)) opened since mine found
+      then_known u now (omega (arith, known.1.all, seen_bound layout low young stuck new u now, no_shorter v.seen u.seen grows)) opened since mine found
       (λ few. harmless_before went v.pass.faults place (sym same ∙ few)) (λ few s. sound (sym same ∙ few) s)
 
   same_at : (u : View) → u.section ≡ v.section → is_doubtful_at v.section ≡ false → is_doubtful_at u.section ≡ false
   same_at u is s = ap (λ o. is_doubtful_at o) is ∙ s
 
-  pub look_alone : (u : View) × Knows layout young stuck new u × Looked young v u → (u : View) × KnowsAlone layout young stuck new u × Looked young v u
+  pub look_alone : (u : View) × Knows layout low young stuck new u × Looked young v u → (u : View) × KnowsAlone layout low young stuck new u × Looked young v u
   look_alone w = (w.0, leaves w.0 w.1 (ap {A = View} (λ z. z.seen) w.2.is) (ap {A = View} (λ z. z.opened) w.2.is) (ap {A = View} (λ z. z.since) w.2.is) (ap {A = View} (λ z. z.pass.mine) w.2.is) (ap {A = View} (λ z. z.pass.stuck) w.2.is) (ap {A = View} (λ z. z.pass.faults) w.2.is) (same_at w.0 (ap {A = View} (λ z. z.section) w.2.is)), w.2)
 
-  pub take_alone : (u : View) × Knows layout young stuck new u × LockTaken v u → (u : View) × KnowsAlone layout young stuck new u × LockTaken v u
+  pub take_alone : (u : View) × Knows layout low young stuck new u × LockTaken v u → (u : View) × KnowsAlone layout low young stuck new u × LockTaken v u
   take_alone w = (w.0, leaves w.0 w.1 (ap {A = View} (λ z. z.seen) w.2.is) (ap {A = View} (λ z. z.opened) w.2.is) (ap {A = View} (λ z. z.since) w.2.is) (ap {A = View} (λ z. z.pass.mine) w.2.is) (ap {A = View} (λ z. z.pass.stuck) w.2.is) (ap {A = View} (λ z. z.pass.faults) w.2.is) (λ s. ap {A = View} (λ z. is_doubtful_at z.section) w.2.is), w.2)
 
   -- it is found stuck only where a fault brought doubt
-  pub stuck_alone : (place : DiskPlace) → stuck ≡ Some place → (u : View) × Knows layout young stuck new u × FoundStuck place v u → (u : View) × KnowsAlone layout young stuck new u × FoundStuck place v u
+  pub stuck_alone : (place : DiskPlace) → stuck ≡ Some place → (u : View) × Knows layout low young stuck new u × FoundStuck place v u → (u : View) × KnowsAlone layout low young stuck new u × FoundStuck place v u
   stuck_alone place is w = (
     w.0,
     (
@@ -240,11 +247,11 @@ module _ (layout : Layout) (young : ℕ) (stuck : Option DiskPlace) (old new : O
       doubtless : are_harmless w.0.pass.faults ≡ true → w.0.pass.stuck ≡ None
       doubtless few = let both : None ≡ Some place = sym (known.1.free (sym faults ∙ few)) ∙ is in absurd cc
 
-  pub give_alone : (step : Step) → (u : View) × Knows layout young stuck new u × LockGiven step v u → (u : View) × KnowsAlone layout young stuck new u × LockGiven step v u
+  pub give_alone : (step : Step) → (u : View) × Knows layout low young stuck new u × LockGiven step v u → (u : View) × KnowsAlone layout low young stuck new u × LockGiven step v u
   give_alone step w = (w.0, leaves w.0 w.1 (ap {A = View} (λ z. z.seen) w.2.is) (ap {A = View} (λ z. z.opened) w.2.is) (ap {A = View} (λ z. z.since) w.2.is) (ap {A = View} (λ z. z.pass.mine) w.2.is) (ap {A = View} (λ z. z.pass.stuck) w.2.is) (ap {A = View} (λ z. z.pass.faults) w.2.is) (λ s. ap {A = View} (λ z. is_doubtful_at z.section) w.2.is), w.2)
 
   -- it is left stuck only where the section was in doubt
-  pub stick_alone : (place : DiskPlace) (x : Coming) (step : Step) → v.section ≡ Some (Doubtful place x) → (u : View) × Knows layout young (Some place) new u × LockGiven step v u → (u : View) × KnowsAlone layout young (Some place) new u × LockGiven step v u
+  pub stick_alone : (place : DiskPlace) (x : Coming) (step : Step) → v.section ≡ Some (Doubtful place x) → (u : View) × Knows layout low young (Some place) new u × LockGiven step v u → (u : View) × KnowsAlone layout low young (Some place) new u × LockGiven step v u
   stick_alone place x step at w = (
     w.0,
     (
@@ -273,21 +280,21 @@ module _ (layout : Layout) (young : ℕ) (stuck : Option DiskPlace) (old new : O
       doubtless : are_harmless w.0.pass.faults ≡ true → Some place ≡ None
       doubtless few = let both : false ≡ true = sym (known.1.sound (sym faults ∙ few)) ∙ ap (λ o. is_doubtful_at o) at in absurd cc
 
-  adopted_alone : (txn : Txn) (properties : List (List ℕ × List ℕ)) (next : Revision) (bytes : List ℕ) (went : Went) (u : View) → Knows layout young stuck new u → Adopted txn properties next bytes went v u → KnowsAlone layout young stuck new u
+  adopted_alone : (txn : Txn) (properties : List (List ℕ × List ℕ)) (next : Revision) (bytes : List ℕ) (went : Went) (u : View) → Knows layout low young stuck new u → Adopted txn properties next bytes went v u → KnowsAlone layout low young stuck new u
   adopted_alone txn properties next bytes went u now a =
       let same : are_harmless u.pass.faults ≡ are_harmless (either went v.pass.faults (v.pass.faults ++ Commit PutRev ∷ [])) = ap {A = View} (λ z. are_harmless z.pass.faults) a.is in
       then_known u now (ap {A = View} (λ z. length z.seen) a.is) (ap {A = View} (λ z. z.opened) a.is) (ap {A = View} (λ z. z.since) a.is) (ap {A = View} (λ z. z.pass.mine) a.is) (ap {A = View} (λ z. z.pass.stuck) a.is) (λ few. harmless_before went v.pass.faults (Commit PutRev) (sym same ∙ few))
       (λ few s. ap {A = View} (λ z. is_doubtful_at z.section) a.is ∙ either_calm went (RevPut (coming_of v txn properties next bytes)) Over refl refl)
 
   pub adopt_alone : {X E : Type 0} (txn : Txn) (properties : List (List ℕ × List ℕ)) (next : Revision) (bytes : List ℕ) (result : Result X E)
-      → (u : View) × (went : Went) × Knows layout young stuck new u × Answers result went × Adopted txn properties next bytes went v u → (u : View) × (went : Went) × KnowsAlone layout young stuck new u × Answers result went × Adopted txn properties next bytes went v u
+      → (u : View) × (went : Went) × Knows layout low young stuck new u × Answers result went × Adopted txn properties next bytes went v u → (u : View) × (went : Went) × KnowsAlone layout low young stuck new u × Answers result went × Adopted txn properties next bytes went v u
   adopt_alone txn properties next bytes result w = (w.0, w.1, adopted_alone txn properties next bytes w.1 w.0 w.2 w.4, w.3, w.4)
 
-  pub no_adopt_alone : (txn : Txn) (properties : List (List ℕ × List ℕ)) (next : Revision) (bytes : List ℕ) → (u : View) × Knows layout young stuck new u × Adopted txn properties next bytes Before v u → (u : View) × KnowsAlone layout young stuck new u × Adopted txn properties next bytes Before v u
+  pub no_adopt_alone : (txn : Txn) (properties : List (List ℕ × List ℕ)) (next : Revision) (bytes : List ℕ) → (u : View) × Knows layout low young stuck new u × Adopted txn properties next bytes Before v u → (u : View) × KnowsAlone layout low young stuck new u × Adopted txn properties next bytes Before v u
   no_adopt_alone txn properties next bytes w = (w.0, adopted_alone txn properties next bytes Before w.0 w.1 w.2, w.2)
 
   -- a reveal adds one
-  pub reveal_alone : (rev : ℕ) (x : Coming) → rev ≡ length v.seen → (u : View) × Knows layout rev stuck new u × Revealed x v u → (u : View) × KnowsAlone layout rev stuck new u × Revealed x v u
+  pub reveal_alone : (rev : ℕ) (x : Coming) → rev ≡ length v.seen → (u : View) × Knows layout low rev stuck new u × Revealed x v u → (u : View) × KnowsAlone layout low rev stuck new u × Revealed x v u
   reveal_alone rev x rev_is w = (
     w.0,
     (w.1, record { all = omega (arith, rev_is, long); own = omega (arith, known.1.own, long, opened, own); free = λ few. known.1.free (sym faults ∙ few); sound = λ few. ap {A = View} (λ z. is_doubtful_at z.section) w.2.is; found = λ few. ap {A = View} (λ z. z.pass.stuck) w.2.is ∙ known.1.found (sym faults ∙ few) }, own_next layout v.since w.0.since old new (ap {A = View} (λ z. z.since) w.2.is) goes known.2),
@@ -307,36 +314,32 @@ module _ (layout : Layout) (young : ℕ) (stuck : Option DiskPlace) (old new : O
       faults = ap {A = View} (λ z. are_harmless z.pass.faults) w.2.is
 
   -- a call of its section
-  called_alone : (place : DiskPlace) (change : real.NameChange) (went : Went) (u : View) → IsDue v place change → Knows layout young stuck new u → Called place went v u → KnowsAlone layout young stuck new u
+  called_alone : (place : DiskPlace) (change : real.NameChange) (went : Went) (u : View) → IsDue v place change → Knows layout low young stuck new u → Called place went v u → KnowsAlone layout low young stuck new u
   called_alone place change went u due now c = learned place went u now c.grows (ap {A = View} (λ z. z.opened) c.is) (ap {A = View} (λ z. z.since) c.is) (ap {A = View} (λ z. z.pass.mine) c.is) (ap {A = View} (λ z. z.pass.stuck) c.is) (ap {A = View} (λ z. z.pass.faults) c.is)
       (λ few s. ap {A = View} (λ z. is_doubtful_at z.section) c.is ∙ called_sound went c.inside v.pass.faults place (λ doubtful. due_brings v place change due c.inside c.was doubtful) few)
 
-  pub call_alone : {X E : Type 0} (place : DiskPlace) (change : real.NameChange) (result : Result X E) → IsDue v place change → (u : View) × (went : Went) × Knows layout young stuck new u × Answers result went × Called place went v u → (u : View) × (went : Went) × KnowsAlone layout young stuck new u × Answers result went × Called place went v u
+  pub call_alone : {X E : Type 0} (place : DiskPlace) (change : real.NameChange) (result : Result X E) → IsDue v place change → (u : View) × (went : Went) × Knows layout low young stuck new u × Answers result went × Called place went v u → (u : View) × (went : Went) × KnowsAlone layout low young stuck new u × Answers result went × Called place went v u
   call_alone place change result due w = (w.0, w.1, called_alone place change w.1 w.0 due w.2 w.4, w.3, w.4)
 
-  pub no_call_alone : (place : DiskPlace) (change : real.NameChange) → IsDue v place change → (u : View) × Knows layout young stuck new u × Called place Before v u → (u : View) × KnowsAlone layout young stuck new u × Called place Before v u
+  pub no_call_alone : (place : DiskPlace) (change : real.NameChange) → IsDue v place change → (u : View) × Knows layout low young stuck new u × Called place Before v u → (u : View) × KnowsAlone layout low young stuck new u × Called place Before v u
   no_call_alone place change due w = (w.0, called_alone place change Before w.0 due w.1 w.2, w.2)
 
   -- with what is told beside it
-  pub read_alone : {X E : Type 0} (r offset size : ℕ) (x : Recorded) (result : Result X E) (Read : Type 0) → (u : View) × (went : Went) × Knows layout young stuck new u × Answers result went × ReadTurn r offset size x went v u × Read
-      → (u : View) × (went : Went) × KnowsAlone layout young stuck new u × Answers result went × ReadTurn r offset size x went v u × Read
-  read_alone r offset size x result Read w = (w.0, w.1, learned disk.Read w.1 w.0 w.2 w.4.grows (ap {A = View} (λ z. z.opened) w.4.is) (ap {A = View} (λ z. z.since) w.4.is) (ap {A = View} (λ z. z.pass.mine) w.4.is) (ap {A = View} (λ z. z.pass.stuck) w.4.is) (ap {A = View} (λ z. z.pass.faults) w.4.is) (λ few. same_at w.0 (ap {A = View} (λ z. z.section) w.4.is)), w.3, w.4, w.5)
-
   pub props_alone : {X E : Type 0} (r : ℕ) (x : Recorded) (result : Result X E) (Read : List ℕ → Type 0)
-      → (u : View) × (went : Went) × (text : List ℕ) × Knows layout young stuck new u × Answers result went × PropsRead r x went v u × IsDump text x.revision.properties × Read text
-      → (u : View) × (went : Went) × (text : List ℕ) × KnowsAlone layout young stuck new u × Answers result went × PropsRead r x went v u × IsDump text x.revision.properties × Read text
+      → (u : View) × (went : Went) × (text : List ℕ) × Knows layout low young stuck new u × Answers result went × PropsRead r x went v u × IsDump text x.revision.properties × Read text
+      → (u : View) × (went : Went) × (text : List ℕ) × KnowsAlone layout low young stuck new u × Answers result went × PropsRead r x went v u × IsDump text x.revision.properties × Read text
   props_alone r x result Read w = (w.0, w.1, w.2, learned disk.Read w.1 w.0 w.3 w.5.grows (ap {A = View} (λ z. z.opened) w.5.is) (ap {A = View} (λ z. z.since) w.5.is) (ap {A = View} (λ z. z.pass.mine) w.5.is) (ap {A = View} (λ z. z.pass.stuck) w.5.is) (ap {A = View} (λ z. z.pass.faults) w.5.is) (λ few. same_at w.0 (ap {A = View} (λ z. z.section) w.5.is)), w.4, w.5, w.6, w.7)
 
   pub floor_alone : {X E : Type 0} (result : Result X E) (Read : List ℕ → Type 0)
-      → (u : View) × (went : Went) × (floor : ℕ) × (text : List ℕ) × Knows layout young stuck new u × Answers result went × FloorRead floor went v u × IsRevLine text floor × Read text
-      → (u : View) × (went : Went) × (floor : ℕ) × (text : List ℕ) × KnowsAlone layout young stuck new u × Answers result went × FloorRead floor went v u × IsRevLine text floor × Read text
+      → (u : View) × (went : Went) × (floor : ℕ) × (text : List ℕ) × Knows layout low young stuck new u × Answers result went × FloorRead floor went v u × IsRevLine text floor × Read text
+      → (u : View) × (went : Went) × (floor : ℕ) × (text : List ℕ) × KnowsAlone layout low young stuck new u × Answers result went × FloorRead floor went v u × IsRevLine text floor × Read text
   floor_alone result Read w = (w.0, w.1, w.2, w.3, learned disk.Read w.1 w.0 w.4 w.6.grows (ap {A = View} (λ z. z.opened) w.6.is) (ap {A = View} (λ z. z.since) w.6.is) (ap {A = View} (λ z. z.pass.mine) w.6.is) (ap {A = View} (λ z. z.pass.stuck) w.6.is) (ap {A = View} (λ z. z.pass.faults) w.6.is) (λ few. same_at w.0 (ap {A = View} (λ z. z.section) w.6.is)), w.5, w.6, w.7, w.8)
 
   -- what it knew
-  pub same_alone : Knows layout young stuck new v → KnowsAlone layout young stuck new v
+  pub same_alone : Knows layout low young stuck new v → KnowsAlone layout low young stuck new v
   same_alone now = leaves v now refl refl refl refl refl refl (λ s. s)
 
-  pub counter_alone : {E : Type 0} (files : Option Files) (base : ℕ) (result : Result (Option ℕ) E) (before filled : List ℕ) → ReadsCounter (Knows layout young stuck new) files base result before filled v → ReadsCounter (KnowsAlone layout young stuck new) files base result before filled v
+  pub counter_alone : {E : Type 0} (files : Option Files) (base : ℕ) (result : Result (Option ℕ) E) (before filled : List ℕ) → ReadsCounter (Knows layout low young stuck new) files base result before filled v → ReadsCounter (KnowsAlone layout low young stuck new) files base result before filled v
   counter_alone files base result before filled c = record {
     text = c.text;
     number = c.number;
@@ -349,18 +352,18 @@ module _ (layout : Layout) (young : ℕ) (stuck : Option DiskPlace) (old new : O
     full = λ many. leaves (record v { full = true }) (c.full many) refl refl refl refl refl refl (λ s. s);
   }
     where
-      counted : (went : Went) (u : View) → Knows layout young stuck new u → CounterRead base c.number went v u → KnowsAlone layout young stuck new u
+      counted : (went : Went) (u : View) → Knows layout low young stuck new u → CounterRead base c.number went v u → KnowsAlone layout low young stuck new u
       counted went u now r = learned (Begin begin.Read) went u now r.grows (ap {A = View} (λ z. z.opened) r.is) (ap {A = View} (λ z. z.since) r.is) (ap {A = View} (λ z. z.pass.mine) r.is) (ap {A = View} (λ z. z.pass.stuck) r.is) (ap {A = View} (λ z. z.pass.faults) r.is)
           (λ few s. ap {A = View} (λ z. is_doubtful_at z.section) r.is ∙ either_calm went (CountRead (drawn_of base c.number)) Over refl refl)
 
-  pub list_alone : (labels : Option (List Label)) (went : Went) → (ls : List Label) × (labels ≡ Some ls) × (u : View) × Knows layout young stuck new u × Listed ls went v u → (ls : List Label) × (labels ≡ Some ls) × (u : View) × KnowsAlone layout young stuck new u × Listed ls went v u
+  pub list_alone : (labels : Option (List Label)) (went : Went) → (ls : List Label) × (labels ≡ Some ls) × (u : View) × Knows layout low young stuck new u × Listed ls went v u → (ls : List Label) × (labels ≡ Some ls) × (u : View) × KnowsAlone layout low young stuck new u × Listed ls went v u
   list_alone labels went w = (w.0, w.1, w.2, learned disk.List went w.2 w.3 w.4.grows (ap {A = View} (λ z. z.opened) w.4.is) (ap {A = View} (λ z. z.since) w.4.is) (ap {A = View} (λ z. z.pass.mine) w.4.is) (ap {A = View} (λ z. z.pass.stuck) w.4.is) (ap {A = View} (λ z. z.pass.faults) w.4.is) (λ few. same_at w.2 (ap {A = View} (λ z. z.section) w.4.is)), w.4)
 
-  pub make_alone : {X E : Type 0} (x : Drawn) (result : Result X E) → (u : View) × (went : Went) × Knows layout young stuck new u × Answers result went × BenchMade x went v u → (u : View) × (went : Went) × KnowsAlone layout young stuck new u × Answers result went × BenchMade x went v u
+  pub make_alone : {X E : Type 0} (x : Drawn) (result : Result X E) → (u : View) × (went : Went) × Knows layout low young stuck new u × Answers result went × BenchMade x went v u → (u : View) × (went : Went) × KnowsAlone layout low young stuck new u × Answers result went × BenchMade x went v u
   make_alone x result w = (w.0, w.1, learned disk.MakeBench w.1 w.0 w.2 w.4.grows (ap {A = View} (λ z. z.opened) w.4.is) (ap {A = View} (λ z. z.since) w.4.is) (ap {A = View} (λ z. z.pass.mine) w.4.is) (ap {A = View} (λ z. z.pass.stuck) w.4.is) (ap {A = View} (λ z. z.pass.faults) w.4.is) (λ few. same_at w.0 (ap {A = View} (λ z. z.section) w.4.is)), w.3, w.4)
 
-  pub purge_alone : {X E : Type 0} (txn : Txn) (result : Result X E) → (u : View) × (went : Went) × Knows layout young stuck new u × Answers result went × Purged txn went v u → (u : View) × (went : Went) × KnowsAlone layout young stuck new u × Answers result went × Purged txn went v u
+  pub purge_alone : {X E : Type 0} (txn : Txn) (result : Result X E) → (u : View) × (went : Went) × Knows layout low young stuck new u × Answers result went × Purged txn went v u → (u : View) × (went : Went) × KnowsAlone layout low young stuck new u × Answers result went × Purged txn went v u
   purge_alone txn result w = (w.0, w.1, learned disk.Remove w.1 w.0 w.2 w.4.grows (ap {A = View} (λ z. z.opened) w.4.is) (ap {A = View} (λ z. z.since) w.4.is) (ap {A = View} (λ z. z.pass.mine) w.4.is) (ap {A = View} (λ z. z.pass.stuck) w.4.is) (ap {A = View} (λ z. z.pass.faults) w.4.is) (λ few. same_at w.0 (ap {A = View} (λ z. z.section) w.4.is)), w.3, w.4)
 
-  pub spent_alone : {X E : Type 0} (name : ℕ) (result : Result X E) → (u : View) × (went : Went) × Knows layout young stuck new u × Answers result went × SpentPurged name went v u → (u : View) × (went : Went) × KnowsAlone layout young stuck new u × Answers result went × SpentPurged name went v u
+  pub spent_alone : {X E : Type 0} (name : ℕ) (result : Result X E) → (u : View) × (went : Went) × Knows layout low young stuck new u × Answers result went × SpentPurged name went v u → (u : View) × (went : Went) × KnowsAlone layout low young stuck new u × Answers result went × SpentPurged name went v u
   spent_alone name result w = (w.0, w.1, learned disk.Remove w.1 w.0 w.2 w.4.grows (ap {A = View} (λ z. z.opened) w.4.is) (ap {A = View} (λ z. z.since) w.4.is) (ap {A = View} (λ z. z.pass.mine) w.4.is) (ap {A = View} (λ z. z.pass.stuck) w.4.is) (ap {A = View} (λ z. z.pass.faults) w.4.is) (λ few. same_at w.0 (ap {A = View} (λ z. z.section) w.4.is)), w.3, w.4)

@@ -10,6 +10,9 @@ use Rattle.fsfs_base.specs.Files.{Files}
 use Rattle.fsfs_tree.specs.Dated.{date_name}
 use Rattle.fsfs_layout.specs.Hash.Dump.{IsDump}
 use Rattle.fsfs_layout.specs.Layouts.{shard_size}
+use Rattle.fsfs_layout.specs.declared.layout.Layout.{Layout}
+use Rattle.fsfs_layout.proofs.Manifests.{size_some}
+use Rattle.std.proofs.lemmas.Bool.{both_ways}
 use Rattle.fsfs_layout.specs.CreatedFiles.{format_text, date_properties}
 use Rattle.fsfs_base.specs.FirstRevision.{first_bytes}
 use Rattle.fsfs_stands.specs.History.{ShowsHistory}
@@ -19,32 +22,39 @@ use Rattle.fsfs_stands.specs.Changes.{AreChangesOf}
 use Rattle.fsfs_stands.proofs.FirstHistory.{first_history}
 use Rattle.fsfs_stands.proofs.NewRepository.{first_name, zero_line, zero_line36, new_repositories_stand, new_format}
 use Rattle.fsfs_machine.specs.declared.contents.FileName.{FileName}
-use Rattle.fsfs_machine.specs.declared.contents.FileName.TheVariants.{Current, CurrentNext, Counter, CounterNext, Floor, Rev, Props}
+use Rattle.fsfs_machine.specs.declared.contents.FileName.TheVariants.{Current, CurrentNext, Counter, CounterNext, Floor, FloorNext, Rev, Props, Pack, Manifest}
+use Rattle.fsfs_machine.specs.declared.contents.Contents.{Contents}
 use Rattle.fsfs_machine.specs.declared.contents.Contents.TheVariants.{PropsFile, Number}
 use Rattle.fsfs_machine.specs.declared.contents.NameChange.TheVariants.{Put, Firm}
-use Rattle.fsfs_machine.specs.declared.machine.Lock.TheVariants.{Free}
 use Rattle.fsfs_machine.specs.declared.machine.Recorded.{Recorded}
-use Rattle.fsfs_machine.specs.Disk.{Disk, IsImage}
+use Rattle.fsfs_machine.specs.Disk.{Disk, found, is_gone, same_name, IsImage}
 use Rattle.fsfs_machine.specs.Machine.{World, created, file_of, first_pass}
-use Rattle.fsfs_machine.specs.Kept.{Stands, FloorIs}
+use Rattle.fsfs_machine.specs.Kept.{Kept}
 use Rattle.fsfs_machine.proofs.Created.{created_kept}
 use Rattle.fsfs_images.specs.RealNames.{machine_name}
-use Rattle.fsfs_images.specs.Shown.{AtName, AreRead, Opening}
+use Rattle.fsfs_images.specs.Shown.{Fits, AtName, AreRead, Opening}
 use Rattle.fsfs_turn.specs.Bytes.{bytes_of, ShowsOne, BytesShow, AllShow}
 use Rattle.fsfs_turn.specs.Alone.{KnowsAlone}
 use Rattle.fsfs_turn.specs.Views.{View, Sees}
 use Rattle.fsfs_turn.specs.Standing.{no_others, IsStore}
 use Rattle.fsfs_turn.specs.Stands.{HasOwnFiles}
 use Rattle.fsfs_turn.specs.Opening.{new_revision, NewStoreIsKnown, opened_at}
-use Rattle.fsfs_turn.specs.Past.{HasCounter, Safe}
-use Rattle.fsfs_images.proofs.Showing.{own_file, image_read}
-use Rattle.fsfs_turn.proofs.Moments.{past_of, numbers}
+use Rattle.fsfs_turn.specs.Past.{IsWhole, StoodFor, Safe}
+use Rattle.fsfs_images.proofs.Showing.{image_read}
+use Rattle.fsfs_turn.proofs.Moments.{stood_for}
 use Rattle.fsfs_turn.proofs.OwnFiles.{own_from_opening}
 use Rattle.fsfs_turn.proofs.Stepping.{kept_bare}
 
-pub at_none : (n : FileName) (o : Option (List ℕ)) → AtName n o None
-at_none n None = tt
-at_none n (Some b) = tt
+pub at_none : (layout : Layout) (n : FileName) (o : Option (List ℕ)) → AtName layout n o None
+at_none layout n None = tt
+at_none layout n (Some b) = tt
+
+-- where nothing was taken away, a put takes nothing away
+pub put_keeps : (n : FileName) (c : Contents) (d : Disk) (q : FileName) → is_gone d q ≡ false → is_gone (Put n c ∷ d) q ≡ false
+put_keeps n c d q none = elim (same_name n q) as (λ b. cond b false (is_gone d q) ≡ false) [
+  | true ↦ refl
+  | false ↦ none
+]
 
 pub ok_is : {A E : Type 0} (r : Result A E) (a b : A) → r ≡ Ok a → r ≡ Ok b → a ≡ b
 ok_is r a b e f = cc
@@ -77,57 +87,73 @@ module _ (first : Files) (labels : List Label) (before : List Operation) (date :
   disk : Disk
   disk = Put Current (Number 0) ∷ Put (Rev 0) (file_of (new_revision date)) ∷ Put (Props 0) (PropsFile ((date_name, date) ∷ [])) ∷ Put Counter (Number 0) ∷ Put Floor (Number 0) ∷ []
 
-  read : AreRead new.layout 0 (files_after first before) disk
+  read_name : (n : FileName) → Fits n → AtName new.layout n (get (files_after first before) (machine_name new.layout n)) (found disk n)
   unfolding disk
-  read Current fits = subst (λ o. AtName Current o (Some (Number 0))) (sym new.new.1.1.1.0) zero_line
-  read CurrentNext fits = at_none CurrentNext (get (files_after first before) (machine_name new.layout CurrentNext))
-  read Counter fits = subst (λ o. AtName Counter o (Some (Number 0))) (sym new.new.1.1.1.1.0) zero_line36
-  read CounterNext fits = at_none CounterNext (get (files_after first before) (machine_name new.layout CounterNext))
-  read Floor fits = subst (λ o. AtName Floor o (Some (Number 0))) (sym new.new.1.1.1.1.1.0) zero_line
-  read (Rev r) fits = subst (λ o. AtName (Rev r) o (cond (0 == r) (Some (file_of (new_revision date))) None)) (sym (own_file new.layout 0 (files_after first before) (Rev r) (omega arith))) (elim (0 == r) as (λ b. (0 == r) ≡ b → AtName (Rev r) (get (files_after first before) (machine_name new.layout (Rev r))) (cond b (Some (file_of (new_revision date))) None)) [
+  read_name Current fits = subst (λ o. AtName new.layout Current o (Some (Number 0))) (sym new.new.1.1.1.0) zero_line
+  read_name CurrentNext fits = at_none new.layout CurrentNext (get (files_after first before) (machine_name new.layout CurrentNext))
+  read_name Counter fits = subst (λ o. AtName new.layout Counter o (Some (Number 0))) (sym new.new.1.1.1.1.0) zero_line36
+  read_name CounterNext fits = at_none new.layout CounterNext (get (files_after first before) (machine_name new.layout CounterNext))
+  read_name Floor fits = subst (λ o. AtName new.layout Floor o (Some (Number 0))) (sym new.new.1.1.1.1.1.0) zero_line
+  read_name FloorNext fits = at_none new.layout FloorNext (get (files_after first before) (machine_name new.layout FloorNext))
+  read_name (Rev r) fits = elim (0 == r) as (λ b. (0 == r) ≡ b → AtName new.layout (Rev r) (get (files_after first before) (machine_name new.layout (Rev r))) (cond b (Some (file_of (new_revision date))) None)) [
     | true ↦ λ e.
         let same : 0 ≡ r = grind (arith, e) in
-        subst (λ k. AtName (Rev k) (get (files_after first before) (machine_name new.layout (Rev k))) (Some (file_of (new_revision date)))) same
-        (subst (λ o. AtName (Rev 0) o (Some (file_of (new_revision date)))) (sym (ap (get (files_after first before)) (first_name (codes "db/revs") new.layout new.packs.sharded) ∙ new.new.1.1.1.1.1.1.1.1.0)) refl)
-    | false ↦ λ e. at_none (Rev r) (get (files_after first before) (machine_name new.layout (Rev r)))
-  ] refl)
-  read (Props r) fits = elim (0 == r) as (λ b. (0 == r) ≡ b → AtName (Props r) (get (files_after first before) (machine_name new.layout (Props r))) (cond b (Some (PropsFile ((date_name, date) ∷ []))) None)) [
-    | true ↦ λ e.
-        let same : 0 ≡ r = grind (arith, e) in
-        subst (λ k. AtName (Props k) (get (files_after first before) (machine_name new.layout (Props k))) (Some (PropsFile ((date_name, date) ∷ [])))) same
-        (subst (λ o. AtName (Props 0) o (Some (PropsFile ((date_name, date) ∷ [])))) (sym (ap (get (files_after first before)) (first_name (codes "db/revprops") new.layout new.packs.sharded) ∙ new.new.1.1.1.1.1.1.1.1.1.0)) dump)
-    | false ↦ λ e. at_none (Props r) (get (files_after first before) (machine_name new.layout (Props r)))
+        subst (λ k. AtName new.layout (Rev k) (get (files_after first before) (machine_name new.layout (Rev k))) (Some (file_of (new_revision date)))) same
+        (subst (λ o. AtName new.layout (Rev 0) o (Some (file_of (new_revision date)))) (sym (ap (get (files_after first before)) (first_name (codes "db/revs") new.layout new.packs.sharded) ∙ new.new.1.1.1.1.1.1.1.1.0)) refl)
+    | false ↦ λ e. at_none new.layout (Rev r) (get (files_after first before) (machine_name new.layout (Rev r)))
   ] refl
+  read_name (Props r) fits = elim (0 == r) as (λ b. (0 == r) ≡ b → AtName new.layout (Props r) (get (files_after first before) (machine_name new.layout (Props r))) (cond b (Some (PropsFile ((date_name, date) ∷ []))) None)) [
+    | true ↦ λ e.
+        let same : 0 ≡ r = grind (arith, e) in
+        subst (λ k. AtName new.layout (Props k) (get (files_after first before) (machine_name new.layout (Props k))) (Some (PropsFile ((date_name, date) ∷ [])))) same
+        (subst (λ o. AtName new.layout (Props 0) o (Some (PropsFile ((date_name, date) ∷ [])))) (sym (ap (get (files_after first before)) (first_name (codes "db/revprops") new.layout new.packs.sharded) ∙ new.new.1.1.1.1.1.1.1.1.1.0)) dump)
+    | false ↦ λ e. at_none new.layout (Props r) (get (files_after first before) (machine_name new.layout (Props r)))
+  ] refl
+  read_name (Pack k) fits = at_none new.layout (Pack k) (get (files_after first before) (machine_name new.layout (Pack k)))
+  read_name (Manifest k) fits = at_none new.layout (Manifest k) (get (files_after first before) (machine_name new.layout (Manifest k)))
+
+  -- nothing was taken away
+  none_gone : (n : FileName) → is_gone disk n ≡ false
+  unfolding disk
+  none_gone n = put_keeps Current (Number 0) (Put (Rev 0) (file_of (new_revision date)) ∷ Put (Props 0) (PropsFile ((date_name, date) ∷ [])) ∷ Put Counter (Number 0) ∷ Put Floor (Number 0) ∷ []) n
+      (put_keeps (Rev 0) (file_of (new_revision date)) (Put (Props 0) (PropsFile ((date_name, date) ∷ [])) ∷ Put Counter (Number 0) ∷ Put Floor (Number 0) ∷ []) n
+      (put_keeps (Props 0) (PropsFile ((date_name, date) ∷ [])) (Put Counter (Number 0) ∷ Put Floor (Number 0) ∷ []) n
+      (put_keeps Counter (Number 0) (Put Floor (Number 0) ∷ []) n (put_keeps Floor (Number 0) [] n refl))))
+
+  read : AreRead new.layout (files_after first before) disk
+  read = record { read = read_name; gone = λ n fits gone. absurd (both_ways (is_gone disk n) (none_gone n) gone) }
 
   world : World
-  world = created ((date_name, date) ∷ []) first_bytes
+  world = created (shard_size new.layout) ((date_name, date) ∷ []) first_bytes
+
+  kept : Kept (created (shard_size new.layout) ((date_name, date) ∷ []) first_bytes)
+  kept = created_kept (created (shard_size new.layout) ((date_name, date) ∷ []) first_bytes) (shard_size new.layout) ((date_name, date) ∷ []) first_bytes (size_some new.layout) refl
+
+  whole : IsWhole new.layout 0
+  whole = record { packs = new.packs; place = zero-mod (shard_size new.layout) }
 
   view : View
   view = record { layout = new.layout; since = opened_at first before; opened = 1; number = 0; pass = first_pass 1 0; seen = new_revision date ∷ []; section = None; sure = false; left = None; given = []; full = false }
 
-  store : IsStore new.layout 0 None (record { first = first; labels = labels; operations = Done real.FirmNames ∷ before }) world
+  store : IsStore new.layout 0 0 None (record { first = first; labels = labels; operations = Done real.FirmNames ∷ before }) world
   unfolding world disk
-  store = record { trace = Opening before disk read; whole = record { packs = new.packs; place = zero-mod (shard_size new.layout) }; kept = kept_bare world (created_kept world ((date_name, date) ∷ []) first_bytes refl); shown = all_show; coming = tt; young_is = refl; stuck_is = refl }
+  store = record { trace = Opening before disk read; size = refl; whole = whole; kept = kept_bare world kept; shown = all_show; coming = tt; low_is = refl; floor_is = refl; level = refl; young_is = refl; stuck_is = refl }
 
   sees : Sees world view
   unfolding world view
   sees = record { pass = refl; seen = refl; section = refl; up = refl; sure = λ e. absurd cc; whole = λ z e. absurd cc; given = λ k i. absurd i; opened = omega arith; shown = all_show; names = record { full = λ e. absurd cc; drawing = λ z e. absurd cc } }
 
-  safe : Safe new.layout (opened_at first before) (record { first = first; labels = labels; operations = Done real.FirmNames ∷ before }) 1 0 (new_revision date ∷ []) None
+  safe : Safe new.layout (opened_at first before) (record { first = first; labels = labels; operations = Done real.FirmNames ∷ before }) 1 (new_revision date ∷ []) None
   unfolding disk
   safe m i =
-      let r = image_read new.layout 0 no_others first (Done real.FirmNames ∷ before) (Firm ∷ disk) (Opening before disk read) m (now i) in
-      let n = numbers_now r.0 r.1 in
-      (r.0, r.2, past_of 1 0 (new_revision date ∷ []) Free r.0 (omega arith) (omega arith) (stands r.0 r.1), n.0, n.1)
+      let r = image_read new.layout no_others first (Done real.FirmNames ∷ before) (Firm ∷ disk) (Opening before disk read) m (now i) in
+      (r.0, r.2, stood r.0 r.1)
     where
       now : ImageSince (length before + 1) first (Done real.FirmNames ∷ before) m → real.IsImage first (Done real.FirmNames ∷ before) m
       now i = ⊎_elim (λ a. a) (λ b. absurd (omega (arith, b.0))) i
 
-      numbers_now : (e : Disk) → IsImage (Firm ∷ disk) e → FloorIs 0 e × HasCounter e
-      numbers_now = numbers (created ((date_name, date) ∷ []) first_bytes) (created_kept (created ((date_name, date) ∷ []) first_bytes) ((date_name, date) ∷ []) first_bytes refl)
-
-      stands : (e : Disk) → IsImage (Firm ∷ disk) e → Stands 0 (new_revision date ∷ []) Free e
-      stands = (created_kept (created ((date_name, date) ∷ []) first_bytes) ((date_name, date) ∷ []) first_bytes refl).stands
+      stood : (e : Disk) → IsImage (Firm ∷ disk) e → StoodFor new.layout 1 (new_revision date ∷ []) None e
+      stood = stood_for new.layout 1 (created (shard_size new.layout) ((date_name, date) ∷ []) first_bytes) refl whole kept (omega arith)
 
   own : HasOwnFiles (files_after first before) new.layout
   own =
@@ -137,7 +163,7 @@ module _ (first : Files) (labels : List Label) (before : List Operation) (date :
         uuid = (s.opened.uuid, s.small.behind.uuid);
       }
 
-  pub new_is_known : (v : View) × KnowsAlone new.layout 0 None (Some (record { first = first; labels = labels; operations = Done real.FirmNames ∷ before })) v × (v.section ≡ None) × (v.pass ≡ first_pass 1 0) × (v.seen ≡ new_revision date ∷ []) × (v.since ≡ opened_at first before)
+  pub new_is_known : (v : View) × KnowsAlone new.layout 0 0 None (Some (record { first = first; labels = labels; operations = Done real.FirmNames ∷ before })) v × (v.section ≡ None) × (v.pass ≡ first_pass 1 0) × (v.seen ≡ new_revision date ∷ []) × (v.since ≡ opened_at first before)
   unfolding view world
   new_is_known = (view, ((world, store, sees, refl, refl, safe, refl, refl), record { all = refl; own = refl; free = λ harmless. refl; sound = λ harmless. refl; found = λ harmless. refl }, own_from_opening new.layout first before own), refl, refl, refl, refl)
 

@@ -1,5 +1,5 @@
 -- A begin's first call: `txn-current` is read.
-use Rattle.std.proofs.Common.{◌≡◌, ◌<◌, ◌≤◌, ◌+◌, ◌-◌, ◌^◌, ℕ, List, [], ◌∷◌, ◌++◌, length, true, cond, inl, inr, refl, sym, ap, subst, ◌∙◌, arith, drop}
+use Rattle.std.proofs.Common.{◌≡◌, ◌<◌, ◌≤◌, ◌+◌, ◌-◌, ◌^◌, ℕ, List, [], ◌∷◌, ◌++◌, length, true, false, cond, inl, inr, refl, sym, ap, subst, ◌∙◌, arith, drop}
 use Rattle.std.specs.Prelude.{Option, Some, IfSome, Result, Ok, Err, IfOk, nat_lt, ◌&&◌, option_map}
 use Rattle.std.specs.FinMap.{get}
 use Rattle.std.proofs.lemmas.List.{take_all}
@@ -21,7 +21,7 @@ use Rattle.fsfs_machine.specs.declared.machine.Went.TheVariants.{Fine, Before, A
 use Rattle.fsfs_machine.specs.declared.machine.Step.TheVariants as step
 use Rattle.fsfs_machine.specs.Disk.{found}
 use Rattle.fsfs_machine.specs.Machine.{World, did, barred, either, answer, learns, number_of, inside, held_by, drawn, last_name, counted, count_read, with_next, stuck_place}
-use Rattle.fsfs_machine.specs.Kept.{Kept, coming, AllBelow, IsIn}
+use Rattle.fsfs_machine.specs.Kept.{Kept, coming, AllBelow, IsIn, most_floor, may_rise}
 use Rattle.fsfs_machine.proofs.Images.{read_is_image}
 use Rattle.fsfs_machine.proofs.Answering.{seen_of}
 use Rattle.fsfs_machine.proofs.Steps.{step_keeps}
@@ -37,13 +37,13 @@ use Rattle.fsfs_turn.proofs.TurnEnds.{section_leaves, IsAfter, Comes}
 use Rattle.fsfs_turn.proofs.Stepping.{kept_bare, at_itself, held_here, lock_is, take_drop}
 use Rattle.fsfs_turn.proofs.Due.{at_found}
 
-module _ (layout : Layout) (young : ℕ) (stuck : Option DiskPlace) (t : Trace) (w : World) (v : View) (store : IsStore layout young stuck t w) (sees : Sees w v) (safe : Safe layout v.since t v.opened w.floor w.history (doubt w.lock))
+module _ (layout : Layout) (low young : ℕ) (stuck : Option DiskPlace) (t : Trace) (w : World) (v : View) (store : IsStore layout low young stuck t w) (sees : Sees w v) (safe : Safe layout v.since t v.opened w.history (doubt w.lock))
     (base : ℕ) (begun : v.section ≡ Some Begun) (told_base : base ≤ v.pass.least) where
   lock : w.lock ≡ Held v.number Begun
   lock = lock_is v.number w.lock Begun (sees.section ∙ begun)
 
   least_in : v.pass.least < length w.history
-  least_in = (seen_of (length w.history) w.floor w.passes v.number v.pass store.kept.seen sees.pass).least
+  least_in = (seen_of (length w.history) w.low (most_floor (may_rise w.lock) w.size w.floor) w.passes v.number v.pass store.kept.seen sees.pass).least
 
   base_in : base < length w.history
   base_in = omega (arith, told_base, least_in)
@@ -88,13 +88,19 @@ module _ (layout : Layout) (young : ℕ) (stuck : Option DiskPlace) (t : Trace) 
   stuck_then : (went : Went) → stuck_place (Held v.number (either went (CountRead (drawn_of base counter.0)) Over)) ≡ stuck
   stuck_then went = sym (ap stuck_place lock) ∙ store.stuck_is
 
+  level_then : (went : Went) → may_rise (Held v.number (either went (CountRead (drawn_of base counter.0)) Over)) ≡ false
+  level_then Fine = refl
+  level_then Before = refl
+  level_then After = refl
+  level_then (Torn any) = refl
+
   coming_then : (went : Went) → IfSome (coming (Held v.number (either went (CountRead (drawn_of base counter.0)) Over))) (λ y. BytesShow (with_next w.history y))
   coming_then Fine = tt
   coming_then Before = tt
   coming_then After = tt
   coming_then (Torn any) = tt
 
-  pub counter_turns : counter.0 < last_name → (went : Went) → IsAfter layout young stuck t w v (λ u. CounterRead base counter.0 went v u)
+  pub counter_turns : counter.0 < last_name → (went : Went) → IsAfter layout low young stuck t w v (λ u. CounterRead base counter.0 went v u)
   counter_turns few went = record {
     world = world went;
     view = view went;
@@ -111,7 +117,7 @@ module _ (layout : Layout) (young : ℕ) (stuck : Option DiskPlace) (t : Trace) 
     };
     all = refl;
     safe = safe_then;
-    leaves = section_leaves w (world went) v.number (learns (length w.history) (Begin begin.Read) went) Begun (either went (CountRead (drawn_of base counter.0)) Over) went refl refl refl refl lock refl refl (λ last. last);
+    leaves = section_leaves w (world went) v.number (learns (length w.history) (Begin begin.Read) went) Begun (either went (CountRead (drawn_of base counter.0)) Over) went refl refl refl refl refl lock refl refl (λ last. last);
     layout_is = refl;
     since_is = refl;
     opened_is = refl;
@@ -142,11 +148,11 @@ module _ (layout : Layout) (young : ℕ) (stuck : Option DiskPlace) (t : Trace) 
         names = names_then went;
       }
 
-      now : IsStore layout young stuck t (world went)
-      now = record { trace = store.trace; whole = store.whole; kept = kept; shown = store.shown; coming = coming_then went; young_is = store.young_is; stuck_is = stuck_then went }
+      now : IsStore layout low young stuck t (world went)
+      now = record { trace = store.trace; size = store.size; whole = store.whole; kept = kept; shown = store.shown; coming = coming_then went; low_is = store.low_is; floor_is = store.floor_is; level = level_then went; young_is = store.young_is; stuck_is = stuck_then went }
 
-      safe_then : Safe layout v.since t v.opened w.floor w.history (doubt (Held v.number (either went (CountRead (drawn_of base counter.0)) Over)))
-      safe_then = subst (λ d. Safe layout v.since t v.opened w.floor w.history d) (doubtless went) (subst (λ l. Safe layout v.since t v.opened w.floor w.history (doubt l)) lock safe)
+      safe_then : Safe layout v.since t v.opened w.history (doubt (Held v.number (either went (CountRead (drawn_of base counter.0)) Over)))
+      safe_then = subst (λ d. Safe layout v.since t v.opened w.history d) (doubtless went) (subst (λ l. Safe layout v.since t v.opened w.history (doubt l)) lock safe)
 
   -- the last number stands there, which the pass knows from then on
   pub full_sees : last_name ≤ counter.0 → Sees w (record v { full = true })
@@ -163,13 +169,13 @@ module _ (layout : Layout) (young : ℕ) (stuck : Option DiskPlace) (t : Trace) 
     names = names_full v.section w.disk v.full (counter.0, counter.1, many) sees.names;
   }
 
-  pub counter_comes : {X E : Type 0} (told : Option Trace) → told ≡ Some t → counter.0 < last_name → (result : Result X E) → Comes layout young stuck told w v result (λ went u. CounterRead base counter.0 went v u)
+  pub counter_comes : {X E : Type 0} (told : Option Trace) → told ≡ Some t → counter.0 < last_name → (result : Result X E) → Comes layout low young stuck told w v result (λ went u. CounterRead base counter.0 went v u)
   counter_comes told same few (Ok o) = (t, Fine, same, refl, counter_turns few Fine)
   counter_comes told same few (Err e) = (t, Before, same, refl, counter_turns few Before)
 
   -- the number stands in the file
   pub counter_file : (text : List ℕ) × (get (files_now t) (machine_name layout Counter) ≡ Some text) × IsBase36Line text counter.0
-  counter_file = at_found Counter (get (files_now t) (machine_name layout Counter)) (found w.disk Counter) (Number counter.0) counter.1 (now_read layout w.floor no_others t.first t.operations w.disk store.trace Counter tt)
+  counter_file = at_found layout Counter (get (files_now t) (machine_name layout Counter)) (found w.disk Counter) (Number counter.0) counter.1 ((now_read layout no_others t.first t.operations w.disk store.trace).read Counter tt)
 
   -- what is read there is its line
   pub counter_reads : {E : Type 0} (knows : View → Type 0) (told : Option Trace) → told ≡ Some t → (name old new : List ℕ) → name ≡ only_name only.TxnCurrent → (result : Result (Option ℕ) E) → IfOk result (IsRead (file_at t name) 0 old new)

@@ -1,5 +1,5 @@
 -- A run of reads, from its first one on.
-use Rattle.std.proofs.Common.{◌≡◌, ◌≤◌, ℕ, List, Bool, refl, sym, ap, subst, ◌∙◌, arith}
+use Rattle.std.proofs.Common.{◌≡◌, ◌≤◌, ℕ, List, Bool, refl, sym, ap, subst, ◌∙◌, arith, ⊎_elim}
 use Rattle.std.specs.Prelude.{Option, Some, None}
 use Rattle.fsfs_disk.specs.Labels.{Label}
 use Rattle.fsfs_base.specs.Files.{Files}
@@ -19,6 +19,7 @@ use Rattle.fsfs_turn.specs.OwnedLemmas.{reads_nothing}
 use Rattle.fsfs_turn.proofs.Reading.{reads_on}
 use Rattle.fsfs_turn.specs.GoesOn.{GoesOn}
 use Rattle.fsfs_turn.specs.Seen.{TellsUpTo, up_to}
+use Rattle.fsfs_turn.proofs.SeenLemmas.{below_or_not}
 
 module _ {T P : Type 0} (knows : T → View → Type 0) (mounting : T → P) (bound : T → Bool) (labels : T → Option (List Label)) where
   -- before the first read
@@ -84,11 +85,12 @@ later_up_to last first old new known l = record {
 pub known_on : {Below : Type 0} (last : ℕ) (old new : StoreView Below) → IsKnown old.reach last → Later old new → IsKnown new.reach last
 known_on last old new known l = known_later old.reach new.reach last l.reach known
 
-pub tells_up_to : {First Lasting Below : Type 0} (last : ℕ) (first : First) (s : StoreView Lasting) (floor : ℕ) (v : View) (told : Telling Below) → (seen : TellsSeen s v) → floor ≡ 0 → TellsOwn (up_to last first s) floor seen.files told → told.youngest ≡ Some last → TellsUpTo last v told
-tells_up_to last first s floor v told seen zero own top = record {
+pub tells_up_to : {First Lasting Below : Type 0} (last : ℕ) (first : First) (s : StoreView Lasting) (low floor : ℕ) (v : View) (told : Telling Below) → floor ≡ low → (seen : TellsSeen low s v) → TellsOwn (up_to last first s) floor seen.files told → told.youngest ≡ Some last → TellsUpTo last v told
+tells_up_to last first s low floor v told floor_is seen begun top = record {
   revs = λ r le less.
+      let own : TellsOwn (up_to last first s) low seen.files told = subst (λ f. TellsOwn (up_to last first s) f seen.files told) floor_is begun in
       let x = there_below v.seen r less in
       let one = seen.each r x.0 x.1 in
-      own.revs r le (omega (arith, zero)) one.own ∙ ap (λ read. Some read) (one.bytes ∙ sym (ap (λ o. bytes_beside r o) x.1));
+      ⊎_elim (λ below. own.packed r le below (one.packed below)) (λ high. own.revs r le high (one.own high)) (below_or_not r low) ∙ ap (λ read. Some read) (one.bytes ∙ sym (ap (λ o. bytes_beside r o) x.1));
   youngest = top;
 }

@@ -10,7 +10,7 @@ use Rattle.fsfs_layout.specs.Small.{IsRevLine}
 use Rattle.fsfs_layout.specs.declared.only_file.OnlyFile.TheVariants as only
 use Rattle.fsfs_layout.specs.Hash.Dump.{IsDump}
 use Rattle.fsfs_disk.specs.Labels.{Label, has_label, with_label, without_label}
-use Rattle.fsfs_disk.specs.Trace.{Trace, KeepLabel, DropLabel, file_at, files_now, labels_now, IsRead, IsSize, Performs, PerformsIfThere, FailsAt, FailsToPut, FailsToAdopt}
+use Rattle.fsfs_disk.specs.Trace.{Trace, KeepLabel, DropLabel, file_at, files_now, labels_now, IsRead, Performs, PerformsIfThere, FailsAt, FailsToPut, FailsToAdopt}
 use Rattle.fsfs_disk.specs.Trace as real
 use Rattle.fsfs_disk.proofs.TraceLemmas.{file_at-put}
 use Rattle.fsfs_disk.proofs.LabelLemmas.{without_absent}
@@ -24,7 +24,7 @@ use Rattle.fsfs_machine.specs.declared.machine.Step.TheVariants as step
 use Rattle.fsfs_machine.specs.declared.machine.Went.{Went}
 use Rattle.fsfs_machine.specs.declared.machine.Went.TheVariants.{Before}
 use Rattle.fsfs_machine.specs.Kept.{IsIn}
-use Rattle.fsfs_turn.specs.Views.{View, rev_name, props_name, IsDue, MayAdopt, MayGive, Answers, Called, Adopted, Looked, LockTaken, FoundStuck, LockGiven, Revealed, ReadTurn}
+use Rattle.fsfs_turn.specs.Views.{View, rev_name, props_name, IsDue, MayAdopt, MayGive, Answers, Called, Adopted, Looked, LockTaken, FoundStuck, LockGiven, Revealed}
 use Rattle.fsfs_turn.specs.Learning.{PropsRead, FloorRead, CounterRead, ReadsCounter, Listed, MayMake, BenchMade, MayPurge, Purged, SpentPurged}
 use Rattle.fsfs_turn.specs.Labels.{Relabels, MayRelabel, Drops}
 use Rattle.fsfs_turn.specs.Standing.{Knows}
@@ -32,7 +32,6 @@ use Rattle.fsfs_turn.proofs.TurnEnds.{known_after, known_comes}
 use Rattle.fsfs_turn.proofs.Due.{put_comes, rename_comes, firm_comes, folder_fails}
 use Rattle.fsfs_turn.proofs.Locking.{looks, takes, finds_stuck, gives_lock, sticks, reveals_it}
 use Rattle.fsfs_turn.proofs.Adopting.{adopt_comes, adopt_file_comes, adopt_fails}
-use Rattle.fsfs_turn.proofs.Fetching.{read_comes, read_bytes, size_bytes}
 use Rattle.fsfs_turn.proofs.SmallFiles.{floor_comes, floor_line, props_comes, props_text}
 use Rattle.fsfs_turn.proofs.Counting.{counter, counter_comes, counter_reads, full_sees}
 use Rattle.fsfs_turn.proofs.Labelling.{list_turns, make_comes, purge_comes, spent_comes}
@@ -114,144 +113,128 @@ pub file_left : {X E : Type 0} (change : real.NameChange) (old new : Option Trac
 file_left change old new without held left (Ok x) failed = tt
 file_left change old new without held left (Err e) failed = ⊎_elim (λ stays. inl stays.1) (λ gone. inr gone.1) failed
 
-module _ (layout : Layout) (young : ℕ) (stuck : Option DiskPlace) where
+module _ (layout : Layout) (low young : ℕ) (stuck : Option DiskPlace) where
   pub put_known : {X E : Type 0} (old new : Option Trace) (name bytes : List ℕ) (result : Result X E) → OnOk result (Performs (real.Put name bytes) old new) → OnErr result (FailsToPut name bytes old new)
-      → (v : View) (place : DiskPlace) → Knows layout young stuck old v → IsDue v place (real.Put name bytes) → (u : View) × (went : Went) × Knows layout young stuck new u × Answers result went × Called place went v u
+      → (v : View) (place : DiskPlace) → Knows layout low young stuck old v → IsDue v place (real.Put name bytes) → (u : View) × (went : Went) × Knows layout low young stuck new u × Answers result went × Called place went v u
   put_known None new name bytes result ok err v place known due = absurd known
-  put_known (Some t) new name bytes result ok err v place known due = known_comes layout young stuck new known.0 v result (λ went u. Called place went v u) known.3 known.4 known.6 known.7
-      (put_comes layout young stuck t known.0 v known.1 known.2 known.3 known.5 new place name bytes result due ok err)
+  put_known (Some t) new name bytes result ok err v place known due = known_comes layout low young stuck new known.0 v result (λ went u. Called place went v u) known.3 known.4 known.6 known.7
+      (put_comes layout low young stuck t known.0 v known.1 known.2 known.3 known.5 new place name bytes result due ok err)
 
   pub rename_known : {X E : Type 0} (old new : Option Trace) (from to : List ℕ) (result : Result X E) → OnOk result (Performs (real.Rename from to) old new) → OnErr result (FailsAt (real.Rename from to) old new)
-      → (v : View) (place : DiskPlace) → Knows layout young stuck old v → IsDue v place (real.Rename from to) → (u : View) × (went : Went) × Knows layout young stuck new u × Answers result went × Called place went v u
+      → (v : View) (place : DiskPlace) → Knows layout low young stuck old v → IsDue v place (real.Rename from to) → (u : View) × (went : Went) × Knows layout low young stuck new u × Answers result went × Called place went v u
   rename_known None new from to result ok err v place known due = absurd known
-  rename_known (Some t) new from to result ok err v place known due = known_comes layout young stuck new known.0 v result (λ went u. Called place went v u) known.3 known.4 known.6 known.7
-      (rename_comes layout young stuck t known.0 v known.1 known.2 known.3 known.5 new place from to result due ok err)
+  rename_known (Some t) new from to result ok err v place known due = known_comes layout low young stuck new known.0 v result (λ went u. Called place went v u) known.3 known.4 known.6 known.7
+      (rename_comes layout low young stuck t known.0 v known.1 known.2 known.3 known.5 new place from to result due ok err)
 
   pub firm_known : {X E : Type 0} (old new : Option Trace) (result : Result X E) → OnOk result (Performs real.FirmNames old new) → OnErr result (FailsAt real.FirmNames old new)
-      → (v : View) (place : DiskPlace) → Knows layout young stuck old v → IsDue v place real.FirmNames → (u : View) × (went : Went) × Knows layout young stuck new u × Answers result went × Called place went v u
+      → (v : View) (place : DiskPlace) → Knows layout low young stuck old v → IsDue v place real.FirmNames → (u : View) × (went : Went) × Knows layout low young stuck new u × Answers result went × Called place went v u
   firm_known None new result ok err v place known due = absurd known
-  firm_known (Some t) new result ok err v place known due = known_comes layout young stuck new known.0 v result (λ went u. Called place went v u) known.3 known.4 known.6 known.7
-      (firm_comes layout young stuck t known.0 v known.1 known.2 known.3 known.5 new place result due ok err)
+  firm_known (Some t) new result ok err v place known due = known_comes layout low young stuck new known.0 v result (λ went u. Called place went v u) known.3 known.4 known.6 known.7
+      (firm_comes layout low young stuck t known.0 v known.1 known.2 known.3 known.5 new place result due ok err)
 
-  pub folder_known : (old new : Option Trace) → new ≡ old → (v : View) (place : DiskPlace) (name bytes : List ℕ) → Knows layout young stuck old v → IsDue v place (real.Put name bytes) → (u : View) × Knows layout young stuck new u × Called place Before v u
+  pub folder_known : (old new : Option Trace) → new ≡ old → (v : View) (place : DiskPlace) (name bytes : List ℕ) → Knows layout low young stuck old v → IsDue v place (real.Put name bytes) → (u : View) × Knows layout low young stuck new u × Called place Before v u
   folder_known None new same v place name bytes known due = absurd known
-  folder_known (Some t) new same v place name bytes known due = known_after layout young stuck t new known.0 v (λ u. Called place Before v u) same known.3 known.4 known.6 known.7
-      (folder_fails layout young stuck t known.0 v known.1 known.2 known.3 known.5 place name bytes due)
+  folder_known (Some t) new same v place name bytes known due = known_after layout low young stuck t new known.0 v (λ u. Called place Before v u) same known.3 known.4 known.6 known.7
+      (folder_fails layout low young stuck t known.0 v known.1 known.2 known.3 known.5 place name bytes due)
 
   pub adopt_known : {X E : Type 0} (old new : Option Trace) (name bytes : List ℕ) (result : Result X E) → OnOk result (Performs (real.Put name bytes) old new) → OnErr result (FailsToPut name bytes old new)
-      → (v : View) (txn : Txn) (properties : List (List ℕ × List ℕ)) (next : Revision) → Knows layout young stuck old v → MayAdopt v txn properties next bytes → name ≡ rev_name v (length v.seen)
-      → (u : View) × (went : Went) × Knows layout young stuck new u × Answers result went × Adopted txn properties next bytes went v u
+      → (v : View) (txn : Txn) (properties : List (List ℕ × List ℕ)) (next : Revision) → Knows layout low young stuck old v → MayAdopt v txn properties next bytes → name ≡ rev_name v (length v.seen)
+      → (u : View) × (went : Went) × Knows layout low young stuck new u × Answers result went × Adopted txn properties next bytes went v u
   adopt_known None new name bytes result ok err v txn properties next known may named = absurd known
-  adopt_known (Some t) new name bytes result ok err v txn properties next known may named = known_comes layout young stuck new known.0 v result (λ went u. Adopted txn properties next bytes went v u) known.3 known.4 known.6 known.7
-      (adopt_comes layout young stuck t known.0 v known.1 known.2 known.3 known.5 txn properties next bytes may new name result named ok err)
+  adopt_known (Some t) new name bytes result ok err v txn properties next known may named = known_comes layout low young stuck new known.0 v result (λ went u. Adopted txn properties next bytes went v u) known.3 known.4 known.6 known.7
+      (adopt_comes layout low young stuck t known.0 v known.1 known.2 known.3 known.5 txn properties next bytes may new name result named ok err)
 
-  pub adopt_not : (old new : Option Trace) → new ≡ old → (v : View) (txn : Txn) (properties : List (List ℕ × List ℕ)) (next : Revision) (bytes : List ℕ) → Knows layout young stuck old v → MayAdopt v txn properties next bytes
-      → (u : View) × Knows layout young stuck new u × Adopted txn properties next bytes Before v u
+  pub adopt_not : (old new : Option Trace) → new ≡ old → (v : View) (txn : Txn) (properties : List (List ℕ × List ℕ)) (next : Revision) (bytes : List ℕ) → Knows layout low young stuck old v → MayAdopt v txn properties next bytes
+      → (u : View) × Knows layout low young stuck new u × Adopted txn properties next bytes Before v u
   adopt_not None new same v txn properties next bytes known may = absurd known
-  adopt_not (Some t) new same v txn properties next bytes known may = known_after layout young stuck t new known.0 v (λ u. Adopted txn properties next bytes Before v u) same known.3 known.4 known.6 known.7
-      (adopt_fails layout young stuck t known.0 v known.1 known.2 known.3 known.5 txn properties next bytes may)
+  adopt_not (Some t) new same v txn properties next bytes known may = known_after layout low young stuck t new known.0 v (λ u. Adopted txn properties next bytes Before v u) same known.3 known.4 known.6 known.7
+      (adopt_fails layout low young stuck t known.0 v known.1 known.2 known.3 known.5 txn properties next bytes may)
 
-  pub look_known : (told : Option Trace) (v : View) → Knows layout young stuck told v → (u : View) × Knows layout young stuck told u × Looked young v u
+  pub look_known : (told : Option Trace) (v : View) → Knows layout low young stuck told v → (u : View) × Knows layout low young stuck told u × Looked young v u
   look_known None v known = absurd known
-  look_known (Some t) v known = looks layout young stuck t known.0 v known.1 known.2 known.3 known.4 known.5 known.6 known.7
+  look_known (Some t) v known = looks layout low young stuck t known.0 v known.1 known.2 known.3 known.4 known.5 known.6 known.7
 
-  pub take_known : (told : Option Trace) (v : View) → stuck ≡ None → Knows layout young stuck told v → v.section ≡ None → (u : View) × Knows layout young stuck told u × LockTaken v u
+  pub take_known : (told : Option Trace) (v : View) → stuck ≡ None → Knows layout low young stuck told v → v.section ≡ None → (u : View) × Knows layout low young stuck told u × LockTaken v u
   take_known None v not known none = absurd known
-  take_known (Some t) v not known none = takes layout young stuck t known.0 v known.1 known.2 known.3 known.4 known.5 known.6 known.7 none not
+  take_known (Some t) v not known none = takes layout low young stuck t known.0 v known.1 known.2 known.3 known.4 known.5 known.6 known.7 none not
 
-  pub stuck_known : (told : Option Trace) (place : DiskPlace) (v : View) → stuck ≡ Some place → Knows layout young stuck told v → (u : View) × Knows layout young stuck told u × FoundStuck place v u
+  pub stuck_known : (told : Option Trace) (place : DiskPlace) (v : View) → stuck ≡ Some place → Knows layout low young stuck told v → (u : View) × Knows layout low young stuck told u × FoundStuck place v u
   stuck_known None place v is known = absurd known
-  stuck_known (Some t) place v is known = finds_stuck layout young stuck t known.0 v known.1 known.2 known.3 known.4 known.5 known.6 known.7 place is
+  stuck_known (Some t) place v is known = finds_stuck layout low young stuck t known.0 v known.1 known.2 known.3 known.4 known.5 known.6 known.7 place is
 
-  pub give_known : (told : Option Trace) (v : View) → Knows layout young stuck told v → MayGive v → (u : View) × Knows layout young stuck told u × LockGiven (step.GiveLock v.number) v u
+  pub give_known : (told : Option Trace) (v : View) → Knows layout low young stuck told v → MayGive v → (u : View) × Knows layout low young stuck told u × LockGiven (step.GiveLock v.number) v u
   give_known None v known may = absurd known
-  give_known (Some t) v known may = gives_lock layout young stuck t known.0 v known.1 known.2 known.3 known.4 known.5 known.6 known.7 may.inside may.is may.quiet
+  give_known (Some t) v known may = gives_lock layout low young stuck t known.0 v known.1 known.2 known.3 known.4 known.5 known.6 known.7 may.inside may.is may.quiet
 
-  pub stick_known : (told : Option Trace) (place : DiskPlace) (v : View) (x : Coming) → Knows layout young stuck told v → v.section ≡ Some (Doubtful place x) → (u : View) × Knows layout young (Some place) told u × LockGiven (step.StickLock v.number) v u
+  pub stick_known : (told : Option Trace) (place : DiskPlace) (v : View) (x : Coming) → Knows layout low young stuck told v → v.section ≡ Some (Doubtful place x) → (u : View) × Knows layout low young (Some place) told u × LockGiven (step.StickLock v.number) v u
   stick_known None place v x known is = absurd known
-  stick_known (Some t) place v x known is = sticks layout young stuck t known.0 v known.1 known.2 known.3 known.4 known.5 known.6 known.7 place x is
+  stick_known (Some t) place v x known is = sticks layout low young stuck t known.0 v known.1 known.2 known.3 known.4 known.5 known.6 known.7 place x is
 
-  pub reveal_known : (told : Option Trace) (rev : ℕ) (v : View) (x : Coming) → Knows layout young stuck told v → v.section ≡ Some (CurrentFirm x) → rev ≡ length v.seen → (u : View) × Knows layout rev stuck told u × Revealed x v u
+  pub reveal_known : (told : Option Trace) (rev : ℕ) (v : View) (x : Coming) → Knows layout low young stuck told v → v.section ≡ Some (CurrentFirm x) → rev ≡ length v.seen → (u : View) × Knows layout low rev stuck told u × Revealed x v u
   reveal_known None rev v x known is rev_is = absurd known
-  reveal_known (Some t) rev v x known is rev_is = reveals_it layout young stuck t known.0 v known.1 known.2 known.3 known.4 known.5 known.6 known.7 x rev is rev_is
-
-  pub read_known : {E : Type 0} (old new : Option Trace) → new ≡ old → (offset size : ℕ) (name buffer filled : List ℕ) (result : Result (Option ℕ) E) → IfSome old (λ t. IfOk result (IsRead (file_at t name) offset buffer filled))
-      → (v : View) (r : ℕ) (x : Recorded) → Knows layout young stuck old v → slice_get v.seen r ≡ Some x → r < 2 ^ 32 → v.pass.floor ≤ r → name ≡ rev_name v r
-      → (u : View) × (went : Went) × Knows layout young stuck new u × Answers result went × ReadTurn r offset size x went v u × IfOk result (IsRead (Some x.bytes) offset buffer filled)
-  read_known None new same offset size name buffer filled result read v r x known there fits above named = absurd known
-  read_known (Some t) new same offset size name buffer filled result read v r x known there fits above named =
-      let k = known_comes layout young stuck new known.0 v result (λ went u. ReadTurn r offset size x went v u) known.3 known.4 known.6 known.7 (read_comes layout young stuck t known.0 v known.1 known.2 known.3 known.5 r offset size x there new same result) in
-      (k.0, k.1, k.2, k.3, k.4, read_bytes layout young stuck t known.0 v known.1 known.2 known.3 known.5 r offset size x there fits above name buffer filled named result read)
+  reveal_known (Some t) rev v x known is rev_is = reveals_it layout low young stuck t known.0 v known.1 known.2 known.3 known.4 known.5 known.6 known.7 x rev is rev_is
 
   pub props_known : {E : Type 0} (old new : Option Trace) → new ≡ old → (offset : ℕ) (name buffer filled : List ℕ) (result : Result (Option ℕ) E) → IfSome old (λ t. IfOk result (IsRead (file_at t name) offset buffer filled))
-      → (v : View) (r : ℕ) (x : Recorded) → Knows layout young stuck old v → slice_get v.seen r ≡ Some x → r < 2 ^ 32 → name ≡ props_name v r
-      → (u : View) × (went : Went) × (text : List ℕ) × Knows layout young stuck new u × Answers result went × PropsRead r x went v u × IsDump text x.revision.properties × IfOk result (IsRead (Some text) offset buffer filled)
+      → (v : View) (r : ℕ) (x : Recorded) → Knows layout low young stuck old v → slice_get v.seen r ≡ Some x → r < 2 ^ 32 → name ≡ props_name v r
+      → (u : View) × (went : Went) × (text : List ℕ) × Knows layout low young stuck new u × Answers result went × PropsRead r x went v u × IsDump text x.revision.properties × IfOk result (IsRead (Some text) offset buffer filled)
   props_known None new same offset name buffer filled result read v r x known there fits named = absurd known
   props_known (Some t) new same offset name buffer filled result read v r x known there fits named =
-      let k = known_comes layout young stuck new known.0 v result (λ went u. PropsRead r x went v u) known.3 known.4 known.6 known.7 (props_comes layout young stuck t known.0 v known.1 known.2 known.3 known.5 r x there new same result) in
-      let text = props_text layout young stuck t known.0 v known.1 known.2 known.3 known.5 r x there offset fits name buffer filled named result read in
+      let k = known_comes layout low young stuck new known.0 v result (λ went u. PropsRead r x went v u) known.3 known.4 known.6 known.7 (props_comes layout low young stuck t known.0 v known.1 known.2 known.3 known.5 r x there new same result) in
+      let text = props_text layout low young stuck t known.0 v known.1 known.2 known.3 known.5 r x there offset fits name buffer filled named result read in
       (k.0, k.1, text.0, k.2, k.3, k.4, text.1, text.2)
 
   pub floor_known : {E : Type 0} (old new : Option Trace) → new ≡ old → (offset : ℕ) (name buffer filled : List ℕ) (result : Result (Option ℕ) E) → IfSome old (λ t. IfOk result (IsRead (file_at t name) offset buffer filled))
-      → (v : View) → Knows layout young stuck old v → name ≡ only_name only.MinUnpackedRev
-      → (u : View) × (went : Went) × (floor : ℕ) × (text : List ℕ) × Knows layout young stuck new u × Answers result went × FloorRead floor went v u × IsRevLine text floor × IfOk result (IsRead (Some text) offset buffer filled)
+      → (v : View) → Knows layout low young stuck old v → name ≡ only_name only.MinUnpackedRev
+      → (u : View) × (went : Went) × (floor : ℕ) × (text : List ℕ) × Knows layout low young stuck new u × Answers result went × FloorRead floor went v u × IsRevLine text floor × IfOk result (IsRead (Some text) offset buffer filled)
   floor_known None new same offset name buffer filled result read v known named = absurd known
   floor_known (Some t) new same offset name buffer filled result read v known named =
-      let k = known_comes layout young stuck new known.0 v result (λ went u. FloorRead known.0.floor went v u) known.3 known.4 known.6 known.7 (floor_comes layout young stuck t known.0 v known.1 known.2 known.3 known.5 new same result) in
-      let line = floor_line layout young stuck t known.0 v known.1 known.2 known.3 known.5 offset name buffer filled named result read in
-      (k.0, k.1, known.0.floor, line.0, k.2, k.3, k.4, line.1, line.2)
+      let k = known_comes layout low young stuck new known.0 v result (λ went u. FloorRead low went v u) known.3 known.4 known.6 known.7 (floor_comes layout low young stuck t known.0 v known.1 known.2 known.3 known.5 new same result) in
+      let line = floor_line layout low young stuck t known.0 v known.1 known.2 known.3 known.5 offset name buffer filled named result read in
+      (k.0, k.1, low, line.0, k.2, k.3, k.4, line.1, line.2)
 
   pub counter_known : {E : Type 0} (old new : Option Trace) → new ≡ old → (name buffer filled : List ℕ) (result : Result (Option ℕ) E) → IfSome old (λ t. IfOk result (IsRead (file_at t name) 0 buffer filled))
-      → name ≡ only_name only.TxnCurrent → (v : View) (base : ℕ) → Knows layout young stuck old v → v.section ≡ Some Begun → base ≤ v.pass.least
-      → ReadsCounter (Knows layout young stuck new) (option_map files_now new) base result buffer filled v
+      → name ≡ only_name only.TxnCurrent → (v : View) (base : ℕ) → Knows layout low young stuck old v → v.section ≡ Some Begun → base ≤ v.pass.least
+      → ReadsCounter (Knows layout low young stuck new) (option_map files_now new) base result buffer filled v
   counter_known None new same name buffer filled result read named v base known begun at_most = absurd known
   counter_known (Some t) new same name buffer filled result read named v base known begun at_most =
-      counter_reads layout young stuck t known.0 v known.1 known.2 known.5 base begun at_most (Knows layout young stuck new) new same name buffer filled named result read
-      (λ few. known_comes layout young stuck new known.0 v result (λ went u. CounterRead base (counter layout young stuck t known.0 v known.1 known.2 known.5 base begun at_most).0 went v u) known.3 known.4 known.6 known.7 (counter_comes layout young stuck t known.0 v known.1 known.2 known.5 base begun at_most new same few result))
-      (λ many. subst (λ o. Knows layout young stuck o (record v { full = true })) (sym same)
-      (known.0, known.1, full_sees layout young stuck t known.0 v known.1 known.2 known.5 base begun at_most many, known.3, known.4, known.5, known.6, known.7))
-
-  pub size_known : {E : Type 0} (old new : Option Trace) → new ≡ old → (name : List ℕ) (result : Result (Option ℕ) E) → IfSome old (λ t. IfOk result (IsSize (file_at t name)))
-      → (v : View) (r : ℕ) (x : Recorded) → Knows layout young stuck old v → slice_get v.seen r ≡ Some x → r < 2 ^ 32 → v.pass.floor ≤ r → name ≡ rev_name v r
-      → (u : View) × (went : Went) × Knows layout young stuck new u × Answers result went × ReadTurn r 0 0 x went v u × IfOk result (IsSize (Some x.bytes))
-  size_known None new same name result size v r x known there fits above named = absurd known
-  size_known (Some t) new same name result size v r x known there fits above named =
-      let k = known_comes layout young stuck new known.0 v result (λ went u. ReadTurn r 0 0 x went v u) known.3 known.4 known.6 known.7 (read_comes layout young stuck t known.0 v known.1 known.2 known.3 known.5 r 0 0 x there new same result) in
-      (k.0, k.1, k.2, k.3, k.4, size_bytes layout young stuck t known.0 v known.1 known.2 known.3 known.5 r 0 0 x there fits above name named result size)
+      counter_reads layout low young stuck t known.0 v known.1 known.2 known.5 base begun at_most (Knows layout low young stuck new) new same name buffer filled named result read
+      (λ few. known_comes layout low young stuck new known.0 v result (λ went u. CounterRead base (counter layout low young stuck t known.0 v known.1 known.2 known.5 base begun at_most).0 went v u) known.3 known.4 known.6 known.7 (counter_comes layout low young stuck t known.0 v known.1 known.2 known.5 base begun at_most new same few result))
+      (λ many. subst (λ o. Knows layout low young stuck o (record v { full = true })) (sym same)
+      (known.0, known.1, full_sees layout low young stuck t known.0 v known.1 known.2 known.5 base begun at_most many, known.3, known.4, known.5, known.6, known.7))
 
   -- what a listing comes to, however it went
-  pub list_known : (old new : Option Trace) → new ≡ old → (v : View) (went : Went) → Knows layout young stuck old v → (ls : List Label) × (option_map labels_now new ≡ Some ls) × (u : View) × Knows layout young stuck new u × Listed ls went v u
+  pub list_known : (old new : Option Trace) → new ≡ old → (v : View) (went : Went) → Knows layout low young stuck old v → (ls : List Label) × (option_map labels_now new ≡ Some ls) × (u : View) × Knows layout low young stuck new u × Listed ls went v u
   list_known None new same v went known = absurd known
   list_known (Some t) new same v went known =
-      let c = known_after layout young stuck t new known.0 v (λ u. Listed (labels_now t) went v u) same known.3 known.4 known.6 known.7 (list_turns layout young stuck t known.0 v known.1 known.2 known.5 (labels_now t) went) in
+      let c = known_after layout low young stuck t new known.0 v (λ u. Listed (labels_now t) went v u) same known.3 known.4 known.6 known.7 (list_turns layout low young stuck t known.0 v known.1 known.2 known.5 (labels_now t) went) in
       (labels_now t, ap (λ o. option_map labels_now o) same, c.0, c.1, c.2)
 
-  pub still_known : (old new : Option Trace) → new ≡ old → (v : View) → Knows layout young stuck old v → Knows layout young stuck new v
-  still_known old new same v known = subst (λ o. Knows layout young stuck o v) (sym same) known
+  pub still_known : (old new : Option Trace) → new ≡ old → (v : View) → Knows layout low young stuck old v → Knows layout low young stuck new v
+  still_known old new same v known = subst (λ o. Knows layout low young stuck o v) (sym same) known
 
   pub make_known : {X E : Type 0} (old new : Option Trace) (l : Label) (result : Result X E) → OnOk result (Performs (KeepLabel l) old new) → OnErr result (FailsAt (KeepLabel l) old new)
-      → (v : View) (x : Drawn) → Knows layout young stuck old v → MayMake v x → (u : View) × (went : Went) × Knows layout young stuck new u × Answers result went × BenchMade x went v u
+      → (v : View) (x : Drawn) → Knows layout low young stuck old v → MayMake v x → (u : View) × (went : Went) × Knows layout low young stuck new u × Answers result went × BenchMade x went v u
   make_known None new l result ok err v x known may = absurd known
-  make_known (Some t) new l result ok err v x known may = known_comes layout young stuck new known.0 v result (λ went u. BenchMade x went v u) known.3 known.4 known.6 known.7
-      (make_comes layout young stuck t known.0 v known.1 known.2 known.5 x may new l result ok err)
+  make_known (Some t) new l result ok err v x known may = known_comes layout low young stuck new known.0 v result (λ went u. BenchMade x went v u) known.3 known.4 known.6 known.7
+      (make_comes layout low young stuck t known.0 v known.1 known.2 known.5 x may new l result ok err)
 
   pub purge_known : {E : Type 0} (old new : Option Trace) (l : Label) (result : Result Bool E) → IfOk result (λ there. PerformsIfThere there (DropLabel l) old new) → OnErr result (FailsAt (DropLabel l) old new)
-      → (v : View) (txn : Txn) → Knows layout young stuck old v → MayPurge v txn → (u : View) × (went : Went) × Knows layout young stuck new u × Answers result went × Purged txn went v u
+      → (v : View) (txn : Txn) → Knows layout low young stuck old v → MayPurge v txn → (u : View) × (went : Went) × Knows layout low young stuck new u × Answers result went × Purged txn went v u
   purge_known None new l result ok err v txn known may = absurd known
-  purge_known (Some t) new l result ok err v txn known may = known_comes layout young stuck new known.0 v result (λ went u. Purged txn went v u) known.3 known.4 known.6 known.7
-      (purge_comes layout young stuck t known.0 v known.1 known.2 known.5 new l txn may result ok err)
+  purge_known (Some t) new l result ok err v txn known may = known_comes layout low young stuck new known.0 v result (λ went u. Purged txn went v u) known.3 known.4 known.6 known.7
+      (purge_comes layout low young stuck t known.0 v known.1 known.2 known.5 new l txn may result ok err)
 
   pub spent_known : {E : Type 0} (old new : Option Trace) (l : Label) (result : Result Bool E) → IfOk result (λ there. PerformsIfThere there (DropLabel l) old new) → OnErr result (FailsAt (DropLabel l) old new)
-      → (v : View) (name : ℕ) → Knows layout young stuck old v → v.section ≡ None → IsIn name v.given → (u : View) × (went : Went) × Knows layout young stuck new u × Answers result went × SpentPurged name went v u
+      → (v : View) (name : ℕ) → Knows layout low young stuck old v → v.section ≡ None → IsIn name v.given → (u : View) × (went : Went) × Knows layout low young stuck new u × Answers result went × SpentPurged name went v u
   spent_known None new l result ok err v name known outside given = absurd known
-  spent_known (Some t) new l result ok err v name known outside given = known_comes layout young stuck new known.0 v result (λ went u. SpentPurged name went v u) known.3 known.4 known.6 known.7
-      (spent_comes layout young stuck t known.0 v known.1 known.2 known.5 new l name outside given result ok err)
+  spent_known (Some t) new l result ok err v name known outside given = known_comes layout low young stuck new known.0 v result (λ went u. SpentPurged name went v u) known.3 known.4 known.6 known.7
+      (spent_comes layout low young stuck t known.0 v known.1 known.2 known.5 new l name outside given result ok err)
 
   pub adopt_file_known : {X E : Type 0} (old new : Option Trace) (name bytes : List ℕ) (without : Files → Files) (held left : Option Files) (result : Result X E) → OnOk result (Performs (real.Adopt name bytes) old new)
       → OnErr result (FailsToAdopt (real.Adopt name bytes) old new without held left)
-      → (v : View) (txn : Txn) (properties : List (List ℕ × List ℕ)) (next : Revision) → Knows layout young stuck old v → MayAdopt v txn properties next bytes → name ≡ rev_name v (length v.seen)
-      → (u : View) × (went : Went) × Knows layout young stuck new u × Answers result went × Adopted txn properties next bytes went v u
+      → (v : View) (txn : Txn) (properties : List (List ℕ × List ℕ)) (next : Revision) → Knows layout low young stuck old v → MayAdopt v txn properties next bytes → name ≡ rev_name v (length v.seen)
+      → (u : View) × (went : Went) × Knows layout low young stuck new u × Answers result went × Adopted txn properties next bytes went v u
   adopt_file_known None new name bytes without held left result ok err v txn properties next known may named = absurd known
   adopt_file_known (Some t) new name bytes without held left result ok err v txn properties next known may named =
-      known_comes layout young stuck new known.0 v result (λ went u. Adopted txn properties next bytes went v u) known.3 known.4 known.6 known.7
-      (adopt_file_comes layout young stuck t known.0 v known.1 known.2 known.3 known.5 txn properties next bytes may (left ≡ held) (left ≡ option_map without held) new name result named ok err)
+      known_comes layout low young stuck new known.0 v result (λ went u. Adopted txn properties next bytes went v u) known.3 known.4 known.6 known.7
+      (adopt_file_comes layout low young stuck t known.0 v known.1 known.2 known.3 known.5 txn properties next bytes may (left ≡ held) (left ≡ option_map without held) new name result named ok err)

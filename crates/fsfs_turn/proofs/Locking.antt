@@ -9,15 +9,15 @@ use Rattle.fsfs_machine.specs.declared.machine.Coming.{Coming}
 use Rattle.fsfs_base.specs.declared.places.place.DiskPlace.{DiskPlace}
 use Rattle.fsfs_machine.specs.declared.machine.Pass.{Pass}
 use Rattle.fsfs_machine.specs.declared.machine.Section.{Section}
-use Rattle.fsfs_machine.specs.declared.machine.Section.TheVariants.{Begun, CountRead, CountPut, CountRenamed, RevPut, PropsPut, RevFirm, CurrentPut, CurrentRenamed, CurrentFirm, Doubtful, Over}
+use Rattle.fsfs_machine.specs.declared.machine.Section.TheVariants.{Begun, CountRead, CountPut, CountRenamed, RevPut, PropsPut, RevFirm, CurrentPut, CurrentRenamed, CurrentFirm, Doubtful, PackPut, ManifestPut, PackFirm, FloorPut, FloorRenamed, Packed, FloorDoubtful, Over}
 use Rattle.fsfs_machine.specs.declared.machine.Lock.{Lock}
-use Rattle.fsfs_machine.specs.declared.machine.Lock.TheVariants.{Free, Held, Stuck, Down, DownDoubtful}
+use Rattle.fsfs_machine.specs.declared.machine.Lock.TheVariants.{Free, Held, Stuck, Down, DownDoubtful, StuckFloor, DownFloor}
 use Rattle.fsfs_machine.specs.declared.machine.Outcome.{Outcome}
 use Rattle.fsfs_machine.specs.declared.machine.Outcome.TheVariants as outcome
 use Rattle.fsfs_machine.specs.declared.machine.Step.{Step}
 use Rattle.fsfs_machine.specs.declared.machine.Step.TheVariants as step
 use Rattle.fsfs_machine.specs.Machine.{World, Happens, did, barred, at_place, held_by, inside, is_there, is_up, is_quiet, looked, taken, let_go, stuck_at, recorded, reveals, revealed, with_next, stuck_place}
-use Rattle.fsfs_machine.specs.Kept.{Kept, IsHolder, coming}
+use Rattle.fsfs_machine.specs.Kept.{Kept, IsHolder, coming, most_floor, may_rise}
 use Rattle.fsfs_machine.proofs.Answering.{seen_of}
 use Rattle.fsfs_machine.proofs.Steps.{step_keeps}
 use Rattle.fsfs_machine.proofs.Whose.{length_at}
@@ -62,12 +62,12 @@ stuck_view place v = record v { pass = record v.pass { stuck = Some place } }
 
 -- ---- the steps
 
-module _ (layout : Layout) (young : ℕ) (stuck : Option DiskPlace) (t : Trace) (w : World) (v : View) (store : IsStore layout young stuck t w) (sees : Sees w v) (safe : Safe layout v.since t v.opened w.floor w.history (doubt w.lock)) where
+module _ (layout : Layout) (low young : ℕ) (stuck : Option DiskPlace) (t : Trace) (w : World) (v : View) (store : IsStore layout low young stuck t w) (sees : Sees w v) (safe : Safe layout v.since t v.opened w.history (doubt w.lock)) where
   there : is_there (with_txns [] w) v.number ≡ true
   there = there_in w.passes v.number v.pass sees.pass
 
-  safe_as : (lock : Lock) → w.lock ≡ lock → Safe layout v.since t v.opened w.floor w.history (doubt lock)
-  safe_as lock is = subst (λ l. Safe layout v.since t v.opened w.floor w.history (doubt l)) is safe
+  safe_as : (lock : Lock) → w.lock ≡ lock → Safe layout v.since t v.opened w.history (doubt lock)
+  safe_as lock is = subst (λ l. Safe layout v.since t v.opened w.history (doubt l)) is safe
 
   -- the step keeps what is kept
   kept_by : (s : Step) (o : Outcome) (after : World) → Happens (with_txns [] w) s (did after o) → Kept (with_txns [] after)
@@ -84,10 +84,10 @@ module _ (layout : Layout) (young : ℕ) (stuck : Option DiskPlace) (t : Trace) 
   knowing pass section sure left = record v { pass = pass; section = section; sure = sure; left = left }
 
   moved_by : (s : Step) (o : Outcome) (passes : List Pass) (lock : Lock) (pass : Pass) (section : Option Section) (sure : Bool) (left : Option Coming) → Happens (with_txns [] w) s (did (now passes lock) o) → Sees (now passes lock) (knowing pass section sure left)
-      → IfSome (coming lock) (λ x. BytesShow (with_next w.history x)) → Safe layout v.since t v.opened w.floor w.history (doubt lock) → Spares v.number w (now passes lock) → Moved layout young t w v (knowing pass section sure left) lock
-  moved_by s o passes lock pass section sure left happens seen next safe spares = record {
+      → IfSome (coming lock) (λ x. BytesShow (with_next w.history x)) → may_rise lock ≡ false → Safe layout v.since t v.opened w.history (doubt lock) → Spares v.number w (now passes lock) → Moved layout low young t w v (knowing pass section sure left) lock
+  moved_by s o passes lock pass section sure left happens seen next level safe spares = record {
     world = now passes lock;
-    store = record { trace = store.trace; whole = store.whole; kept = kept_by s o (now passes lock) happens; shown = store.shown; coming = next; young_is = store.young_is; stuck_is = refl };
+    store = record { trace = store.trace; size = store.size; whole = store.whole; kept = kept_by s o (now passes lock) happens; shown = store.shown; coming = next; low_is = store.low_is; floor_is = store.floor_is; level = level; young_is = store.young_is; stuck_is = refl };
     lock_is = refl;
     sees = seen;
     safe = safe;
@@ -100,11 +100,11 @@ module _ (layout : Layout) (young : ℕ) (stuck : Option DiskPlace) (t : Trace) 
 
   -- it changes what its pass knows
   pass_spares : (f : Pass → Pass) → Spares v.number w (now (at_place w.passes v.number f) w.lock)
-  pass_spares f = record { passes = λ q apart. at_other w.passes v.number q f apart; count = length_at w.passes v.number f; grows = begins_itself w.history; locks = λ q apart. refl; still = λ q s apart held. (refl, refl); floor = refl; given = λ k i. i; full = λ last. last; disk = λ q s apart held. refl }
+  pass_spares f = record { passes = λ q apart. at_other w.passes v.number q f apart; count = length_at w.passes v.number f; grows = begins_itself w.history; locks = λ q apart. refl; still = λ q s apart held. (refl, refl); floor = refl; low = refl; given = λ k i. i; full = λ last. last; disk = λ q s apart held. refl }
 
   -- it moves the lock
   lock_spares : (lock : Lock) → ((q : ℕ) → (q ≡ v.number → ⊥) → held_by q lock ≡ held_by q w.lock) → Spares v.number w (now w.passes lock)
-  lock_spares lock locks = record { passes = λ q apart. refl; count = refl; grows = begins_itself w.history; locks = locks; still = λ q s apart held. (refl, refl); floor = refl; given = λ k i. i; full = λ last. last; disk = λ q s apart held. refl }
+  lock_spares lock locks = record { passes = λ q apart. refl; count = refl; grows = begins_itself w.history; locks = locks; still = λ q s apart held. (refl, refl); floor = refl; low = refl; given = λ k i. i; full = λ last. last; disk = λ q s apart held. refl }
 
   -- ---- a look
 
@@ -128,15 +128,15 @@ module _ (layout : Layout) (young : ℕ) (stuck : Option DiskPlace) (t : Trace) 
     names = sees.names;
   }
 
-  pub look_comes : Looked young v (looked_view young v) × Moved layout young t w v (looked_view young v) w.lock
+  pub look_comes : Looked young v (looked_view young v) × Moved layout low young t w v (looked_view young v) w.lock
   look_comes = (
     record {
       turned = subst (λ k. Turned [] (step.Look v.number) (outcome.Youngest k) v (looked_view young v)) store.young_is (turned_by (step.Look v.number) (outcome.Youngest w.young) (now (at_place w.passes v.number tells) w.lock) (looked_view young v) look_happens look_sees);
       is = refl;
-      least = let up : w.young + 1 ≡ length w.history = store.kept.young sees.up in omega (arith, up, store.young_is, (seen_of (length w.history) w.floor w.passes v.number v.pass store.kept.seen sees.pass).least);
+      least = let up : w.young + 1 ≡ length w.history = store.kept.young sees.up in omega (arith, up, store.young_is, (seen_of (length w.history) w.low (most_floor (may_rise w.lock) w.size w.floor) w.passes v.number v.pass store.kept.seen sees.pass).least);
       seen = let up : w.young + 1 ≡ length w.history = store.kept.young sees.up in omega (arith, up, store.young_is, seen_within w v sees);
     },
-    moved_by (step.Look v.number) (outcome.Youngest w.young) (at_place w.passes v.number tells) w.lock (record v.pass { least = young }) v.section (is_held v.section) v.left look_happens look_sees store.coming safe (pass_spares tells),
+    moved_by (step.Look v.number) (outcome.Youngest w.young) (at_place w.passes v.number tells) w.lock (record v.pass { least = young }) v.section (is_held v.section) v.left look_happens look_sees store.coming store.level safe (pass_spares tells),
   )
 
   -- ---- the lock is taken, or found stuck
@@ -147,10 +147,10 @@ module _ (layout : Layout) (young : ℕ) (stuck : Option DiskPlace) (t : Trace) 
   take_sees : Sees (now w.passes (Held v.number Begun)) (locked_view v)
   take_sees = record { pass = sees.pass; seen = sees.seen; section = held_here v.number Begun; up = refl; sure = λ e. absurd cc; whole = λ x e. absurd cc; given = sees.given; opened = sees.opened; shown = sees.shown; names = names_stay v.full v.section (Some Begun) w.disk w.disk refl refl sees.names }
 
-  pub take_comes : w.lock ≡ Free → LockTaken v (locked_view v) × Moved layout young t w v (locked_view v) (Held v.number Begun)
+  pub take_comes : w.lock ≡ Free → LockTaken v (locked_view v) × Moved layout low young t w v (locked_view v) (Held v.number Begun)
   take_comes free = (
     record { turned = turned_by (step.TakeLock v.number) outcome.Done (now w.passes (Held v.number Begun)) (locked_view v) (taken_at Free free) take_sees; is = refl },
-    moved_by (step.TakeLock v.number) outcome.Done w.passes (Held v.number Begun) v.pass (Some Begun) false v.left (taken_at Free free) take_sees tt (safe_as Free free)
+    moved_by (step.TakeLock v.number) outcome.Done w.passes (Held v.number Begun) v.pass (Some Begun) false v.left (taken_at Free free) take_sees tt refl (safe_as Free free)
         (lock_spares (Held v.number Begun) (λ q apart. held_other v.number q Begun apart ∙ sym (ap (λ l. held_by q l) free))),
   )
 
@@ -160,10 +160,18 @@ module _ (layout : Layout) (young : ℕ) (stuck : Option DiskPlace) (t : Trace) 
   find_sees : (place : DiskPlace) → Sees (now (at_place w.passes v.number (learns_of place)) w.lock) (stuck_view place v)
   find_sees place = record { pass = at_itself w.passes v.number (learns_of place) v.pass sees.pass; seen = sees.seen; section = sees.section; up = sees.up; sure = sees.sure; whole = sees.whole; given = sees.given; opened = sees.opened; shown = sees.shown; names = sees.names }
 
-  pub find_comes : (place : DiskPlace) (x : Coming) → w.lock ≡ Stuck place x → FoundStuck place v (stuck_view place v) × Moved layout young t w v (stuck_view place v) w.lock
-  find_comes place x is = (
-    record { turned = turned_by (step.TakeLock v.number) (outcome.Stuck place) (now (at_place w.passes v.number (learns_of place)) w.lock) (stuck_view place v) (taken_at (Stuck place x) is) (find_sees place); is = refl },
-    moved_by (step.TakeLock v.number) (outcome.Stuck place) (at_place w.passes v.number (learns_of place)) w.lock (learns_of place v.pass) v.section v.sure v.left (taken_at (Stuck place x) is) (find_sees place) store.coming safe (pass_spares (learns_of place)),
+  abbrev Finds : DiskPlace → Type 0
+  Finds place = did (now (at_place w.passes v.number (learns_of place)) w.lock) (outcome.Stuck place) ≡ (if is_there (with_txns [] w) v.number then taken (with_txns [] w) v.number w.lock else barred (with_txns [] w))
+
+  find_happens : (place : DiskPlace) (lock : Lock) → w.lock ≡ lock → stuck_place lock ≡ Some place → Finds place
+  find_happens place (Stuck at x) is e = let same : at ≡ place = cc in subst (λ p. Finds p) same (taken_at (Stuck at x) is)
+  find_happens place (StuckFloor at) is e = let same : at ≡ place = cc in subst (λ p. Finds p) same (taken_at (StuckFloor at) is)
+  find_happens place lock is e = absurd cc
+
+  pub find_comes : (place : DiskPlace) → stuck_place w.lock ≡ Some place → FoundStuck place v (stuck_view place v) × Moved layout low young t w v (stuck_view place v) w.lock
+  find_comes place at = (
+    record { turned = turned_by (step.TakeLock v.number) (outcome.Stuck place) (now (at_place w.passes v.number (learns_of place)) w.lock) (stuck_view place v) (find_happens place w.lock refl at) (find_sees place); is = refl },
+    moved_by (step.TakeLock v.number) (outcome.Stuck place) (at_place w.passes v.number (learns_of place)) w.lock (learns_of place v.pass) v.section v.sure v.left (find_happens place w.lock refl at) (find_sees place) store.coming store.level safe (pass_spares (learns_of place)),
   )
 
   -- ---- it is given, or left stuck
@@ -181,11 +189,11 @@ module _ (layout : Layout) (young : ℕ) (stuck : Option DiskPlace) (t : Trace) 
   give_happens : (s : Section) → v.section ≡ Some s → is_quiet s ≡ true → did (now w.passes Free) outcome.Done ≡ inside (with_txns [] w) (let_go (with_txns [] w)) (held_by v.number w.lock)
   give_happens s is quiet = sym (ap (λ o. inside (with_txns [] w) (let_go (with_txns [] w)) o) (sees.section ∙ is) ∙ ap (λ b. cond b (did (now w.passes Free) outcome.Done) (barred (with_txns [] w))) quiet)
 
-  pub give_comes : (s : Section) → v.section ≡ Some s → is_quiet s ≡ true → LockGiven (step.GiveLock v.number) v (outside v) × Moved layout young t w v (outside v) Free
+  pub give_comes : (s : Section) → v.section ≡ Some s → is_quiet s ≡ true → LockGiven (step.GiveLock v.number) v (outside v) × Moved layout low young t w v (outside v) Free
   give_comes s is quiet = (
     record { turned = turned_by (step.GiveLock v.number) outcome.Done (now w.passes Free) (outside v) (give_happens s is quiet) (outside_sees Free refl refl); is = refl },
-    moved_by (step.GiveLock v.number) outcome.Done w.passes Free v.pass None false (left_by v.section v.left) (give_happens s is quiet) (outside_sees Free refl refl) tt
-        (subst (λ d. Safe layout v.since t v.opened w.floor w.history d) (quiet_doubt s quiet) (safe_as (Held v.number s) (held_in s is)))
+    moved_by (step.GiveLock v.number) outcome.Done w.passes Free v.pass None false (left_by v.section v.left) (give_happens s is quiet) (outside_sees Free refl refl) tt refl
+        (subst (λ d. Safe layout v.since t v.opened w.history d) (quiet_doubt s quiet) (safe_as (Held v.number s) (held_in s is)))
         (lock_spares Free (λ q apart. sym (others_none s is q apart))),
   )
 
@@ -196,10 +204,10 @@ module _ (layout : Layout) (young : ℕ) (stuck : Option DiskPlace) (t : Trace) 
   stick_happens : (place : DiskPlace) (x : Coming) → v.section ≡ Some (Doubtful place x) → did (now w.passes (Stuck place x)) outcome.Done ≡ inside (with_txns [] w) (stuck_at (with_txns [] w)) (held_by v.number w.lock)
   stick_happens place x is = sym (ap (λ o. inside (with_txns [] w) (stuck_at (with_txns [] w)) o) (sees.section ∙ is))
 
-  pub stick_comes : (place : DiskPlace) (x : Coming) → v.section ≡ Some (Doubtful place x) → LockGiven (step.StickLock v.number) v (outside v) × Moved layout young t w v (outside v) (Stuck place x)
+  pub stick_comes : (place : DiskPlace) (x : Coming) → v.section ≡ Some (Doubtful place x) → LockGiven (step.StickLock v.number) v (outside v) × Moved layout low young t w v (outside v) (Stuck place x)
   stick_comes place x is = (
     record { turned = turned_by (step.StickLock v.number) outcome.Done (now w.passes (Stuck place x)) (outside v) (stick_happens place x is) (outside_sees (Stuck place x) refl refl); is = refl },
-    moved_by (step.StickLock v.number) outcome.Done w.passes (Stuck place x) v.pass None false (left_by v.section v.left) (stick_happens place x is) (outside_sees (Stuck place x) refl refl) (next_shows (Doubtful place x) x is refl)
+    moved_by (step.StickLock v.number) outcome.Done w.passes (Stuck place x) v.pass None false (left_by v.section v.left) (stick_happens place x is) (outside_sees (Stuck place x) refl refl) (next_shows (Doubtful place x) x is refl) refl
         (safe_as (Held v.number (Doubtful place x)) (held_in (Doubtful place x) is))
         (lock_spares (Stuck place x) (λ q apart. sym (others_none (Doubtful place x) is q apart))),
   )
@@ -244,20 +252,21 @@ module _ (layout : Layout) (young : ℕ) (stuck : Option DiskPlace) (t : Trace) 
       locks = λ q apart. held_other v.number q Over apart ∙ sym (others_none (CurrentFirm x) is q apart);
       still = λ q s apart held. let none : held_by q w.lock ≡ None = others_none (CurrentFirm x) is q apart in absurd cc;
       floor = refl;
+      low = refl;
       given = λ k i. i;
       full = λ last. last;
       disk = λ q s apart held. refl;
     }
 
-    pub reveal_comes : (rev : ℕ) → rev ≡ length v.seen → Revealed x v (revealed_view x v) × Moved layout rev t w v (revealed_view x v) (Held v.number Over)
+    pub reveal_comes : (rev : ℕ) → rev ≡ length v.seen → Revealed x v (revealed_view x v) × Moved layout low rev t w v (revealed_view x v) (Held v.number Over)
     reveal_comes rev rev_is = (
       record { turned = turned_by (step.Reveal v.number) outcome.Done shown_on (revealed_view x v) reveal_happens reveal_sees; is = refl },
       record {
         world = shown_on;
-        store = record { trace = store.trace; whole = store.whole; kept = kept_by (step.Reveal v.number) outcome.Done shown_on reveal_happens; shown = all_show; coming = tt; young_is = ap length (sym all) ∙ sym rev_is; stuck_is = refl };
+        store = record { trace = store.trace; size = store.size; whole = store.whole; kept = kept_by (step.Reveal v.number) outcome.Done shown_on reveal_happens; shown = all_show; coming = tt; low_is = store.low_is; floor_is = store.floor_is; level = refl; young_is = ap length (sym all) ∙ sym rev_is; stuck_is = refl };
         lock_is = refl;
         sees = reveal_sees;
-        safe = safe_more layout v.since v.opened w.floor t w.history (with_next w.history x) (Some x) None (λ g q. part_revealed w.history x g q) (safe_as (Held v.number (CurrentFirm x)) (held_in (CurrentFirm x) is));
+        safe = safe_more layout v.since v.opened t w.history (with_next w.history x) (Some x) None (λ g q. part_revealed w.history x g q) (safe_as (Held v.number (CurrentFirm x)) (held_in (CurrentFirm x) is));
         spares = reveal_spares;
         layout_is = refl;
         since_is = refl;
@@ -281,12 +290,19 @@ quiet_left (RevFirm x) left quiet = refl
 quiet_left (CurrentPut x) left quiet = refl
 quiet_left (CurrentRenamed x) left quiet = refl
 quiet_left (CurrentFirm x) left quiet = refl
+quiet_left PackPut left quiet = refl
+quiet_left ManifestPut left quiet = refl
+quiet_left PackFirm left quiet = refl
+quiet_left FloorPut left quiet = refl
+quiet_left FloorRenamed left quiet = refl
+quiet_left Packed left quiet = refl
+quiet_left (FloorDoubtful place) left quiet = refl
 quiet_left Over left quiet = refl
 
-module _ (layout : Layout) (young : ℕ) (stuck : Option DiskPlace) (t : Trace) (w : World) (v : View) (store : IsStore layout young stuck t w) (sees : Sees w v) (layout_is : v.layout ≡ layout) (number_is : v.number ≡ 0) (safe : Safe layout v.since t v.opened w.floor w.history (doubt w.lock)) (alone : length w.passes ≡ 1)
+module _ (layout : Layout) (low young : ℕ) (stuck : Option DiskPlace) (t : Trace) (w : World) (v : View) (store : IsStore layout low young stuck t w) (sees : Sees w v) (layout_is : v.layout ≡ layout) (number_is : v.number ≡ 0) (safe : Safe layout v.since t v.opened w.history (doubt w.lock)) (alone : length w.passes ≡ 1)
     (left_so : stuck_with w.lock ≡ v.left) where
-  known_so : (youngest : ℕ) (at : Option DiskPlace) (u : View) (lock : Lock) (P : View → Type 0) → stuck_place lock ≡ at → stuck_with lock ≡ u.left → P u × Moved layout youngest t w v u lock → (z : View) × Knows layout youngest at (Some t) z × P z
-  known_so youngest at u lock P at_is left_is comes = (u, known_moved layout youngest at t w v u lock layout_is number_is alone at_is left_is comes.1, comes.0)
+  known_so : (youngest : ℕ) (at : Option DiskPlace) (u : View) (lock : Lock) (P : View → Type 0) → stuck_place lock ≡ at → stuck_with lock ≡ u.left → P u × Moved layout low youngest t w v u lock → (z : View) × Knows layout low youngest at (Some t) z × P z
+  known_so youngest at u lock P at_is left_is comes = (u, known_moved layout low youngest at t w v u lock layout_is number_is alone at_is left_is comes.1, comes.0)
 
   -- nobody holds the lock where its pass is in no section
   not_held : v.section ≡ None → (q : ℕ) (s : Section) → w.lock ≡ Held q s → ⊥
@@ -307,6 +323,8 @@ module _ (layout : Layout) (young : ℕ) (stuck : Option DiskPlace) (t : Trace) 
       by_lock (Stuck place x) is = ap (λ l. doubt l) is ∙ sym (ap (λ l. stuck_with l) is)
       by_lock Down is = ap (λ l. doubt l) is ∙ sym (ap (λ l. stuck_with l) is)
       by_lock (DownDoubtful x) is = let e : false ≡ true = ap is_up (sym is) ∙ sees.up in absurd cc
+      by_lock (StuckFloor place) is = ap (λ l. doubt l) is ∙ sym (ap (λ l. stuck_with l) is)
+      by_lock DownFloor is = ap (λ l. doubt l) is ∙ sym (ap (λ l. stuck_with l) is)
 
   -- a lock that nobody holds and that isn't stuck is free
   pub free : v.section ≡ None → stuck ≡ None → w.lock ≡ Free
@@ -318,40 +336,31 @@ module _ (layout : Layout) (young : ℕ) (stuck : Option DiskPlace) (t : Trace) 
       by_lock (Stuck place x) is = let e : Some place ≡ None = ap stuck_place (sym is) ∙ store.stuck_is ∙ not_stuck in absurd cc
       by_lock Down is = let e : false ≡ true = ap is_up (sym is) ∙ sees.up in absurd cc
       by_lock (DownDoubtful x) is = let e : false ≡ true = ap is_up (sym is) ∙ sees.up in absurd cc
-
-  -- where it is stuck
-  pub stuck_lock : (place : DiskPlace) → stuck ≡ Some place → (x : Coming) × (w.lock ≡ Stuck place x)
-  stuck_lock place is_stuck = by_lock w.lock refl
-    where
-      by_lock : (lock : Lock) → w.lock ≡ lock → (x : Coming) × (w.lock ≡ Stuck place x)
-      by_lock Free is = let e : None ≡ Some place = ap stuck_place (sym is) ∙ store.stuck_is ∙ is_stuck in absurd cc
-      by_lock (Held q s) is = let e : None ≡ Some place = ap stuck_place (sym is) ∙ store.stuck_is ∙ is_stuck in absurd cc
-      by_lock (Stuck at x) is = let e : Some at ≡ Some place = ap stuck_place (sym is) ∙ store.stuck_is ∙ is_stuck in let same : at ≡ place = cc in (x, is ∙ ap (λ p. Stuck p x) same)
-      by_lock Down is = let e : None ≡ Some place = ap stuck_place (sym is) ∙ store.stuck_is ∙ is_stuck in absurd cc
-      by_lock (DownDoubtful x) is = let e : None ≡ Some place = ap stuck_place (sym is) ∙ store.stuck_is ∙ is_stuck in absurd cc
+      by_lock (StuckFloor place) is = let e : Some place ≡ None = ap stuck_place (sym is) ∙ store.stuck_is ∙ not_stuck in absurd cc
+      by_lock DownFloor is = let e : false ≡ true = ap is_up (sym is) ∙ sees.up in absurd cc
 
   -- a lock that its pass holds isn't stuck
   unstuck : (s : Section) → v.section ≡ Some s → None ≡ stuck
-  unstuck s is = sym (ap stuck_place (held_in layout young stuck t w v store sees safe s is)) ∙ store.stuck_is
+  unstuck s is = sym (ap stuck_place (held_in layout low young stuck t w v store sees safe s is)) ∙ store.stuck_is
 
   -- nor did it leave a revision in doubt
   none_left : (s : Section) → v.section ≡ Some s → None ≡ v.left
-  none_left s is = sym (ap (λ l. stuck_with l) (held_in layout young stuck t w v store sees safe s is)) ∙ left_so
+  none_left s is = sym (ap (λ l. stuck_with l) (held_in layout low young stuck t w v store sees safe s is)) ∙ left_so
 
-  pub looks : (u : View) × Knows layout young stuck (Some t) u × Looked young v u
-  looks = known_so young stuck (looked_view young v) w.lock (λ u. Looked young v u) store.stuck_is left_so (look_comes layout young stuck t w v store sees safe)
+  pub looks : (u : View) × Knows layout low young stuck (Some t) u × Looked young v u
+  looks = known_so young stuck (looked_view young v) w.lock (λ u. Looked young v u) store.stuck_is left_so (look_comes layout low young stuck t w v store sees safe)
 
-  pub takes : v.section ≡ None → stuck ≡ None → (u : View) × Knows layout young stuck (Some t) u × LockTaken v u
-  takes none not_stuck = known_so young stuck (locked_view v) (Held v.number Begun) (λ u. LockTaken v u) (sym not_stuck) (sym (ap (λ l. stuck_with l) (free none not_stuck)) ∙ left_so) (take_comes layout young stuck t w v store sees safe (free none not_stuck))
+  pub takes : v.section ≡ None → stuck ≡ None → (u : View) × Knows layout low young stuck (Some t) u × LockTaken v u
+  takes none not_stuck = known_so young stuck (locked_view v) (Held v.number Begun) (λ u. LockTaken v u) (sym not_stuck) (sym (ap (λ l. stuck_with l) (free none not_stuck)) ∙ left_so) (take_comes layout low young stuck t w v store sees safe (free none not_stuck))
 
-  pub finds_stuck : (place : DiskPlace) → stuck ≡ Some place → (u : View) × Knows layout young stuck (Some t) u × FoundStuck place v u
-  finds_stuck place is_stuck = let at = stuck_lock place is_stuck in known_so young stuck (stuck_view place v) w.lock (λ u. FoundStuck place v u) store.stuck_is left_so (find_comes layout young stuck t w v store sees safe place at.0 at.1)
+  pub finds_stuck : (place : DiskPlace) → stuck ≡ Some place → (u : View) × Knows layout low young stuck (Some t) u × FoundStuck place v u
+  finds_stuck place is_stuck = known_so young stuck (stuck_view place v) w.lock (λ u. FoundStuck place v u) store.stuck_is left_so (find_comes layout low young stuck t w v store sees safe place (store.stuck_is ∙ is_stuck))
 
-  pub gives_lock : (s : Section) → v.section ≡ Some s → is_quiet s ≡ true → (u : View) × Knows layout young stuck (Some t) u × LockGiven (step.GiveLock v.number) v u
-  gives_lock s is quiet = known_so young stuck (outside v) Free (λ u. LockGiven (step.GiveLock v.number) v u) (unstuck s is) (none_left s is ∙ sym (ap (λ o. left_by o v.left) is ∙ quiet_left s v.left quiet)) (give_comes layout young stuck t w v store sees safe s is quiet)
+  pub gives_lock : (s : Section) → v.section ≡ Some s → is_quiet s ≡ true → (u : View) × Knows layout low young stuck (Some t) u × LockGiven (step.GiveLock v.number) v u
+  gives_lock s is quiet = known_so young stuck (outside v) Free (λ u. LockGiven (step.GiveLock v.number) v u) (unstuck s is) (none_left s is ∙ sym (ap (λ o. left_by o v.left) is ∙ quiet_left s v.left quiet)) (give_comes layout low young stuck t w v store sees safe s is quiet)
 
-  pub sticks : (place : DiskPlace) (x : Coming) → v.section ≡ Some (Doubtful place x) → (u : View) × Knows layout young (Some place) (Some t) u × LockGiven (step.StickLock v.number) v u
-  sticks place x is = known_so young (Some place) (outside v) (Stuck place x) (λ u. LockGiven (step.StickLock v.number) v u) refl (sym (ap (λ o. left_by o v.left) is)) (stick_comes layout young stuck t w v store sees safe place x is)
+  pub sticks : (place : DiskPlace) (x : Coming) → v.section ≡ Some (Doubtful place x) → (u : View) × Knows layout low young (Some place) (Some t) u × LockGiven (step.StickLock v.number) v u
+  sticks place x is = known_so young (Some place) (outside v) (Stuck place x) (λ u. LockGiven (step.StickLock v.number) v u) refl (sym (ap (λ o. left_by o v.left) is)) (stick_comes layout low young stuck t w v store sees safe place x is)
 
-  pub reveals_it : (x : Coming) (rev : ℕ) → v.section ≡ Some (CurrentFirm x) → rev ≡ length v.seen → (u : View) × Knows layout rev stuck (Some t) u × Revealed x v u
-  reveals_it x rev is rev_is = known_so rev stuck (revealed_view x v) (Held v.number Over) (λ u. Revealed x v u) (unstuck (CurrentFirm x) is) (none_left (CurrentFirm x) is) (reveal_comes layout young stuck t w v store sees safe x is rev rev_is)
+  pub reveals_it : (x : Coming) (rev : ℕ) → v.section ≡ Some (CurrentFirm x) → rev ≡ length v.seen → (u : View) × Knows layout low rev stuck (Some t) u × Revealed x v u
+  reveals_it x rev is rev_is = known_so rev stuck (revealed_view x v) (Held v.number Over) (λ u. Revealed x v u) (unstuck (CurrentFirm x) is) (none_left (CurrentFirm x) is) (reveal_comes layout low young stuck t w v store sees safe x is rev rev_is)

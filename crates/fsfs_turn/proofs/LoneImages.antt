@@ -28,7 +28,7 @@ some_is_none x e = cc
 all_of_it : (h g : List Recorded) (d : Option Coming) → d ≡ None → IsPart h d g → length h ≤ length g → g ≡ h
 all_of_it h g d is part le = ⊎_elim (λ b. sym (same_by_length g h b le)) (λ y. absurd (some_is_none y.0 (sym is ∙ y.1))) part
 
-module _ (layout : Layout) (young : ℕ) (stuck : Option DiskPlace) (t : Trace) (v : View) (known : KnowsAlone layout young stuck (Some t) v) where
+module _ (layout : Layout) (low young : ℕ) (stuck : Option DiskPlace) (t : Trace) (v : View) (known : KnowsAlone layout low young stuck (Some t) v) where
   long : length known.0.0.history ≡ length v.seen
   long = let up : known.0.0.young + 1 ≡ length known.0.0.history = known.0.1.kept.young known.0.2.up in omega (arith, up, known.0.1.young_is, known.1.all)
 
@@ -41,7 +41,7 @@ module _ (layout : Layout) (young : ℕ) (stuck : Option DiskPlace) (t : Trace) 
   follows = subst (λ h. IfSome (doubt known.0.0.lock) (Follows h)) all_seen (if_doubtful (Follows known.0.0.history) known.0.0.lock known.0.1.kept.next)
 
   quiet : v.section ≡ None → stuck ≡ None → doubt known.0.0.lock ≡ None
-  quiet outside unstuck = ap (λ l. doubt l) (free layout young stuck t known.0.0 v known.0.1 known.0.2 known.0.3 known.0.4 known.0.5 known.0.6 known.0.7 outside unstuck)
+  quiet outside unstuck = ap (λ l. doubt l) (free layout low young stuck t known.0.0 v known.0.1 known.0.2 known.0.3 known.0.4 known.0.5 known.0.6 known.0.7 outside unstuck)
 
   -- the same of each moment since the opening, in the middle of a call too
   moment_stands : (m : Files) → ImageSince v.since.operations t.first t.operations m → (g : List Recorded) × IsPart v.seen (doubt known.0.0.lock) g × (v.opened ≤ length g) × HasHistory layout m g × StandsFor m (revisions g)
@@ -49,33 +49,34 @@ module _ (layout : Layout) (young : ℕ) (stuck : Option DiskPlace) (t : Trace) 
       let w = known.0.0 in
       let store = known.0.1 in
       let left = known.0.5 m image in
-      let p = left.2 in
+      let stood = left.2 in
+      let p = stood.3 in
       let names = p.1.1 in
       let some : 0 < length p.0 = omega (arith, names.2) in
-      let has = has_history layout w.floor m left.0 p.0 store.whole left.3 left.1 p.1 (part_shown w.history w.lock p.0 store.shown store.coming some p.3) in (
+      let has = has_history layout stood.0 m left.0 p.0 stood.1 stood.2 left.1 p.1 (part_shown w.history w.lock p.0 store.shown store.coming some p.3) in (
         p.0,
         subst (λ h. IsPart h (doubt w.lock) p.0) all_seen p.3,
         p.2,
         has,
-        files_stand layout w.floor m left.0 p.0 store.whole left.1 left.3 left.4 p.4 has (known.2 m image).0,
+        files_stand layout stood.0 m left.0 p.0 stood.1 left.1 stood.2 stood.4 p.4 has (known.2 m image).0,
       )
 
   image_stands : (m : Files) → IsImage t.first t.operations m → (g : List Recorded) × IsPart v.seen (doubt known.0.0.lock) g × (length v.seen ≤ length g) × HasHistory layout m g × StandsFor m (revisions g)
   image_stands m image =
-      let p = part_stands layout young stuck t v known.0 ((own_now layout v.since t known.2).0) m image in (p.0, subst (λ h. IsPart h (doubt known.0.0.lock) p.0) all_seen p.1, omega (arith, p.2, long), p.3, p.4)
+      let p = part_stands layout low young stuck t v known.0 ((own_now layout v.since t known.2).0) m image in (p.0, subst (λ h. IsPart h (doubt known.0.0.lock) p.0) all_seen p.1, omega (arith, p.2, long), p.3, p.4)
 
   pub lone_images : LoneImages layout stuck t v
-  lone_images = record { doubt = doubt known.0.0.lock; follows = follows; moments = moment_stands; now = image_stands; certain = quiet; left = doubt_left layout young stuck t known.0.0 v known.0.1 known.0.2 known.0.3 known.0.4 known.0.5 known.0.6 known.0.7 }
+  lone_images = record { doubt = doubt known.0.0.lock; follows = follows; moments = moment_stands; now = image_stands; certain = quiet; left = doubt_left layout low young stuck t known.0.0 v known.0.1 known.0.2 known.0.3 known.0.4 known.0.5 known.0.6 known.0.7 }
 
 pub lone_images_stand : LoneImagesStand
-lone_images_stand layout young stuck t v known = lone_images layout young stuck t v known
+lone_images_stand layout low young stuck t v known = lone_images layout low young stuck t v known
 
 pub nothing_in_doubt : NothingInDoubt
-nothing_in_doubt layout young stuck t v known outside harmless =
+nothing_in_doubt layout low young stuck t v known outside harmless =
     let unstuck : stuck ≡ None = known.1.free harmless in (
       unstuck,
       λ m image.
-          let l = lone_images layout young stuck t v known in
+          let l = lone_images layout low young stuck t v known in
           let s = l.now m image in
           let same : s.0 ≡ v.seen = all_of_it v.seen s.0 l.doubt (l.certain outside unstuck) s.1 s.2 in
           (subst (λ g. HasHistory layout m g) same s.3, subst (λ g. StandsFor m (revisions g)) same s.4),

@@ -25,6 +25,7 @@ pub record Spares (p : ℕ) (w after : World) : Type 0 where
   -- while another holds the lock no revision comes
   pub still : (q : ℕ) (s : Section) → (q ≡ p → ⊥) → held_by q w.lock ≡ Some s → (after.young ≡ w.young) × (after.history ≡ w.history)
   pub floor : after.floor ≡ w.floor
+  pub low : after.low ≡ w.low
   pub given : (k : ℕ) → IsIn k w.given → IsIn k after.given
   -- where no name was left none is
   pub full : IsFull w.disk → IsFull after.disk
@@ -32,12 +33,12 @@ pub record Spares (p : ℕ) (w after : World) : Type 0 where
   pub disk : (q : ℕ) (s : Section) → (q ≡ p → ⊥) → held_by q w.lock ≡ Some s → after.disk ≡ w.disk
 
 -- The state after a step by which the pass that knew v knows u, and the lock is this: the store with this trace is in it.
-pub record Moved (layout : Layout) (young : ℕ) (t : Trace) (w : World) (v u : View) (lock : Lock) : Type 0 where
+pub record Moved (layout : Layout) (low young : ℕ) (t : Trace) (w : World) (v u : View) (lock : Lock) : Type 0 where
   pub world : World
-  pub store : IsStore layout young (stuck_place lock) t world
+  pub store : IsStore layout low young (stuck_place lock) t world
   pub lock_is : world.lock ≡ lock
   pub sees : Sees world u
-  pub safe : Safe layout u.since t u.opened world.floor world.history (doubt world.lock)
+  pub safe : Safe layout u.since t u.opened world.history (doubt world.lock)
   pub spares : Spares v.number w world
   pub layout_is : u.layout ≡ v.layout
   pub since_is : u.since ≡ v.since
@@ -71,15 +72,16 @@ call_spares p w after l = record {
   locks = λ q apart. locks_stay p q w.lock after.lock l.lock apart;
   still = λ q s apart held. (l.young, l.history);
   floor = l.floor;
+  low = l.low;
   given = l.given;
   full = l.full;
   disk = λ q s apart held. disk_stays p q w after s l.disk apart held;
 }
 
-pub call_moved : (layout : Layout) (young : ℕ) (stuck : Option DiskPlace) (t : Trace) (w : World) (v : View) (P : View → Type 0) (a : IsAfter layout young stuck t w v P) → Moved layout young t w v a.view a.world.lock
-call_moved layout young stuck t w v P a = record {
+pub call_moved : (layout : Layout) (low young : ℕ) (stuck : Option DiskPlace) (t : Trace) (w : World) (v : View) (P : View → Type 0) (a : IsAfter layout low young stuck t w v P) → Moved layout low young t w v a.view a.world.lock
+call_moved layout low young stuck t w v P a = record {
   world = a.world;
-  store = record { trace = a.store.trace; whole = a.store.whole; kept = a.store.kept; shown = a.store.shown; coming = a.store.coming; young_is = a.store.young_is; stuck_is = refl };
+  store = record { trace = a.store.trace; size = a.store.size; whole = a.store.whole; kept = a.store.kept; shown = a.store.shown; coming = a.store.coming; low_is = a.store.low_is; floor_is = a.store.floor_is; level = a.store.level; young_is = a.store.young_is; stuck_is = refl };
   lock_is = refl;
   sees = a.sees;
   safe = a.safe;
@@ -93,8 +95,8 @@ call_moved layout young stuck t w v P a = record {
 -- ---- one pass
 
 -- where there is one pass, that is what it knows
-pub known_moved : (layout : Layout) (young : ℕ) (stuck : Option DiskPlace) (t : Trace) (w : World) (v u : View) (lock : Lock) → v.layout ≡ layout → v.number ≡ 0 → length w.passes ≡ 1 → stuck_place lock ≡ stuck → stuck_with lock ≡ u.left
-    → Moved layout young t w v u lock → Knows layout young stuck (Some t) u
-known_moved layout young stuck t w v u lock layout_is number_is alone stuck_is left_is m =
+pub known_moved : (layout : Layout) (low young : ℕ) (stuck : Option DiskPlace) (t : Trace) (w : World) (v u : View) (lock : Lock) → v.layout ≡ layout → v.number ≡ 0 → length w.passes ≡ 1 → stuck_place lock ≡ stuck → stuck_with lock ≡ u.left
+    → Moved layout low young t w v u lock → Knows layout low young stuck (Some t) u
+known_moved layout low young stuck t w v u lock layout_is number_is alone stuck_is left_is m =
     let s = m.store in
-    (m.world, record { trace = s.trace; whole = s.whole; kept = s.kept; shown = s.shown; coming = s.coming; young_is = s.young_is; stuck_is = s.stuck_is ∙ stuck_is }, m.sees, m.layout_is ∙ layout_is, m.number_is ∙ number_is, m.safe, m.spares.count ∙ alone, ap (λ l. stuck_with l) m.lock_is ∙ left_is)
+    (m.world, record { trace = s.trace; size = s.size; whole = s.whole; kept = s.kept; shown = s.shown; coming = s.coming; low_is = s.low_is; floor_is = s.floor_is; level = s.level; young_is = s.young_is; stuck_is = s.stuck_is ∙ stuck_is }, m.sees, m.layout_is ∙ layout_is, m.number_is ∙ number_is, m.safe, m.spares.count ∙ alone, ap (λ l. stuck_with l) m.lock_is ∙ left_is)

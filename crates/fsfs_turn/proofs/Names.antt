@@ -1,19 +1,19 @@
 -- What a step leaves of the number in `txn-current`.
-use Rattle.std.proofs.Common.{◌≡◌, ◌<◌, ◌≤◌, ℕ, ◌∷◌, length, Bool, true, false, cond, sym, ap, subst, ◌∙◌, refl, arith}
-use Rattle.std.specs.Prelude.{Option, Some, None}
+use Rattle.std.proofs.Common.{◌≡◌, ◌<◌, ◌+◌, ◌/◌, ℕ, ◌∷◌, length, Bool, true, false, cond, sym, ap, subst, ◌∙◌, refl, arith}
+use Rattle.std.specs.Prelude.{Option, Some, None, nat_le}
 use Rattle.fsfs_machine.specs.declared.contents.Contents.{Contents}
 use Rattle.fsfs_machine.specs.declared.contents.Contents.TheVariants.{Number, PropsFile}
 use Rattle.fsfs_machine.specs.declared.contents.FileName.{FileName}
-use Rattle.fsfs_machine.specs.declared.contents.FileName.TheVariants.{Counter, CounterNext, Current, CurrentNext, Props}
+use Rattle.fsfs_machine.specs.declared.contents.FileName.TheVariants.{Counter, CounterNext, Current, CurrentNext, Floor, FloorNext, Props, Pack, Manifest}
 use Rattle.fsfs_machine.specs.declared.contents.NameChange.{NameChange}
 use Rattle.fsfs_machine.specs.declared.contents.NameChange.TheVariants.{Put, Rename, Remove, Firm}
 use Rattle.fsfs_machine.specs.Disk.{Disk, found, same_name}
 use Rattle.fsfs_machine.specs.declared.machine.Drawn.{Drawn}
 use Rattle.fsfs_machine.specs.declared.machine.Section.{Section}
-use Rattle.fsfs_machine.specs.declared.machine.Section.TheVariants.{Begun, CountRead, CountPut, CountRenamed, RevPut, PropsPut, RevFirm, CurrentPut, CurrentRenamed, CurrentFirm, Doubtful, Over}
+use Rattle.fsfs_machine.specs.declared.machine.Section.TheVariants.{Begun, CountRead, CountPut, CountRenamed, RevPut, PropsPut, RevFirm, CurrentPut, CurrentRenamed, CurrentFirm, Doubtful, PackPut, ManifestPut, PackFirm, FloorPut, FloorRenamed, Packed, FloorDoubtful, Over}
 use Rattle.fsfs_machine.specs.declared.machine.Went.{Went}
 use Rattle.fsfs_machine.specs.declared.machine.Went.TheVariants.{Fine, Before, After, Torn}
-use Rattle.fsfs_machine.specs.Machine.{World, either, disk_after, after, spoiled, due, rename_of, last_name}
+use Rattle.fsfs_machine.specs.Machine.{World, either, disk_after, after, spoiled, due, rename_of, last_name, next_parts, pack_of, manifest_of}
 use Rattle.fsfs_turn.specs.Views.{IsFull, KnowsNames, drawing_at}
 
 -- it stands as it did, and the section has read none
@@ -94,9 +94,16 @@ module _ (full : Bool) (d : Disk) where
       let same : Rename from to c ≡ change = cc in
       subst (λ z. KnowsNames full (Some t) (disk_after went z d)) same (beside s t (Rename from to c) went none (a, b) k)
 
+  -- a pack's first call, where its shard is full
+  pack_on : (s : Section) (is_full : Bool) (shard : ℕ) (c : Contents) (change : NameChange) (went : Went) → cond is_full (Some (Put (Pack shard) c)) None ≡ Some change → KnowsNames full (Some s) d → KnowsNames full (Some (either went PackPut Over)) (disk_after went change d)
+  pack_on s false shard c change went is k = absurd cc
+  pack_on s true shard c change went is k =
+      let same : Put (Pack shard) c ≡ change = cc in
+      subst (λ z. KnowsNames full (Some (either went PackPut Over)) (disk_after went z d)) same (beside s (either went PackPut Over) (Put (Pack shard) c) went (none_drawn went PackPut Over refl refl) refl k)
+
 -- a call that is due in the section
 pub names_after : (full : Bool) (w : World) (s : Section) (change : NameChange) (went : Went) → due w s ≡ Some change → KnowsNames full (Some s) w.disk → KnowsNames full (Some (either went (after s) (spoiled s))) (disk_after went change w.disk)
-names_after full w Begun change went is k = absurd cc
+names_after full w Begun change went is k = pack_on full w.disk Begun (nat_le (w.floor + w.size) (length w.history)) (w.floor / w.size) (pack_of (next_parts w)) change went is k
 names_after full w (CountRead x) change went is k = let same : Put CounterNext (Number x.next) ≡ change = cc in subst (λ z. KnowsNames full (Some (either went (CountPut x) Over)) (disk_after went z w.disk)) same (read_on full w.disk x went k)
 names_after full w (CountPut x) change went is k = put_on full w.disk x went (disk_after went change w.disk) k
 names_after full w (CountRenamed x) change went is k = let same : Firm ≡ change = cc in subst (λ z. KnowsNames full (Some (either went Over Over)) (disk_after went z w.disk)) same (beside full w.disk (CountRenamed x) (either went Over Over) Firm went (none_drawn went Over Over refl refl) tt k)
@@ -114,6 +121,20 @@ names_after full w (CurrentRenamed x) change went is k =
     subst (λ z. KnowsNames full (Some (either went (CurrentFirm x) (spoiled (CurrentRenamed x)))) (disk_after went z w.disk)) same (beside full w.disk (CurrentRenamed x) (either went (CurrentFirm x) (spoiled (CurrentRenamed x))) Firm went (none_drawn went (CurrentFirm x) (spoiled (CurrentRenamed x)) refl refl) tt k)
 names_after full w (CurrentFirm x) change went is k = absurd cc
 names_after full w (Doubtful place x) change went is k = absurd cc
+names_after full w PackPut change went is k =
+    let put : Put (Manifest (w.floor / w.size)) (manifest_of (next_parts w)) ≡ change = cc in
+    subst (λ z. KnowsNames full (Some (either went ManifestPut Over)) (disk_after went z w.disk)) put (beside full w.disk PackPut (either went ManifestPut Over) (Put (Manifest (w.floor / w.size)) (manifest_of (next_parts w))) went (none_drawn went ManifestPut Over refl refl) refl k)
+names_after full w ManifestPut change went is k = let same : Firm ≡ change = cc in subst (λ z. KnowsNames full (Some (either went PackFirm Over)) (disk_after went z w.disk)) same (beside full w.disk ManifestPut (either went PackFirm Over) Firm went (none_drawn went PackFirm Over refl refl) tt k)
+names_after full w PackFirm change went is k =
+    let put : Put FloorNext (Number (w.floor + w.size)) ≡ change = cc in
+    subst (λ z. KnowsNames full (Some (either went FloorPut Over)) (disk_after went z w.disk)) put (beside full w.disk PackFirm (either went FloorPut Over) (Put FloorNext (Number (w.floor + w.size))) went (none_drawn went FloorPut Over refl refl) refl k)
+names_after full w FloorPut change went is k =
+    renamed_on full w.disk FloorPut (either went FloorRenamed (spoiled FloorPut)) FloorNext Floor change went (found w.disk FloorNext) (none_drawn went FloorRenamed (spoiled FloorPut) refl refl) refl refl is k
+names_after full w FloorRenamed change went is k =
+    let same : Firm ≡ change = cc in
+    subst (λ z. KnowsNames full (Some (either went Packed (spoiled FloorRenamed))) (disk_after went z w.disk)) same (beside full w.disk FloorRenamed (either went Packed (spoiled FloorRenamed)) Firm went (none_drawn went Packed (spoiled FloorRenamed) refl refl) tt k)
+names_after full w Packed change went is k = pack_on full w.disk Packed (nat_le (w.floor + w.size) (length w.history)) (w.floor / w.size) (pack_of (next_parts w)) change went is k
+names_after full w (FloorDoubtful place) change went is k = absurd cc
 names_after full w Over change went is k = absurd cc
 
 -- so the last number stays there, whoever knows it

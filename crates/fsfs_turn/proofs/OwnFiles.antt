@@ -21,7 +21,7 @@ use Rattle.fsfs_base.specs.declared.places.place.DiskPlace.TheVariants.{Begin, C
 use Rattle.fsfs_base.specs.declared.places.place.BeginPlace.TheVariants as begin
 use Rattle.fsfs_base.specs.declared.places.place.CommitPlace.TheVariants.{PutProps, FirmRev, PutCurrent, RenameCurrent, FirmCurrent}
 use Rattle.fsfs_machine.specs.declared.contents.FileName.{FileName}
-use Rattle.fsfs_machine.specs.declared.contents.FileName.TheVariants.{Current, CurrentNext, Counter, CounterNext, Floor, Rev, Props}
+use Rattle.fsfs_machine.specs.declared.contents.FileName.TheVariants.{Current, CurrentNext, Counter, CounterNext, Floor, FloorNext, Rev, Props, Pack, Manifest}
 use Rattle.fsfs_machine.specs.declared.machine.Txn.{Txn}
 use Rattle.fsfs_images.specs.RealNames.{machine_file, machine_name}
 use Rattle.fsfs_images.specs.Shown.{Fits, IsBeside}
@@ -42,8 +42,11 @@ not_own CurrentNext = refl
 not_own Counter = refl
 not_own CounterNext = refl
 not_own Floor = refl
+not_own FloorNext = refl
 not_own (Rev r) = refl
 not_own (Props r) = refl
+not_own (Pack k) = refl
+not_own (Manifest k) = refl
 
 pub own_beside : (layout : Layout) (f : OnlyFile) → is_own (file.Only f) ≡ true → IsBeside layout (only_name f)
 own_beside layout f own n fits e =

@@ -1,5 +1,5 @@
 -- What turns tell one who reads, as a book tells it.
-use Rattle.std.proofs.Common.{◌≡◌, ℕ, sym, ap, ◌∙◌, arith}
+use Rattle.std.proofs.Common.{◌≡◌, ◌⊎◌, ◌<◌, ◌≤◌, ℕ, suc, zero, inl, inr, ⊎_elim, sym, ap, subst, ◌∙◌, arith}
 use Rattle.std.specs.Prelude.{Some}
 use Rattle.fsfs_revision.specs.Told.{Telling}
 use Rattle.fsfs_fetch.specs.Views.{View as StoreView}
@@ -10,10 +10,17 @@ use Rattle.fsfs_turn.specs.Views.{View}
 use Rattle.fsfs_turn.proofs.Standings.{there_below}
 use Rattle.fsfs_turn.specs.Seen.{TellsRevisions}
 
-pub tells_revisions : {Lasting Below : Type 0} (s : StoreView Lasting) (floor : ℕ) (v : View) (told : Telling Below) → (seen : TellsSeen s v) → floor ≡ 0 → TellsOwn s floor seen.files told → TellsRevisions v told
-tells_revisions s floor v told seen zero own = record {
+-- a number is below a floor or not
+pub below_or_not : (r f : ℕ) → (r < f) ⊎ (f ≤ r)
+below_or_not r zero = inr (omega arith)
+below_or_not zero (suc f) = inl (omega arith)
+below_or_not (suc r) (suc f) = ⊎_elim (λ l. inl (omega (arith, l))) (λ l. inr (omega (arith, l))) (below_or_not r f)
+
+pub tells_revisions : {Lasting Below : Type 0} (s : StoreView Lasting) (low floor : ℕ) (v : View) (told : Telling Below) → floor ≡ low → (seen : TellsSeen low s v) → TellsOwn s floor seen.files told → TellsRevisions v told
+tells_revisions s low floor v told floor_is seen begun = record {
   revs = λ r less.
+      let own : TellsOwn s low seen.files told = subst (λ f. TellsOwn s f seen.files told) floor_is begun in
       let x = there_below v.seen r less in
       let one = seen.each r x.0 x.1 in
-      own.revs r one.known (omega (arith, zero)) one.own ∙ ap (λ read. Some read) (one.bytes ∙ sym (ap (λ o. bytes_beside r o) x.1));
+      ⊎_elim (λ less. own.packed r one.known less (one.packed less)) (λ le. own.revs r one.known le (one.own le)) (below_or_not r low) ∙ ap (λ read. Some read) (one.bytes ∙ sym (ap (λ o. bytes_beside r o) x.1));
 }

@@ -51,8 +51,8 @@ there_is : (rev : ℕ) (file : Option (List ℕ)) (text : List ℕ) → or_missi
 there_is rev None text e = cc
 there_is rev (Some bytes) text e = cc
 
-module _ {Lasting : Type 0} (old new : View → Type 0) (store : StoreView Lasting) (layout : Layout) (same : store.layout ≡ layout)
-    (onward : (v : View) → old v → (u : View) × new u × ReadOnly v u) (tells : (u : View) → new u → TellsSeen store u) (rev : ℕ) where
+module _ {Lasting : Type 0} (low : ℕ) (old new : View → Type 0) (store : StoreView Lasting) (layout : Layout) (same : store.layout ≡ layout)
+    (onward : (v : View) → old v → (u : View) × new u × ReadOnly v u) (tells : (u : View) → new u → TellsSeen low store u) (rev : ℕ) where
   -- the file that a look meets is a dump of the properties of what the pass has seen
   meets_dump : (m : Files) → store.files ≡ Some m → seen_props old rev (get m (file_name layout (repository.Props rev)))
   meets_dump m there v x known at =

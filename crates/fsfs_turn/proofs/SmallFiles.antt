@@ -22,9 +22,10 @@ use Rattle.fsfs_machine.specs.declared.machine.Step.TheVariants as step
 use Rattle.fsfs_machine.specs.Disk.{found}
 use Rattle.fsfs_machine.specs.Machine.{World, did, barred, either, learns, sees_floor, number_of, is_known, turned, floor_of, floor_read, properties_in, has_read_props}
 use Rattle.fsfs_machine.proofs.Images.{read_is_image}
-use Rattle.fsfs_machine.proofs.Answering.{has_all}
+use Rattle.fsfs_machine.proofs.Answering.{has_all, seen_of}
 use Rattle.fsfs_images.specs.RealNames.{machine_name}
 use Rattle.fsfs_images.proofs.Showing.{now_read}
+use Rattle.fsfs_machine.specs.Kept.{FloorIs, FloorBy, most_floor, may_rise}
 use Rattle.fsfs_turn.specs.Past.{doubt, Safe}
 use Rattle.fsfs_turn.specs.Views.{View, props_name, Sees, with_txns}
 use Rattle.fsfs_turn.specs.Learning.{PropsRead, FloorRead}
@@ -34,33 +35,40 @@ use Rattle.fsfs_turn.proofs.Stepping.{get_taken}
 use Rattle.fsfs_turn.proofs.Due.{at_found}
 use Rattle.fsfs_turn.proofs.Telling.{told_world, tells}
 
-module _ (layout : Layout) (young : ℕ) (stuck : Option DiskPlace) (t : Trace) (w : World) (v : View) (store : IsStore layout young stuck t w) (sees : Sees w v) (layout_is : v.layout ≡ layout) (safe : Safe layout v.since t v.opened w.floor w.history (doubt w.lock)) where
+module _ (layout : Layout) (low young : ℕ) (stuck : Option DiskPlace) (t : Trace) (w : World) (v : View) (store : IsStore layout low young stuck t w) (sees : Sees w v) (layout_is : v.layout ≡ layout) (safe : Safe layout v.since t v.opened w.history (doubt w.lock)) where
   -- ---- the floor
 
-  floor_there : found w.disk Floor ≡ Some (Number w.floor)
-  floor_there = store.kept.floors w.disk (read_is_image w.disk)
+  floor_there : found w.disk Floor ≡ Some (Number low)
+  floor_there = subst (λ n. FloorIs n w.disk) store.floor_is (subst (λ b. FloorBy b w.size w.floor w.disk) store.level (store.kept.floors w.disk (read_is_image w.disk)))
 
-  floor_happens : (went : Went) → did (told_world w v.number (sees_floor (length w.history) went (Some w.floor)) [] [] [] []) (either went (outcome.Floor w.floor) outcome.Failed)
+  -- it is the one that the pass knows
+  pub pass_floor : v.pass.floor ≡ low
+  pass_floor =
+      let k = seen_of (length w.history) w.low (most_floor (may_rise w.lock) w.size w.floor) w.passes v.number v.pass store.kept.seen sees.pass in
+      let top : most_floor (may_rise w.lock) w.size w.floor ≡ w.floor = ap (λ b. most_floor b w.size w.floor) store.level in
+      omega (arith, k.least_floor, k.floor, top, store.floor_is, store.low_is)
+
+  floor_happens : (went : Went) → did (told_world w v.number (sees_floor (length w.history) went (Some low)) [] [] [] []) (either went (outcome.Floor low) outcome.Failed)
       ≡ floor_read (with_txns [] w) v.number went (slice_get w.passes v.number)
   floor_happens went = sym (ap (λ o. floor_read (with_txns [] w) v.number went o) sees.pass
       ∙ ap (λ c. did (told_world w v.number (sees_floor (length w.history) went (number_of c)) [] [] [] []) (either went (floor_of (number_of c)) outcome.Failed)) floor_there)
 
-  pub floor_turns : (went : Went) → IsAfter layout young stuck t w v (λ u. FloorRead w.floor went v u)
-  floor_turns went = tells layout young stuck t w v store sees (with_txns []) (step.ReadFloor v.number went) (either went (outcome.Floor w.floor) outcome.Failed)
-      (λ n. sees_floor n went (Some w.floor)) [] [] [] [] store.kept (floor_happens went) refl refl t store.trace safe
+  pub floor_turns : (went : Went) → IsAfter layout low young stuck t w v (λ u. FloorRead low went v u)
+  floor_turns went = tells layout low young stuck t w v store sees (with_txns []) (step.ReadFloor v.number went) (either went (outcome.Floor low) outcome.Failed)
+      (λ n. sees_floor n went (Some low)) [] [] [] [] store.kept (floor_happens went) refl refl t store.trace safe
 
-  pub floor_file : (name : List ℕ) → name ≡ only_name only.MinUnpackedRev → (text : List ℕ) × (file_at t name ≡ Some text) × IsRevLine text w.floor
+  pub floor_file : (name : List ℕ) → name ≡ only_name only.MinUnpackedRev → (text : List ℕ) × (file_at t name ≡ Some text) × IsRevLine text low
   floor_file name named =
-      let at = at_found Floor (get (files_now t) (machine_name layout Floor)) (found w.disk Floor) (Number w.floor) floor_there (now_read layout w.floor no_others t.first t.operations w.disk store.trace Floor tt) in
+      let at = at_found layout Floor (get (files_now t) (machine_name layout Floor)) (found w.disk Floor) (Number low) floor_there ((now_read layout no_others t.first t.operations w.disk store.trace).read Floor tt) in
       (at.0, ap (λ n. get (files_now t) n) named ∙ at.1, at.2)
 
-  pub floor_comes : {X E : Type 0} (told : Option Trace) → told ≡ Some t → (result : Result X E) → Comes layout young stuck told w v result (λ went u. FloorRead w.floor went v u)
+  pub floor_comes : {X E : Type 0} (told : Option Trace) → told ≡ Some t → (result : Result X E) → Comes layout low young stuck told w v result (λ went u. FloorRead low went v u)
   floor_comes told same (Ok o) = (t, Fine, same, refl, floor_turns Fine)
   floor_comes told same (Err e) = (t, Before, same, refl, floor_turns Before)
 
   -- what is read there is its line
   pub floor_line : {E : Type 0} (offset : ℕ) (name old new : List ℕ) → name ≡ only_name only.MinUnpackedRev → (result : Result (Option ℕ) E) → IfOk result (IsRead (file_at t name) offset old new)
-      → (text : List ℕ) × IsRevLine text w.floor × IfOk result (IsRead (Some text) offset old new)
+      → (text : List ℕ) × IsRevLine text low × IfOk result (IsRead (Some text) offset old new)
   floor_line offset name old new named (Ok o) read = let file = floor_file name named in (file.0, file.2, subst (λ f. IsRead f offset old new o) file.1 read)
   floor_line offset name old new named (Err e) read = let file = floor_file name named in (file.0, file.2, tt)
 
@@ -77,7 +85,7 @@ module _ (layout : Layout) (young : ℕ) (stuck : Option DiskPlace) (t : Trace) 
         ap (λ b. b || nat_le r v.pass.least) e
 
     props_there : found w.disk (Props r) ≡ Some (PropsFile x.revision.properties)
-    props_there = (has_all w.floor w.history w.lock w.disk (store.kept.stands w.disk (read_is_image w.disk)) r x (get_taken v.pass.seen r w.history x here)).1
+    props_there = (has_all w.size w.floor w.history w.lock w.disk (store.kept.stands w.disk (read_is_image w.disk)) r x (get_taken v.pass.seen r w.history x here)).1
 
     props_happens : (went : Went) → did (told_world w v.number (learns (length w.history) Read went) [] [] [] []) (either went (outcome.Properties x.revision.properties) outcome.Failed)
         ≡ has_read_props (with_txns [] w) v.number r went (slice_get w.passes v.number)
@@ -85,16 +93,16 @@ module _ (layout : Layout) (young : ℕ) (stuck : Option DiskPlace) (t : Trace) 
         ∙ ap (λ b. cond b (did (turned (with_txns [] w) v.number Read went) (either went (properties_in (found w.disk (Props r))) outcome.Failed)) (barred (with_txns [] w))) known_it
         ∙ ap (λ c. did (turned (with_txns [] w) v.number Read went) (either went (properties_in c) outcome.Failed)) props_there)
 
-    pub props_turns : (went : Went) → IsAfter layout young stuck t w v (λ u. PropsRead r x went v u)
-    props_turns went = tells layout young stuck t w v store sees (with_txns []) (step.ReadProps v.number r went) (either went (outcome.Properties x.revision.properties) outcome.Failed)
+    pub props_turns : (went : Went) → IsAfter layout low young stuck t w v (λ u. PropsRead r x went v u)
+    props_turns went = tells layout low young stuck t w v store sees (with_txns []) (step.ReadProps v.number r went) (either went (outcome.Properties x.revision.properties) outcome.Failed)
         (λ n. learns n Read went) [] [] [] [] store.kept (props_happens went) refl refl t store.trace safe
 
     pub props_file : r < 2 ^ 32 → (name : List ℕ) → name ≡ props_name v r → (text : List ℕ) × (file_at t name ≡ Some text) × IsDump text x.revision.properties
     props_file fits name named =
-        let at = at_found (Props r) (get (files_now t) (machine_name layout (Props r))) (found w.disk (Props r)) (PropsFile x.revision.properties) props_there (now_read layout w.floor no_others t.first t.operations w.disk store.trace (Props r) fits) in
+        let at = at_found layout (Props r) (get (files_now t) (machine_name layout (Props r))) (found w.disk (Props r)) (PropsFile x.revision.properties) props_there ((now_read layout no_others t.first t.operations w.disk store.trace).read (Props r) fits) in
         (at.0, ap (λ n. get (files_now t) n) (named ∙ ap (λ k. machine_name k (Props r)) layout_is) ∙ at.1, at.2)
 
-    pub props_comes : {X E : Type 0} (told : Option Trace) → told ≡ Some t → (result : Result X E) → Comes layout young stuck told w v result (λ went u. PropsRead r x went v u)
+    pub props_comes : {X E : Type 0} (told : Option Trace) → told ≡ Some t → (result : Result X E) → Comes layout low young stuck told w v result (λ went u. PropsRead r x went v u)
     props_comes told same (Ok o) = (t, Fine, same, refl, props_turns Fine)
     props_comes told same (Err e) = (t, Before, same, refl, props_turns Before)
 

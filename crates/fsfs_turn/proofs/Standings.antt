@@ -8,6 +8,7 @@ use Rattle.fsfs_tree.specs.Dated.{last_of}
 use Rattle.fsfs_tree.specs.Revisions.{Revision}
 use Rattle.fsfs_layout.specs.FileNames.{only_name}
 use Rattle.fsfs_layout.specs.Small.{IsRevLine, IsBase36Line}
+use Rattle.fsfs_layout.specs.Layouts.{shard_size}
 use Rattle.fsfs_layout.specs.declared.layout.Layout.{Layout}
 use Rattle.fsfs_layout.specs.declared.only_file.OnlyFile.TheVariants as only
 use Rattle.fsfs_revision.specs.RevBytes.{or_missing, rev_bytes, props_bytes}
@@ -30,14 +31,14 @@ use Rattle.fsfs_images.specs.RealNames.{machine_name}
 use Rattle.fsfs_images.specs.Shown.{AreRead}
 use Rattle.fsfs_images.proofs.Showing.{image_read, kept_same}
 use Rattle.fsfs_turn.specs.Bytes.{bytes_beside, bytes_of}
-use Rattle.fsfs_turn.specs.Past.{doubt, IsPart, IsPast, HasCounter}
+use Rattle.fsfs_turn.specs.Past.{doubt, IsPart, IsWhole, IsPast, HasCounter, StoodFor}
 use Rattle.fsfs_turn.specs.Found.{floor_read, text_there}
-use Rattle.fsfs_turn.specs.Standing.{no_others, IsWhole, Knows}
+use Rattle.fsfs_turn.specs.Standing.{no_others, Knows}
 use Rattle.fsfs_turn.specs.Whole.{HasHistory}
 use Rattle.fsfs_turn.specs.Stands.{HasOwnFiles, ImagesStand}
 use Rattle.fsfs_turn.specs.Views.{View, with_txns}
 use Rattle.fsfs_turn.proofs.Due.{at_found}
-use Rattle.fsfs_turn.proofs.Moments.{past_of, numbers}
+use Rattle.fsfs_turn.proofs.Moments.{stood_for}
 use Rattle.fsfs_turn.proofs.OwnFiles.{own_beside, own_moves}
 use Rattle.fsfs_turn.proofs.Locking.{seen_within}
 use Rattle.fsfs_turn.proofs.Stepping.{take_drop}
@@ -88,9 +89,9 @@ shows_history layout m g has = record { each = each; ids = ids_same (last_of (re
         (subst (λ y. ShowsRevision (bytes_of g) (props_bytes layout m) r y) x.2 shows)
 
 -- Files that have a history, and the small files beside it, stand for it.
-module _ (layout : Layout) (f : ℕ) (m : Files) (e : Disk) (g : List Recorded) (whole : IsWhole layout f) (read : AreRead layout f m e) (floor : FloorIs f e) (count : HasCounter e) (within : f ≤ length g) (has : HasHistory layout m g) (own : HasOwnFiles m layout) where
+module _ (layout : Layout) (f : ℕ) (m : Files) (e : Disk) (g : List Recorded) (whole : IsWhole layout f) (read : AreRead layout m e) (floor : FloorIs f e) (count : HasCounter e) (within : f ≤ length g) (has : HasHistory layout m g) (own : HasOwnFiles m layout) where
   counter : (text : List ℕ) × (get m (only_name only.TxnCurrent) ≡ Some text) × IsBase36Line text count.0
-  counter = at_found Counter (get m (machine_name layout Counter)) (found e Counter) (Number count.0) count.1 (read Counter tt)
+  counter = at_found layout Counter (get m (machine_name layout Counter)) (found e Counter) (Number count.0) count.1 (read.read Counter tt)
 
   pub files_stand : StandsFor m (revisions g)
   files_stand = record {
@@ -110,31 +111,32 @@ module _ (layout : Layout) (f : ℕ) (m : Files) (e : Disk) (g : List Recorded) 
     history = shows_history layout m g has;
   }
 
-module _ (layout : Layout) (young : ℕ) (stuck : Option DiskPlace) (t : Trace) (v : View) (known : Knows layout young stuck (Some t) v) (own : HasOwnFiles (files_now t) layout) (m : Files) (image : real.IsImage t.first t.operations m) where
-  e : (d : Disk) × IsImage known.0.disk d × AreRead layout known.0.floor m d
-  e = image_read layout known.0.floor no_others t.first t.operations known.0.disk known.1.trace m image
+module _ (layout : Layout) (low young : ℕ) (stuck : Option DiskPlace) (t : Trace) (v : View) (known : Knows layout low young stuck (Some t) v) (own : HasOwnFiles (files_now t) layout) (m : Files) (image : real.IsImage t.first t.operations m) where
+  e : (d : Disk) × IsImage known.0.disk d × AreRead layout m d
+  e = image_read layout no_others t.first t.operations known.0.disk known.1.trace m image
 
-  p : IsPast (length known.0.history) known.0.floor known.0.history (doubt known.0.lock) e.0
-  p = past_of (length known.0.history) known.0.floor known.0.history known.0.lock e.0 (omega arith) known.1.kept.floor (known.1.kept.stands e.0 e.1)
+  stood : StoodFor layout (length known.0.history) known.0.history (doubt known.0.lock) e.0
+  stood = stood_for layout (length known.0.history) (with_txns [] known.0) known.1.size known.1.whole known.1.kept (omega arith) e.0 e.1
+
+  p : IsPast (shard_size layout) (length known.0.history) stood.0 known.0.history (doubt known.0.lock) e.0
+  p = stood.3
 
   some : 0 < length p.0
   some = omega (arith, p.1.1.2)
 
   has : HasHistory layout m p.0
-  has = has_history layout known.0.floor m e.0 p.0 known.1.whole (known.1.kept.floors e.0 e.1) e.2 p.1 (part_shown known.0.history known.0.lock p.0 known.1.shown known.1.coming some p.3)
+  has = has_history layout stood.0 m e.0 p.0 stood.1 stood.2 e.2 p.1 (part_shown known.0.history known.0.lock p.0 known.1.shown known.1.coming some p.3)
 
   own_there : HasOwnFiles m layout
-  own_there = own_moves (files_now t) m layout (λ f is. kept_same layout known.0.floor no_others (only_name f) refl (own_beside layout f is) t.first t.operations known.0.disk known.1.trace m image) own
+  own_there = own_moves (files_now t) m layout (λ f is. kept_same layout no_others (only_name f) refl (own_beside layout f is) t.first t.operations known.0.disk known.1.trace m image) own
 
   -- it stands for a part that has all of the history
   pub part_stands : (g : List Recorded) × IsPart known.0.history (doubt known.0.lock) g × (length known.0.history ≤ length g) × HasHistory layout m g × StandsFor m (revisions g)
-  part_stands =
-      let n = numbers (with_txns [] known.0) known.1.kept e.0 e.1 in
-      (p.0, p.3, p.2, has, files_stand layout known.0.floor m e.0 p.0 known.1.whole e.2 n.0 n.1 p.4 has own_there)
+  part_stands = (p.0, p.3, p.2, has, files_stand layout stood.0 m e.0 p.0 stood.1 e.2 stood.2 stood.4 p.4 has own_there)
 
 pub images_stand : ImagesStand
-images_stand layout young stuck t v known own m image =
-    let p = part_stands layout young stuck t v known own m image in (
+images_stand layout low young stuck t v known own m image =
+    let p = part_stands layout low young stuck t v known own m image in (
       known.0.history,
       doubt known.0.lock,
       p.0,

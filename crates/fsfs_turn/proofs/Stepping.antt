@@ -1,5 +1,5 @@
 -- A call of a section is one step of the machine, and what the pass knows after it.
-use Rattle.std.proofs.Common.{◌≡◌, ◌==◌, ℕ, suc, zero, List, [], ◌∷◌, ◌++◌, length, true, false, cond, inl, inr, ⊎_elim, refl, sym, ap, subst, ◌∙◌, arith, take, drop}
+use Rattle.std.proofs.Common.{◌≡◌, ◌==◌, ℕ, suc, zero, List, [], ◌∷◌, ◌++◌, length, Bool, true, false, cond, inl, inr, ⊎_elim, refl, sym, ap, subst, ◌∙◌, arith, take, drop}
 use Rattle.std.specs.Prelude.{Option, Some, None, IfSome, slice_get}
 use Rattle.std.proofs.lemmas.List.{take_all, take-append-drop}
 use Rattle.fsfs_layout.specs.declared.layout.Layout.{Layout}
@@ -9,14 +9,14 @@ use Rattle.fsfs_machine.specs.declared.machine.Coming.{Coming}
 use Rattle.fsfs_machine.specs.declared.machine.Drawn.{Drawn}
 use Rattle.fsfs_base.specs.declared.places.place.DiskPlace.{DiskPlace}
 use Rattle.fsfs_machine.specs.declared.machine.Section.{Section}
-use Rattle.fsfs_machine.specs.declared.machine.Section.TheVariants.{Begun, CountRead, CountPut, CountRenamed, RevPut, PropsPut, RevFirm, CurrentPut, CurrentRenamed, CurrentFirm, Doubtful, Over}
+use Rattle.fsfs_machine.specs.declared.machine.Section.TheVariants.{Begun, CountRead, CountPut, CountRenamed, RevPut, PropsPut, RevFirm, CurrentPut, CurrentRenamed, CurrentFirm, Doubtful, PackPut, ManifestPut, PackFirm, FloorPut, FloorRenamed, Packed, FloorDoubtful, Over}
 use Rattle.fsfs_machine.specs.declared.machine.Lock.{Lock}
-use Rattle.fsfs_machine.specs.declared.machine.Lock.TheVariants.{Free, Held, Stuck, Down, DownDoubtful}
+use Rattle.fsfs_machine.specs.declared.machine.Lock.TheVariants.{Free, Held, Stuck, Down, DownDoubtful, StuckFloor, DownFloor}
 use Rattle.fsfs_machine.specs.declared.machine.Went.{Went}
 use Rattle.fsfs_machine.specs.declared.machine.Went.TheVariants.{Fine, Before, After, Torn}
 use Rattle.fsfs_machine.specs.declared.machine.Step.TheVariants as step
 use Rattle.fsfs_machine.specs.Machine.{World, did, barred, either, answer, learns, disk_after, at_place, at_call, after, spoiled, gives, called, called_by, due, is_due, held_by, inside, with_next, stuck_place}
-use Rattle.fsfs_machine.specs.Kept.{Kept, IsIn, coming_in, coming}
+use Rattle.fsfs_machine.specs.Kept.{Kept, IsIn, coming_in, coming, rises}
 use Rattle.fsfs_machine.proofs.Steps.{step_keeps}
 use Rattle.fsfs_images.specs.Shown.{IsTraceOf}
 use Rattle.fsfs_turn.specs.Bytes.{BytesShow, AllShow}
@@ -29,7 +29,7 @@ use Rattle.fsfs_turn.proofs.TurnEnds.{section_leaves, IsAfter}
 
 -- no transaction is laid in
 pub kept_bare : (w : World) → Kept w → Kept (with_txns [] w)
-kept_bare w k = record { young = k.young; seen = k.seen; history = k.history; transactions = tt; stands = k.stands; floor = k.floor; floors = k.floors; counts = k.counts; once = k.once; labels = tt; named = tt; apart = λ n. (omega arith, λ less. absurd (omega (arith, less))); benches = λ _. tt; knows = k.knows; next = k.next; whose = k.whose; holder = k.holder }
+kept_bare w k = record { young = k.young; seen = k.seen; history = k.history; transactions = tt; stands = k.stands; floor = k.floor; floors = k.floors; left = k.left; low = k.low; counts = k.counts; once = k.once; labels = tt; named = tt; apart = λ n. (omega arith, λ less. absurd (omega (arith, less))); benches = λ _. tt; knows = k.knows; next = k.next; whose = k.whose; holder = k.holder }
 
 pub at_itself : {A : Type 0} (xs : List A) (p : ℕ) (f : A → A) (x : A) → slice_get xs p ≡ Some x → slice_get (at_place xs p f) p ≡ Some (f x)
 at_itself [] p f x e = absurd cc
@@ -45,6 +45,8 @@ lock_is p Free s e = absurd cc
 lock_is p (Stuck place x) s e = absurd cc
 lock_is p Down s e = absurd cc
 lock_is p (DownDoubtful x) s e = absurd cc
+lock_is p (StuckFloor place) s e = absurd cc
+lock_is p DownFloor s e = absurd cc
 lock_is p (Held q z) s e =
     elim (q == p) as (λ b. (q == p) ≡ b → cond b (Some z) None ≡ Some s → Held q z ≡ Held p s) [
       | true ↦ λ t e. let same : q ≡ p = grind (arith, t) in let inner : z ≡ s = cc in λ i. Held (same i) (inner i)
@@ -58,12 +60,68 @@ abbrev pub named_by : Section → Went → List Drawn → List Drawn
 named_by (CountRenamed x) Fine named = named ++ x ∷ []
 named_by s went named = named
 
-gives_is : (s : Section) (went : Went) (w : World) → gives s went w ≡ record w { given = given_by s went w.given; named = named_by s went w.named }
-gives_is (CountRenamed x) Fine w = refl
-gives_is (CountRenamed x) Before w = refl
-gives_is (CountRenamed x) After w = refl
-gives_is (CountRenamed x) (Torn any) w = refl
-gives_is s went w = refl
+-- the two calls that bring the next floor
+abbrev pub brings_floor : Section → Bool
+brings_floor FloorPut = true
+brings_floor FloorRenamed = true
+brings_floor s = false
+
+gives_is : (s : Section) (went : Went) (w : World) → brings_floor s ≡ false → gives s went w ≡ record w { given = given_by s went w.given; named = named_by s went w.named }
+gives_is (CountRenamed x) Fine w level = refl
+gives_is (CountRenamed x) Before w level = refl
+gives_is (CountRenamed x) After w level = refl
+gives_is (CountRenamed x) (Torn any) w level = refl
+gives_is FloorRenamed went w level = absurd cc
+gives_is s went w level = refl
+
+level_fine : (s : Section) → brings_floor s ≡ false → rises (after s) ≡ false
+level_fine Begun e = refl
+level_fine (CountRead x) e = refl
+level_fine (CountPut x) e = refl
+level_fine (CountRenamed x) e = refl
+level_fine (RevPut x) e = refl
+level_fine (PropsPut x) e = refl
+level_fine (RevFirm x) e = refl
+level_fine (CurrentPut x) e = refl
+level_fine (CurrentRenamed x) e = refl
+level_fine (CurrentFirm x) e = refl
+level_fine (Doubtful place x) e = refl
+level_fine PackPut e = refl
+level_fine ManifestPut e = refl
+level_fine PackFirm e = refl
+level_fine FloorPut e = absurd cc
+level_fine FloorRenamed e = absurd cc
+level_fine Packed e = refl
+level_fine (FloorDoubtful place) e = refl
+level_fine Over e = refl
+
+level_spoiled : (s : Section) → brings_floor s ≡ false → rises (spoiled s) ≡ false
+level_spoiled Begun e = refl
+level_spoiled (CountRead x) e = refl
+level_spoiled (CountPut x) e = refl
+level_spoiled (CountRenamed x) e = refl
+level_spoiled (RevPut x) e = refl
+level_spoiled (PropsPut x) e = refl
+level_spoiled (RevFirm x) e = refl
+level_spoiled (CurrentPut x) e = refl
+level_spoiled (CurrentRenamed x) e = refl
+level_spoiled (CurrentFirm x) e = refl
+level_spoiled (Doubtful place x) e = refl
+level_spoiled PackPut e = refl
+level_spoiled ManifestPut e = refl
+level_spoiled PackFirm e = refl
+level_spoiled FloorPut e = absurd cc
+level_spoiled FloorRenamed e = absurd cc
+level_spoiled Packed e = refl
+level_spoiled (FloorDoubtful place) e = refl
+level_spoiled Over e = refl
+
+-- the others leave the floor as it is
+pub level_after : (s : Section) (went : Went) → brings_floor s ≡ false → rises (either went (after s) (spoiled s)) ≡ false
+level_after s Fine e = level_fine s e
+level_after s Before e = level_spoiled s e
+level_after s After e = level_spoiled s e
+level_after s (Torn any) e = level_spoiled s e
 
 in_given : (s : Section) (went : Went) (k : ℕ) (a b : List ℕ) → (IsIn k a → IsIn k b) → IsIn k (given_by s went a) → IsIn k (given_by s went b)
 in_given (CountRenamed x) Fine k a b more i = ⊎_elim (λ e. inl e) (λ e. inr (more e)) i
@@ -84,6 +142,13 @@ coming_after (CurrentPut x) P i = i
 coming_after (CurrentRenamed x) P i = i
 coming_after (CurrentFirm x) P i = tt
 coming_after (Doubtful place x) P i = tt
+coming_after PackPut P i = tt
+coming_after ManifestPut P i = tt
+coming_after PackFirm P i = tt
+coming_after FloorPut P i = tt
+coming_after FloorRenamed P i = tt
+coming_after Packed P i = tt
+coming_after (FloorDoubtful place) P i = tt
 coming_after Over P i = tt
 
 coming_spoiled : (s : Section) (P : Coming → Type 0) → IfSome (coming_in s) P → IfSome (coming_in (spoiled s)) P
@@ -98,6 +163,13 @@ coming_spoiled (CurrentPut x) P i = i
 coming_spoiled (CurrentRenamed x) P i = i
 coming_spoiled (CurrentFirm x) P i = tt
 coming_spoiled (Doubtful place x) P i = tt
+coming_spoiled PackPut P i = tt
+coming_spoiled ManifestPut P i = tt
+coming_spoiled PackFirm P i = tt
+coming_spoiled FloorPut P i = tt
+coming_spoiled FloorRenamed P i = tt
+coming_spoiled Packed P i = tt
+coming_spoiled (FloorDoubtful place) P i = tt
 coming_spoiled Over P i = tt
 
 coming_either : (went : Went) (s : Section) (P : Coming → Type 0) → IfSome (coming_in s) P → IfSome (coming_in (either went (after s) (spoiled s))) P
@@ -111,13 +183,13 @@ abbrev pub called_store : World → ℕ → DiskPlace → Went → Section → N
 called_store w p place went s change =
     record w { given = given_by s went w.given; named = named_by s went w.named; disk = disk_after went change w.disk; lock = Held p (either went (after s) (spoiled s)); passes = at_place w.passes p (learns (length w.history) place went) }
 
-pub happens_so : (w : World) (p : ℕ) (place : DiskPlace) (went : Went) (s : Section) (change : NameChange) → held_by p w.lock ≡ Some s → is_due s place ≡ true → due w s ≡ Some change
+pub happens_so : (w : World) (p : ℕ) (place : DiskPlace) (went : Went) (s : Section) (change : NameChange) → brings_floor s ≡ false → held_by p w.lock ≡ Some s → is_due s place ≡ true → due w s ≡ Some change
     → did (called_store w p place went s change) (answer went) ≡ inside w (called w p place went) (held_by p w.lock)
-happens_so w p place went s change held is change_is =
+happens_so w p place went s change level held is change_is =
     sym (ap (λ o. inside w (called w p place went) o) held
     ∙ ap (λ b. cond b (called_by w p place went s (due w s)) (barred w)) is
     ∙ ap (λ o. called_by w p place went s o) change_is
-    ∙ ap (λ z. did (at_call z p place change (after s) (spoiled s) went) (answer went)) (gives_is s went w))
+    ∙ ap (λ z. did (at_call z p place change (after s) (spoiled s) went) (answer went)) (gives_is s went w level))
 
 -- transactions are no part of what is known
 pub sees_bare : (w : World) (v : View) → Sees w v → Sees (with_txns [] w) v
@@ -138,26 +210,30 @@ sees_after w v place went s change named shown at due_is sees = record {
   names = names_after v.full w s change went due_is (subst (λ o. KnowsNames v.full o w.disk) at sees.names);
 }
 
-pub kept_called : (w : World) (p : ℕ) (place : DiskPlace) (went : Went) (s : Section) (change : NameChange) → Kept (with_txns [] w) → held_by p w.lock ≡ Some s → is_due s place ≡ true → due w s ≡ Some change → Kept (with_txns [] (called_store (with_txns [] w) p place went s change))
-kept_called w p place went s change kept held is change_is =
+pub kept_called : (w : World) (p : ℕ) (place : DiskPlace) (went : Went) (s : Section) (change : NameChange) → brings_floor s ≡ false → Kept (with_txns [] w) → held_by p w.lock ≡ Some s → is_due s place ≡ true → due w s ≡ Some change → Kept (with_txns [] (called_store (with_txns [] w) p place went s change))
+kept_called w p place went s change level kept held is change_is =
     kept_bare (called_store (with_txns [] w) p place went s change)
-    (step_keeps (with_txns [] w) (step.Call p place went) (did (called_store (with_txns [] w) p place went s change) (answer went)) (happens_so (with_txns [] w) p place went s change held is change_is) kept).kept
+    (step_keeps (with_txns [] w) (step.Call p place went) (did (called_store (with_txns [] w) p place went s change) (answer went)) (happens_so (with_txns [] w) p place went s change level held is change_is) kept).kept
 
 -- what a call of a section comes to
-pub call_turns : (layout : Layout) (young : ℕ) (stuck : Option DiskPlace) (old new : Trace) (w : World) (v : View) (place : DiskPlace) (went : Went) (s : Section) (change : NameChange)
-    → IsStore layout young stuck old w → Sees w v → v.section ≡ Some s → is_due s place ≡ true → due w s ≡ Some change
-    → IsTraceOf layout w.floor no_others new.first new.operations (disk_after went change w.disk)
-    → Safe layout v.since new v.opened w.floor w.history (doubt_in (either went (after s) (spoiled s)))
-    → IsAfter layout young stuck new w v (λ u. Called place went v u)
-call_turns layout young stuck old new w v place went s change store sees section is due_is trace safe = record {
+pub call_turns : (layout : Layout) (low young : ℕ) (stuck : Option DiskPlace) (old new : Trace) (w : World) (v : View) (place : DiskPlace) (went : Went) (s : Section) (change : NameChange)
+    → brings_floor s ≡ false → IsStore layout low young stuck old w → Sees w v → v.section ≡ Some s → is_due s place ≡ true → due w s ≡ Some change
+    → IsTraceOf layout no_others new.first new.operations (disk_after went change w.disk)
+    → Safe layout v.since new v.opened w.history (doubt_in (either went (after s) (spoiled s)))
+    → IsAfter layout low young stuck new w v (λ u. Called place went v u)
+call_turns layout low young stuck old new w v place went s change level store sees section is due_is trace safe = record {
   world = world;
   view = view;
   store = record {
     trace = trace;
+    size = store.size;
     whole = store.whole;
     kept = kept;
     shown = store.shown;
     coming = coming_either went s (λ x. BytesShow (with_next w.history x)) (subst (λ l. IfSome (coming l) (λ x. BytesShow (with_next w.history x))) lock store.coming);
+    low_is = store.low_is;
+    floor_is = store.floor_is;
+    level = level_after s went level;
     young_is = store.young_is;
     stuck_is = sym (ap stuck_place lock) ∙ store.stuck_is;
   };
@@ -172,7 +248,7 @@ call_turns layout young stuck old new w v place went s change store sees section
   };
   all = refl;
   safe = safe;
-  leaves = section_leaves w world v.number (learns (length w.history) place went) s (either went (after s) (spoiled s)) went refl refl refl refl lock refl refl (λ last. (full_after v.full w s change went due_is (subst (λ o. KnowsNames v.full o w.disk) section sees.names) last));
+  leaves = section_leaves w world v.number (learns (length w.history) place went) s (either went (after s) (spoiled s)) went refl refl refl refl refl lock refl refl (λ last. (full_after v.full w s change went due_is (subst (λ o. KnowsNames v.full o w.disk) section sees.names) last));
   layout_is = refl;
   since_is = refl;
   opened_is = refl;
@@ -190,10 +266,10 @@ call_turns layout young stuck old new w v place went s change store sees section
     lock = lock_is v.number w.lock s (sees.section ∙ section)
 
     happens : did world (answer went) ≡ inside (with_txns [] w) (called (with_txns [] w) v.number place went) (held_by v.number w.lock)
-    happens = happens_so (with_txns [] w) v.number place went s change (sees.section ∙ section) is due_is
+    happens = happens_so (with_txns [] w) v.number place went s change level (sees.section ∙ section) is due_is
 
     kept : Kept (with_txns [] world)
-    kept = kept_called w v.number place went s change store.kept (sees.section ∙ section) is due_is
+    kept = kept_called w v.number place went s change level store.kept (sees.section ∙ section) is due_is
 
     seen : Sees world view
     seen = sees_after (with_txns [] w) v place went s change [] store.shown section due_is (sees_bare w v sees)

@@ -11,7 +11,7 @@ use Rattle.fsfs_base.specs.declared.places.place.DiskPlace.{DiskPlace}
 use Rattle.fsfs_machine.specs.declared.machine.Outcome.{Outcome}
 use Rattle.fsfs_machine.specs.declared.machine.Step.{Step}
 use Rattle.fsfs_machine.specs.Machine.{World, Happens, did, at_place}
-use Rattle.fsfs_machine.specs.Kept.{Kept}
+use Rattle.fsfs_machine.specs.Kept.{Kept, most_floor, may_rise}
 use Rattle.fsfs_machine.proofs.Answering.{seen_of}
 use Rattle.fsfs_machine.proofs.Steps.{step_keeps}
 use Rattle.fsfs_images.specs.Shown.{IsTraceOf}
@@ -29,28 +29,28 @@ told_world w p f labels named txns spent = record w { labels = labels; named = n
 abbrev told_view : World → View → (Pass → Pass) → View
 told_view w v f = record v { pass = f v.pass; seen = w.history }
 
-module _ (layout : Layout) (young : ℕ) (stuck : Option DiskPlace) (old : Trace) (w : World) (v : View) (store : IsStore layout young stuck old w) (sees : Sees w v) where
+module _ (layout : Layout) (low young : ℕ) (stuck : Option DiskPlace) (old : Trace) (w : World) (v : View) (store : IsStore layout low young stuck old w) (sees : Sees w v) where
   pub tells : (lay : World → World) (step : Step) (outcome : Outcome) (tell : ℕ → Pass → Pass) (labels : List ℕ) (named : List Drawn) (txns : List Txn) (spent : List ℕ)
       → Kept (lay w) → Happens (lay w) step (did (told_world w v.number (tell (length w.history)) labels named txns spent) outcome)
       → (tell (length w.history) v.pass).least ≡ v.pass.least → (tell (length w.history) v.pass).seen ≡ length w.history
-      → (new : Trace) → IsTraceOf layout w.floor no_others new.first new.operations w.disk → Safe layout v.since new v.opened w.floor w.history (doubt w.lock)
-      → IsAfter layout young stuck new w v (λ u. Learned lay step outcome tell v u)
+      → (new : Trace) → IsTraceOf layout no_others new.first new.operations w.disk → Safe layout v.since new v.opened w.history (doubt w.lock)
+      → IsAfter layout low young stuck new w v (λ u. Learned lay step outcome tell v u)
   tells lay step outcome tell labels named txns spent kept_lay happens least_is seen_is new trace safe = record {
     world = world;
     view = told_view w v (tell (length w.history));
-    store = record { trace = trace; whole = store.whole; kept = kept; shown = store.shown; coming = store.coming; young_is = store.young_is; stuck_is = store.stuck_is };
+    store = record { trace = trace; size = store.size; whole = store.whole; kept = kept; shown = store.shown; coming = store.coming; low_is = store.low_is; floor_is = store.floor_is; level = store.level; young_is = store.young_is; stuck_is = store.stuck_is };
     sees = after;
     turned = record {
       turned = record { world = w; kept = kept_lay; sees = sees; did = did world outcome; happens = happens; answers = refl; after = kept; leaves = after };
       is = refl;
       grows = (drop v.pass.seen w.history, take_drop v.pass.seen w.history ∙ ap (λ l. l ++ drop v.pass.seen w.history) (sym sees.seen));
       within = λ sure. let up : w.young + 1 ≡ length w.history = store.kept.young sees.up in omega (arith, up, sees.sure sure);
-      all = (seen_of (length w.history) w.floor w.passes v.number v.pass store.kept.seen sees.pass).least;
+      all = (seen_of (length w.history) w.low (most_floor (may_rise w.lock) w.size w.floor) w.passes v.number v.pass store.kept.seen sees.pass).least;
       shown = store.shown;
     };
     all = refl;
     safe = safe;
-    leaves = pass_leaves w world v.number (tell (length w.history)) refl refl refl refl refl refl refl;
+    leaves = pass_leaves w world v.number (tell (length w.history)) refl refl refl refl refl refl refl refl;
     layout_is = refl;
     since_is = refl;
     opened_is = refl;

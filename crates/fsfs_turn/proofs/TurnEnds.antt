@@ -38,6 +38,7 @@ pub record Leaves (p : ℕ) (w after : World) : Type 0 where
   pub history : after.history ≡ w.history
   pub young : after.young ≡ w.young
   pub floor : after.floor ≡ w.floor
+  pub low : after.low ≡ w.low
   pub lock : StaysWith p w.lock after.lock
   pub given : (k : ℕ) → IsIn k w.given → IsIn k after.given
   -- where no name was left none is, and the number in `txn-current` is as it was, or the pass holds the lock
@@ -45,15 +46,15 @@ pub record Leaves (p : ℕ) (w after : World) : Type 0 where
   pub disk : (after.disk ≡ w.disk) ⊎ ((s : Section) × (w.lock ≡ Held p s))
 
 -- The state after a turn of the pass that knew v: the store with this trace is in it, and of what the pass knows then P holds.
-pub record IsAfter (layout : Layout) (young : ℕ) (stuck : Option DiskPlace) (t : Trace) (w : World) (v : View) (P : View → Type 0) : Type 0 where
+pub record IsAfter (layout : Layout) (low young : ℕ) (stuck : Option DiskPlace) (t : Trace) (w : World) (v : View) (P : View → Type 0) : Type 0 where
   pub world : World
   pub view : View
-  pub store : IsStore layout young stuck t world
+  pub store : IsStore layout low young stuck t world
   pub sees : Sees world view
   pub turned : P view
   -- it has seen the history as it is
   pub all : view.seen ≡ w.history
-  pub safe : Safe layout view.since t view.opened world.floor world.history (doubt world.lock)
+  pub safe : Safe layout view.since t view.opened world.history (doubt world.lock)
   pub leaves : Leaves v.number w world
   pub layout_is : view.layout ≡ v.layout
   pub since_is : view.since ≡ v.since
@@ -62,8 +63,8 @@ pub record IsAfter (layout : Layout) (young : ℕ) (stuck : Option DiskPlace) (t
   pub left_is : view.left ≡ v.left
 
 -- what a call of the disk comes to, by what is told of the disk behind it and by its answer
-abbrev pub Comes : {X E : Type 0} → Layout → ℕ → Option DiskPlace → Option Trace → World → View → Result X E → (Went → View → Type 0) → Type 0
-Comes layout young stuck told w v result P = (new : Trace) × (went : Went) × (told ≡ Some new) × Answers result went × IsAfter layout young stuck new w v (P went)
+abbrev pub Comes : {X E : Type 0} → Layout → ℕ → ℕ → Option DiskPlace → Option Trace → World → View → Result X E → (Went → View → Type 0) → Type 0
+Comes layout low young stuck told w v result P = (new : Trace) × (went : Went) × (told ≡ Some new) × Answers result went × IsAfter layout low young stuck new w v (P went)
 
 -- ---- what the others find
 
@@ -76,14 +77,15 @@ given_more (CountRenamed x) (Torn any) k given i = i
 given_more s went k given i = i
 
 -- after a call of its section
-pub section_leaves : (w after : World) (p : ℕ) (f : Pass → Pass) (s t : Section) (went : Went) → after.passes ≡ at_place w.passes p f → after.history ≡ w.history → after.young ≡ w.young → after.floor ≡ w.floor
+pub section_leaves : (w after : World) (p : ℕ) (f : Pass → Pass) (s t : Section) (went : Went) → after.passes ≡ at_place w.passes p f → after.history ≡ w.history → after.young ≡ w.young → after.floor ≡ w.floor → after.low ≡ w.low
     → w.lock ≡ Held p s → after.lock ≡ Held p t → after.given ≡ given_by s went w.given → (IsFull w.disk → IsFull after.disk) → Leaves p w after
-section_leaves w after p f s t went passes history young floor held holds given full = record {
+section_leaves w after p f s t went passes history young floor low held holds given full = record {
   passes = λ q apart. ap (λ xs. slice_get xs q) passes ∙ at_other w.passes p q f apart;
   count = ap length passes ∙ length_at w.passes p f;
   history = history;
   young = young;
   floor = floor;
+  low = low;
   lock = inr (s, t, held, holds);
   given = λ k i. subst (λ ks. IsIn k ks) (sym given) (given_more s went k w.given i);
   full = full;
@@ -91,13 +93,14 @@ section_leaves w after p f s t went passes history young floor held holds given 
 }
 
 -- after a call that no section is about
-pub pass_leaves : (w after : World) (p : ℕ) (f : Pass → Pass) → after.passes ≡ at_place w.passes p f → after.history ≡ w.history → after.young ≡ w.young → after.floor ≡ w.floor → after.lock ≡ w.lock → after.given ≡ w.given → after.disk ≡ w.disk → Leaves p w after
-pass_leaves w after p f passes history young floor lock given disk = record {
+pub pass_leaves : (w after : World) (p : ℕ) (f : Pass → Pass) → after.passes ≡ at_place w.passes p f → after.history ≡ w.history → after.young ≡ w.young → after.floor ≡ w.floor → after.low ≡ w.low → after.lock ≡ w.lock → after.given ≡ w.given → after.disk ≡ w.disk → Leaves p w after
+pass_leaves w after p f passes history young floor low lock given disk = record {
   passes = λ q apart. ap (λ xs. slice_get xs q) passes ∙ at_other w.passes p q f apart;
   count = ap length passes ∙ length_at w.passes p f;
   history = history;
   young = young;
   floor = floor;
+  low = low;
   lock = inl lock;
   given = λ k i. subst (λ ks. IsIn k ks) (sym given) i;
   full = λ last. subst IsFull (sym disk) last;
@@ -111,13 +114,13 @@ pub stuck_stays : (p : ℕ) (before after : Lock) → StaysWith p before after �
 stuck_stays p before after stays = ⊎_elim (λ same. ap (λ l. stuck_with l) same) (λ both. ap (λ l. stuck_with l) both.3 ∙ sym (ap (λ l. stuck_with l) both.2)) stays
 
 -- where there is one pass, that is what it knows
-pub known_after : (layout : Layout) (young : ℕ) (stuck : Option DiskPlace) (new : Trace) (told : Option Trace) (w : World) (v : View) (P : View → Type 0) → told ≡ Some new → v.layout ≡ layout → v.number ≡ 0 → length w.passes ≡ 1 → stuck_with w.lock ≡ v.left
-    → IsAfter layout young stuck new w v P → (u : View) × Knows layout young stuck told u × P u
-known_after layout young stuck new told w v P is layout_is number_is alone left_so a =
-    (a.view, subst (λ o. Knows layout young stuck o a.view) (sym is) (a.world, a.store, a.sees, a.layout_is ∙ layout_is, a.number_is ∙ number_is, a.safe, a.leaves.count ∙ alone, stuck_stays v.number w.lock a.world.lock a.leaves.lock ∙ left_so ∙ sym a.left_is), a.turned)
+pub known_after : (layout : Layout) (low young : ℕ) (stuck : Option DiskPlace) (new : Trace) (told : Option Trace) (w : World) (v : View) (P : View → Type 0) → told ≡ Some new → v.layout ≡ layout → v.number ≡ 0 → length w.passes ≡ 1 → stuck_with w.lock ≡ v.left
+    → IsAfter layout low young stuck new w v P → (u : View) × Knows layout low young stuck told u × P u
+known_after layout low young stuck new told w v P is layout_is number_is alone left_so a =
+    (a.view, subst (λ o. Knows layout low young stuck o a.view) (sym is) (a.world, a.store, a.sees, a.layout_is ∙ layout_is, a.number_is ∙ number_is, a.safe, a.leaves.count ∙ alone, stuck_stays v.number w.lock a.world.lock a.leaves.lock ∙ left_so ∙ sym a.left_is), a.turned)
 
-pub known_comes : {X E : Type 0} (layout : Layout) (young : ℕ) (stuck : Option DiskPlace) (told : Option Trace) (w : World) (v : View) (result : Result X E) (P : Went → View → Type 0) → v.layout ≡ layout → v.number ≡ 0 → length w.passes ≡ 1 → stuck_with w.lock ≡ v.left
-    → Comes layout young stuck told w v result P → (u : View) × (went : Went) × Knows layout young stuck told u × Answers result went × P went u
-known_comes layout young stuck told w v result P layout_is number_is alone left_so c =
-    let k = known_after layout young stuck c.0 told w v (P c.1) c.2 layout_is number_is alone left_so c.4 in
+pub known_comes : {X E : Type 0} (layout : Layout) (low young : ℕ) (stuck : Option DiskPlace) (told : Option Trace) (w : World) (v : View) (result : Result X E) (P : Went → View → Type 0) → v.layout ≡ layout → v.number ≡ 0 → length w.passes ≡ 1 → stuck_with w.lock ≡ v.left
+    → Comes layout low young stuck told w v result P → (u : View) × (went : Went) × Knows layout low young stuck told u × Answers result went × P went u
+known_comes layout low young stuck told w v result P layout_is number_is alone left_so c =
+    let k = known_after layout low young stuck c.0 told w v (P c.1) c.2 layout_is number_is alone left_so c.4 in
     (k.0, c.1, k.1, c.3, k.2)

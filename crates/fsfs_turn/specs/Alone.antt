@@ -55,8 +55,8 @@ pub record IsAlone (young : ℕ) (stuck : Option DiskPlace) (v : View) : Type 0 
 
 -- what the one pass of a store knows; and the files that no turn changes are in their formats and have their bytes, in each image of each
 -- moment since the opening
-abbrev pub KnowsAlone : Layout → ℕ → Option DiskPlace → Option Trace → View → Type 0
-KnowsAlone layout young stuck told v = Knows layout young stuck told v × IsAlone young stuck v × OwnFilesLast layout v.since told
+abbrev pub KnowsAlone : Layout → ℕ → ℕ → Option DiskPlace → Option Trace → View → Type 0
+KnowsAlone layout low young stuck told v = Knows layout low young stuck told v × IsAlone young stuck v × OwnFilesLast layout v.since told
 
 -- Behind calls by which a pass that is alone added nothing it has seen what it had seen, and the youngest revision is the one that it was.
 abbrev pub AloneStays : Type 0
@@ -80,9 +80,9 @@ pub record LoneImages (layout : Layout) (stuck : Option DiskPlace) (t : Trace) (
   pub left : v.section ≡ None → doubt ≡ v.left
 
 abbrev pub LoneImagesStand : Type 0
-LoneImagesStand = (layout : Layout) (young : ℕ) (stuck : Option DiskPlace) (t : Trace) (v : View) → KnowsAlone layout young stuck (Some t) v → LoneImages layout stuck t v
+LoneImagesStand = (layout : Layout) (low young : ℕ) (stuck : Option DiskPlace) (t : Trace) (v : View) → KnowsAlone layout low young stuck (Some t) v → LoneImages layout stuck t v
 
 -- So it is where none of the pass's faults left a revision in doubt: then the lock isn't stuck.
 abbrev pub NothingInDoubt : Type 0
-NothingInDoubt = (layout : Layout) (young : ℕ) (stuck : Option DiskPlace) (t : Trace) (v : View) → KnowsAlone layout young stuck (Some t) v → v.section ≡ None → are_harmless v.pass.faults ≡ true
+NothingInDoubt = (layout : Layout) (low young : ℕ) (stuck : Option DiskPlace) (t : Trace) (v : View) → KnowsAlone layout low young stuck (Some t) v → v.section ≡ None → are_harmless v.pass.faults ≡ true
     → (stuck ≡ None) × ((m : Files) → IsImage t.first t.operations m → HasHistory layout m v.seen × StandsFor m (revisions v.seen))

@@ -1,13 +1,11 @@
 -- Which stores are known as they are opened.
-use Rattle.std.specs.Prelude.{◌≡◌, ◌+◌, ◌<◌, ℕ, zero, suc, List, [], ◌∷◌, length, true, Some, None}
+use Rattle.std.specs.Prelude.{◌≡◌, ◌+◌, ℕ, zero, suc, List, [], ◌∷◌, length, Some, None}
 use Rattle.fsfs_base.specs.Files.{Files}
 use Rattle.fsfs_base.specs.FirstRevision.{first_bytes}
 use Rattle.fsfs_tree.specs.Dated.{date_name}
 use Rattle.fsfs_tree.specs.Revisions.{Revision}
 use Rattle.fsfs_disk.specs.Labels.{Label}
 use Rattle.fsfs_disk.specs.Trace.{Operation, Done, FirmNames, files_after}
-use Rattle.fsfs_revision.specs.RevBytes.{rev_file, packed_bytes}
-use Rattle.fsfs_fetch.specs.Kept.{agrees}
 use Rattle.fsfs_stands.specs.Files.{StandsFor}
 use Rattle.fsfs_stands.specs.NewRepository.{HoldsNew}
 use Rattle.fsfs_machine.specs.declared.machine.Recorded.{Recorded}
@@ -28,22 +26,18 @@ new_revision date = first_revision ((date_name, date) ∷ []) first_bytes
 -- revision 0, and is in no section. Images are spoken of from now on.
 abbrev pub NewStoreIsKnown : Type 0
 NewStoreIsKnown = (first : Files) (labels : List Label) (before : List Operation) (date : List ℕ) (new : HoldsNew (files_after first before) date)
-    → (v : View) × KnowsAlone new.layout 0 None (Some (record { first = first; labels = labels; operations = Done FirmNames ∷ before })) v
+    → (v : View) × KnowsAlone new.layout 0 0 None (Some (record { first = first; labels = labels; operations = Done FirmNames ∷ before })) v
     × (v.section ≡ None) × (v.pass ≡ first_pass 1 0) × (v.seen ≡ new_revision date ∷ []) × (v.since ≡ opened_at first before)
-
--- where a file is left over of a revision that is packed, it has the same bytes
-abbrev pub LeftoversAgree : {files : Files} {h : List Revision} → StandsFor files h → Type 0
-LeftoversAgree {files} stands = (r : ℕ) → r < stands.opened.min_unpacked_rev → agrees (rev_file stands.opened.layout files r) (packed_bytes stands.opened.layout files r) ≡ true
 
 -- the name before this number, which stands for all that were given before
 abbrev pub given_before : ℕ → List ℕ
 given_before zero = []
 given_before (suc n) = n ∷ []
 
--- Of a disk that has just made its names firm, and whose files stand for a history, and whose leftovers agree, it is known: a pass that
+-- Of a disk that has just made its names firm, and whose files stand for a history, it is known: a pass that
 -- is alone has seen all of it, and is in no section. It knows that all names below the number in `txn-current` are given. Images are spoken of from
 -- now on.
 abbrev pub StoreIsKnown : Type 0
-StoreIsKnown = (first : Files) (labels : List Label) (before : List Operation) (h : List Revision) (s : StandsFor (files_after first before) h) → LeftoversAgree s
-    → (v : View) × KnowsAlone s.opened.layout s.opened.youngest None (Some (record { first = first; labels = labels; operations = Done FirmNames ∷ before })) v
+StoreIsKnown = (first : Files) (labels : List Label) (before : List Operation) (h : List Revision) (s : StandsFor (files_after first before) h)
+    → (v : View) × KnowsAlone s.opened.layout s.opened.min_unpacked_rev s.opened.youngest None (Some (record { first = first; labels = labels; operations = Done FirmNames ∷ before })) v
     × (v.section ≡ None) × (v.pass ≡ first_pass (length h) s.opened.min_unpacked_rev) × (revisions v.seen ≡ h) × (v.since ≡ opened_at first before) × (v.given ≡ given_before s.opened.next_txn.number)

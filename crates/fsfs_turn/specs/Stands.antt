@@ -51,6 +51,6 @@ OwnFilesLast layout since told = IfSome told (λ t. (m : Files) → ImageSince s
 -- Each image now stands for a first part of the history (which begins with what the pass has seen) that has at least all that the pass
 -- has seen, or for the history with the revision in doubt, which follows it by the landing of an entry.
 abbrev pub ImagesStand : Type 0
-ImagesStand = (layout : Layout) (young : ℕ) (stuck : Option DiskPlace) (t : Trace) (v : View) → Knows layout young stuck (Some t) v → HasOwnFiles (files_now t) layout
+ImagesStand = (layout : Layout) (low young : ℕ) (stuck : Option DiskPlace) (t : Trace) (v : View) → Knows layout low young stuck (Some t) v → HasOwnFiles (files_now t) layout
     → (m : Files) → IsImage t.first t.operations m
     → (h : List Recorded) × (d : Option Coming) × (g : List Recorded) × Begins h v.seen × IsPart h d g × (length v.seen ≤ length g) × StandsFor m (revisions g) × IfSome d (Follows h)

@@ -1,5 +1,5 @@
 -- What one pass knows of the store, and what a turn is: one step of the machine.
-use Rattle.std.specs.Prelude.{◌≡◌, ◌+◌, ◌<◌, ◌≤◌, ◌^◌, ℕ, List, [], ◌∷◌, ◌++◌, length, map, take, drop, Bool, true, false, Option, Some, None, slice_get, Result, Ok, Err}
+use Rattle.std.specs.Prelude.{◌≡◌, ◌+◌, ◌<◌, ◌≤◌, ◌^◌, ℕ, List, [], ◌∷◌, ◌++◌, length, map, take, Bool, true, false, Option, Some, None, slice_get, Result, Ok, Err}
 use Rattle.std.specs.FinMap.{get}
 use Rattle.fsfs_tree.specs.Revisions.{Revision, tree_of}
 use Rattle.fsfs_model.specs.Flat.Transactions.{IsTransaction, IsNext}
@@ -19,7 +19,7 @@ use Rattle.fsfs_machine.specs.declared.machine.Coming.{Coming}
 use Rattle.fsfs_machine.specs.declared.machine.Drawn.{Drawn}
 use Rattle.fsfs_machine.specs.declared.machine.Txn.{Txn}
 use Rattle.fsfs_base.specs.declared.places.place.DiskPlace.{DiskPlace}
-use Rattle.fsfs_base.specs.declared.places.place.DiskPlace.TheVariants.{Read, Begin, Commit}
+use Rattle.fsfs_base.specs.declared.places.place.DiskPlace.TheVariants.{Begin, Commit}
 use Rattle.fsfs_base.specs.declared.places.place.BeginPlace.TheVariants as begin
 use Rattle.fsfs_base.specs.declared.places.place.CommitPlace.TheVariants.{PutRev, PutProps, FirmRev, PutCurrent, RenameCurrent, FirmCurrent}
 use Rattle.fsfs_machine.specs.declared.machine.Section.{Section}
@@ -245,14 +245,3 @@ revealed_view x v = record v { pass = reveals (length v.seen) v.pass; seen = wit
 pub record Revealed (x : Coming) (v u : View) : Type 0 where
   pub turned : Turned [] (step.Reveal v.number) outcome.Done v u
   pub is : u ≡ revealed_view x v
-
--- a range of the file of revision r, which is x, was read: the pass saw the history as it is then
-pub record ReadTurn (r offset size : ℕ) (x : Recorded) (went : Went) (v u : View) : Type 0 where
-  pub turned : Turned [] (step.Read v.number r offset size went) (either went (outcome.Bytes (take size (drop offset x.bytes))) outcome.Failed) v u
-  pub is : u ≡ record v { pass = learns (length u.seen) Read went v.pass; seen = u.seen }
-  pub grows : Begins u.seen v.seen
-  -- while the pass is sure there is no more to be seen
-  pub within : v.sure ≡ true → length u.seen ≤ v.pass.least + 1
-  -- it has seen the youngest revision that it was told of
-  pub all : v.pass.least < length u.seen
-  pub shown : AllShow u.seen

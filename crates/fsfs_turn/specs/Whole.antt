@@ -36,7 +36,7 @@ pub record NamesFrom (m : Files) (n : ℕ) : Type 0 where
 
 -- each revision that a pass has seen is whole in each image, and `current` names the last of them or a later one
 abbrev pub SeenIsWhole : Type 0
-SeenIsWhole = (layout : Layout) (young : ℕ) (stuck : Option DiskPlace) (t : Trace) (v : View) → Knows layout young stuck (Some t) v → (m : Files) → IsImage t.first t.operations m
+SeenIsWhole = (layout : Layout) (low young : ℕ) (stuck : Option DiskPlace) (t : Trace) (v : View) → Knows layout low young stuck (Some t) v → (m : Files) → IsImage t.first t.operations m
     → ((r : ℕ) (x : Recorded) → slice_get v.seen r ≡ Some x → HasRevision layout m r x) × NamesFrom m (length v.seen)
 
 -- `current` names the last of n revisions
@@ -57,10 +57,10 @@ pub record HasHistory (layout : Layout) (m : Files) (g : List Recorded) : Type 0
 -- with what the pass has seen), or for the history now with the one revision that `current` may name though it isn't revealed; that follows it
 -- by the landing of an entry.
 abbrev pub EachMomentStands : Type 0
-EachMomentStands = (layout : Layout) (young : ℕ) (stuck : Option DiskPlace) (t : Trace) (v : View) → Knows layout young stuck (Some t) v → (m : Files) → ImageSince v.since.operations t.first t.operations m
+EachMomentStands = (layout : Layout) (low young : ℕ) (stuck : Option DiskPlace) (t : Trace) (v : View) → Knows layout low young stuck (Some t) v → (m : Files) → ImageSince v.since.operations t.first t.operations m
     → (h : List Recorded) × (d : Option Coming) × (g : List Recorded) × Begins h v.seen × IsPart h d g × (v.opened ≤ length g) × HasHistory layout m g × IfSome d (Follows h)
 
 -- From any moment on it is known that images have all that the pass has seen by then: what was acknowledged is whole in each image of
 -- each later moment.
 abbrev pub KnownFromNow : Type 0
-KnownFromNow = (layout : Layout) (young : ℕ) (stuck : Option DiskPlace) (t : Trace) (v : View) → Knows layout young stuck (Some t) v → Knows layout young stuck (Some t) (record v { since = record { operations = length t.operations; files = files_now t }; opened = length v.seen })
+KnownFromNow = (layout : Layout) (low young : ℕ) (stuck : Option DiskPlace) (t : Trace) (v : View) → Knows layout low young stuck (Some t) v → Knows layout low young stuck (Some t) (record v { since = record { operations = length t.operations; files = files_now t }; opened = length v.seen })

@@ -18,6 +18,8 @@ use std::alloc::Global;
 pub struct Owned<D: Disk> {
     disk: D,
     layout: Layout,
+    // The floor that the opening read.
+    floor: RevNum,
     young: RevNum,
     // The place of the fault that left the lock stuck.
     stuck: Option<DiskPlace>,
@@ -25,19 +27,22 @@ pub struct Owned<D: Disk> {
 }
 
 impl<D: Disk> Owned<D> {
-    /// The store on this disk, whose files are laid out so, and of which this is the youngest revision. Nobody holds its lock.
-    pub fn new(disk: D, layout: Layout, young: RevNum) -> Owned<D>
+    /// The store on this disk, whose files are laid out so, of which the revisions below this floor are in packs, and this is the
+    /// youngest revision. Nobody holds its lock.
+    pub fn new(disk: D, layout: Layout, floor: RevNum, young: RevNum) -> Owned<D>
         requires { IsTrue (D.may_write disk) }
         ensures disk { result.disk ≡ disk }
         ensures layout { result.layout ≡ layout }
+        ensures floor { result.floor ≡ floor }
         ensures young { result.young ≡ young }
         ensures free { result.stuck ≡ None }
         // What is known of it with this layout and number is what its pass knows.
-        ensures known { (v : View) → KnowsAlone layout young None (D.trace disk) v → KnowsAlone result.layout result.young result.stuck (D.trace result.disk) v }
+        ensures known { (v : View) → KnowsAlone layout floor young None (D.trace disk) v → KnowsAlone result.layout result.floor result.young result.stuck (D.trace result.disk) v }
     {
         Owned {
             disk,
             layout,
+            floor,
             young,
             stuck: None,
         }
@@ -69,7 +74,7 @@ impl<R, D: Disk> Turns<R> for Owned<D> {
 
     type Bench = D::Bench;
 
-    ghost knows = { λ s v. KnowsAlone s.layout s.young s.stuck (D.trace s.disk) v };
+    ghost knows = { λ s v. KnowsAlone s.layout s.floor s.young s.stuck (D.trace s.disk) v };
 
     ghost bound = { λ s. false };
 
@@ -77,7 +82,9 @@ impl<R, D: Disk> Turns<R> for Owned<D> {
 
     ghost Lasting = { OwnedState };
 
-    ghost store = { λ s. owned_view (state_of s.layout s.young s.stuck (D.trace s.disk) (D.mount_path s.disk) (D.bench_faults s.disk)) };
+    ghost low = { λ s. s.floor };
+
+    ghost store = { λ s. owned_view (state_of s.layout s.floor s.young s.stuck (D.trace s.disk) (D.mount_path s.disk) (D.bench_faults s.disk)) };
 
     ghost labels = { λ s. option_map labels_now (D.trace s.disk) };
 
@@ -89,6 +96,10 @@ impl<R, D: Disk> Turns<R> for Owned<D> {
 
     fn layout(&self) -> Layout {
         self.layout
+    }
+
+    fn floor(&self) -> RevNum {
+        self.floor
     }
 
     fn look(&mut self) -> RevNum {
@@ -182,10 +193,10 @@ impl<R, D: Disk> Turns<R> for Owned<D> {
         label: &Label,
         bench: Option<D::Bench>,
     ) -> Result<bool, Failed>
-        ensures purged { (v : View) (txn : Txn) (base : ℕ) → KnowsAlone self.old.layout self.old.young self.old.stuck (D.trace self.old.disk) v → MayPurge v txn → label_of label.now ≡ TxnLabel base txn.name
-            → (u : View) × (went : Went) × KnowsAlone self.new.layout self.new.young self.new.stuck (D.trace self.new.disk) u × Answers result went × Purged txn went v u }
-        ensures spent { (v : View) (name base : ℕ) → KnowsAlone self.old.layout self.old.young self.old.stuck (D.trace self.old.disk) v → v.section ≡ None → IsIn name v.given → label_of label.now ≡ TxnLabel base name
-            → (u : View) × (went : Went) × KnowsAlone self.new.layout self.new.young self.new.stuck (D.trace self.new.disk) u × Answers result went × SpentPurged name went v u }
+        ensures purged { (v : View) (txn : Txn) (base : ℕ) → KnowsAlone self.old.layout self.old.floor self.old.young self.old.stuck (D.trace self.old.disk) v → MayPurge v txn → label_of label.now ≡ TxnLabel base txn.name
+            → (u : View) × (went : Went) × KnowsAlone self.new.layout self.new.floor self.new.young self.new.stuck (D.trace self.new.disk) u × Answers result went × Purged txn went v u }
+        ensures spent { (v : View) (name base : ℕ) → KnowsAlone self.old.layout self.old.floor self.old.young self.old.stuck (D.trace self.old.disk) v → v.section ≡ None → IsIn name v.given → label_of label.now ≡ TxnLabel base name
+            → (u : View) × (went : Went) × KnowsAlone self.new.layout self.new.floor self.new.young self.new.stuck (D.trace self.new.disk) u × Answers result went × SpentPurged name went v u }
         ensures mounted { D.mount_path self.new.disk ≡ D.mount_path self.old.disk }
         ensures duty { false ≡ false }
         ensures dropped { IfOk result (λ there. Drops false (label_of label.now) there (option_map labels_now (D.trace self.old.disk)) (option_map labels_now (D.trace self.new.disk))) }
@@ -198,9 +209,9 @@ impl<R, D: Disk> Turns<R> for Owned<D> {
 
     ghost sole = { λ s v u bound known other. never_bound bound };
 
-    ghost tells = { λ s v known. owned_tells s.layout s.young s.stuck (D.trace s.disk) (D.mount_path s.disk) (D.bench_faults s.disk) v known.0 };
+    ghost tells = { λ s v known. owned_tells s.layout s.floor s.young s.stuck (D.trace s.disk) (D.mount_path s.disk) (D.bench_faults s.disk) v known.0 };
 
-    ghost benches_tell = { λ s v bench known. owned_benches_tell s.layout s.young s.stuck (D.trace s.disk) (D.Bench.contents bench) v (D.benches_tell s.disk bench) known.0 };
+    ghost benches_tell = { λ s v bench known. owned_benches_tell s.layout s.floor s.young s.stuck (D.trace s.disk) (D.Bench.contents bench) v (D.benches_tell s.disk bench) known.0 };
 
     ghost short = { λ s. owned_short (D.trace s.disk) (D.short s.disk) };
 }
@@ -212,11 +223,11 @@ impl<R, D: Disk> LoneTurns<R> for Owned<D> {
 
     ghost free = { λ s. refl };
 
-    ghost still = { λ a b v same known. known_still (state_of a.layout a.young a.stuck (D.trace a.disk) (D.mount_path a.disk) (D.bench_faults a.disk)) (state_of b.layout b.young b.stuck (D.trace b.disk) (D.mount_path b.disk) (D.bench_faults b.disk)) v same known };
+    ghost still = { λ a b v same known. known_still (state_of a.layout a.floor a.young a.stuck (D.trace a.disk) (D.mount_path a.disk) (D.bench_faults a.disk)) (state_of b.layout b.floor b.young b.stuck (D.trace b.disk) (D.mount_path b.disk) (D.bench_faults b.disk)) v same known };
 
-    ghost same_files = { λ a b same. files_same (state_of a.layout a.young a.stuck (D.trace a.disk) (D.mount_path a.disk) (D.bench_faults a.disk)) (state_of b.layout b.young b.stuck (D.trace b.disk) (D.mount_path b.disk) (D.bench_faults b.disk)) same };
+    ghost same_files = { λ a b same. files_same (state_of a.layout a.floor a.young a.stuck (D.trace a.disk) (D.mount_path a.disk) (D.bench_faults a.disk)) (state_of b.layout b.floor b.young b.stuck (D.trace b.disk) (D.mount_path b.disk) (D.bench_faults b.disk)) same };
 
-    ghost same_labels = { λ a b same. labels_same (state_of a.layout a.young a.stuck (D.trace a.disk) (D.mount_path a.disk) (D.bench_faults a.disk)) (state_of b.layout b.young b.stuck (D.trace b.disk) (D.mount_path b.disk) (D.bench_faults b.disk)) same };
+    ghost same_labels = { λ a b same. labels_same (state_of a.layout a.floor a.young a.stuck (D.trace a.disk) (D.mount_path a.disk) (D.bench_faults a.disk)) (state_of b.layout b.floor b.young b.stuck (D.trace b.disk) (D.mount_path b.disk) (D.bench_faults b.disk)) same };
 
-    ghost same_mounting = { λ a b same. mounting_same (state_of a.layout a.young a.stuck (D.trace a.disk) (D.mount_path a.disk) (D.bench_faults a.disk)) (state_of b.layout b.young b.stuck (D.trace b.disk) (D.mount_path b.disk) (D.bench_faults b.disk)) same };
+    ghost same_mounting = { λ a b same. mounting_same (state_of a.layout a.floor a.young a.stuck (D.trace a.disk) (D.mount_path a.disk) (D.bench_faults a.disk)) (state_of b.layout b.floor b.young b.stuck (D.trace b.disk) (D.mount_path b.disk) (D.bench_faults b.disk)) same };
 }

@@ -87,8 +87,8 @@ impl<R, T: Turns<R>> Reads for PassReads<'_, R, T> {
 }
 
 /// A book over turns, of the revisions up to this one: others may add more while it is read. Of each of these that the pass has seen it
-/// tells the bytes beside it, and reads its properties. It begins with the floor 0: a revision is looked for in its shard's pack where its own
-/// file is absent.
+/// tells the bytes beside it, and reads its properties. It begins with the floor of the opening: no file that lay there of a revision below
+/// it is looked at.
 pub fn over_pass<'a, R, T: Turns<R>>(
     alloc: Global,
     rt: &'a R,
@@ -102,6 +102,7 @@ pub fn over_pass<'a, R, T: Turns<R>>(
     ensures below { (⟦<Direct<PassReads<'a, R, T>> as Book>⟧.told result).below ≡ (turns, (T.store turns).below) }
     ensures faults { ⟦<Direct<PassReads<'a, R, T>> as Book>⟧.faults result ≡ T.faults turns }
 {
+    let floor = turns.floor();
     let first = Note::of(&AsTheyStand { turns: &turns });
     let reads = PassReads {
         rt,
@@ -109,7 +110,7 @@ pub fn over_pass<'a, R, T: Turns<R>>(
         youngest,
         first,
     };
-    Direct::new(alloc, reads, RevNum::ZERO)
+    Direct::new(alloc, reads, floor)
 }
 
 /// The turns again. What the pass knows now comes of what it knew at the beginning by reading alone.

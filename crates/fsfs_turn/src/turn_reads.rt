@@ -58,7 +58,7 @@ impl<R, T: Turns<R>> Reads for TurnReads<'_, R, T> {
 }
 
 /// A book over turns. Of each revision that the pass has seen it tells the bytes beside it, and reads its properties. It begins with the
-/// floor 0: a revision is looked for in its shard's pack where its own file is absent.
+/// floor of the opening: no file that lay there of a revision below it is looked at.
 pub fn over_turns<'a, R, T: Turns<R>>(
     alloc: Global,
     rt: &'a R,
@@ -70,7 +70,8 @@ pub fn over_turns<'a, R, T: Turns<R>>(
     ensures below { (⟦<Direct<TurnReads<'a, R, T>> as Book>⟧.told result).below ≡ (T.store turns).below }
     ensures faults { ⟦<Direct<TurnReads<'a, R, T>> as Book>⟧.faults result ≡ T.faults turns }
 {
-    Direct::new(alloc, TurnReads { rt, turns }, RevNum::ZERO)
+    let floor = turns.floor();
+    Direct::new(alloc, TurnReads { rt, turns }, floor)
 }
 
 /// The turns again.

@@ -20,7 +20,7 @@ ghost use Rattle.fsfs_machine.specs.declared.machine.Step.TheVariants.{GiveLock,
 ghost use Rattle.fsfs_machine.specs.declared.machine.Went.{Went};
 ghost use Rattle.fsfs_machine.specs.declared.machine.Went.TheVariants.{Fine, Before};
 ghost use Rattle.fsfs_machine.specs.Kept.{IsIn};
-ghost use Rattle.fsfs_turn.specs.Views.{View, rev_name, props_name, IsDue, MayAdopt, MayGive, Answers, Called, Adopted, Looked, LockTaken, FoundStuck, LockGiven, Revealed, ReadTurn};
+ghost use Rattle.fsfs_turn.specs.Views.{View, rev_name, props_name, IsDue, MayAdopt, MayGive, Answers, Called, Adopted, Looked, LockTaken, FoundStuck, LockGiven, Revealed};
 ghost use Rattle.fsfs_fetch.specs.Views.{View as StoreView, Later, IsYoungest, IsKnown};
 ghost use Rattle.fsfs_turn.specs.Courses.{ReadOnly};
 ghost use Rattle.fsfs_turn.specs.Telling.{TellsSeen};
@@ -57,6 +57,9 @@ pub trait Turns<R> {
     /// What neither reading nor taking and giving the lock changes.
     ghost Lasting: { Type 0 };
 
+    /// The floor of the opening is of that.
+    ghost low: { Lasting → ℕ };
+
     /// What it tells one who reads: how the files are laid out, which revisions there are, and the files as the last call met them.
     ghost store: { Self → StoreView Lasting };
 
@@ -76,6 +79,10 @@ pub trait Turns<R> {
     /// How the files are laid out.
     fn layout(&self) -> Layout
         ensures { result ≡ (store self.now).layout };
+
+    /// The floor that the opening read: revisions below it are in packs. A file that lay there of one of these is none of the store's.
+    fn floor(&self) -> RevNum
+        ensures { result ≡ low (store self.now).below };
 
     /// The youngest revision. It waits for nobody.
     fn look(&mut self) -> RevNum
@@ -200,9 +207,8 @@ pub trait Turns<R> {
         ensures bench_same { Self.Bench.faults bench.new ≡ Self.Bench.faults bench.old }
         ensures cause { HasCause (faults self.old) (faults self.new) result };
 
-    /// Fills the buffer from an offset on, as far as the file goes. Of a revision that the pass has seen, from the floor on, it gives the
-    /// bytes beside it.
-    /// In the same way it gives the properties of one, and the floor. `None`: there is no such file.
+    /// Fills the buffer from an offset on, as far as the file goes. Of a revision that the pass has seen it gives the properties, where it is
+    /// asked for that file, and in the same way the floor. `None`: there is no such file.
     fn read(
         &mut self,
         rt: &R,
@@ -218,8 +224,6 @@ pub trait Turns<R> {
         ensures later { Later (store self.old) (store self.new) }
         // Whatever file it is, what the pass knows then comes of what it knew by reading alone.
         ensures onward { (v : View) → knows self.old v → (u : View) × knows self.new u × ReadOnly v u }
-        ensures turned { (v : View) (r : ℕ) (x : Recorded) → knows self.old v → slice_get v.seen r ≡ Some x → r < 2 ^ 32 → v.pass.floor ≤ r → name.now ≡ rev_name v r
-            → (u : View) × (went : Went) × knows self.new u × Answers result went × ReadTurn r offset (length buffer.old) x went v u × IfOk result (IsRead (Some x.bytes) offset buffer.old buffer.new) }
         ensures properties { (v : View) (r : ℕ) (x : Recorded) → knows self.old v → slice_get v.seen r ≡ Some x → r < 2 ^ 32 → name.now ≡ props_name v r
             → (u : View) × (went : Went) × (text : List ℕ) × knows self.new u × Answers result went × PropsRead r x went v u × IsDump text x.revision.properties × IfOk result (IsRead (Some text) offset buffer.old buffer.new) }
         ensures floor { (v : View) → knows self.old v → name.now ≡ only_name MinUnpackedRev
@@ -239,7 +243,7 @@ pub trait Turns<R> {
             → ReadsCounter (knows self.new) (store self.new).files base result buffer.old buffer.new v }
         ensures cause { HasCause (faults self.old) (faults self.new) result };
 
-    /// The length of a file. Of a revision that the pass has seen, from the floor on, it is that of the bytes beside it.
+    /// The length of a file.
     fn size(&mut self, rt: &R, name: &Name) -> Result<Option<u64>, Failed>
         ensures mounted { mounting self.new ≡ mounting self.old }
         ensures duty { bound self.new ≡ bound self.old }
@@ -247,8 +251,6 @@ pub trait Turns<R> {
         ensures length { IfSome (store self.new).files (λ m. IfOk result (IsSize (get m name.now))) }
         ensures later { Later (store self.old) (store self.new) }
         ensures onward { (v : View) → knows self.old v → (u : View) × knows self.new u × ReadOnly v u }
-        ensures turned { (v : View) (r : ℕ) (x : Recorded) → knows self.old v → slice_get v.seen r ≡ Some x → r < 2 ^ 32 → v.pass.floor ≤ r → name.now ≡ rev_name v r
-            → (u : View) × (went : Went) × knows self.new u × Answers result went × ReadTurn r 0 0 x went v u × IfOk result (IsSize (Some x.bytes)) }
         ensures cause { HasCause (faults self.old) (faults self.new) result };
 
     /// The names of the folders of transactions, in the order of their bytes: one for each label of a transaction that is kept.
@@ -314,7 +316,7 @@ pub trait Turns<R> {
     ghost sole: { (turns : Self) (v u : View) → bound turns ≡ true → knows turns v → knows turns u → u ≡ v };
 
     /// What the pass has seen can be read, where something is known.
-    ghost tells: { (turns : Self) (v : View) → knows turns v → TellsSeen (store turns) v };
+    ghost tells: { (turns : Self) (v : View) → knows turns v → TellsSeen (low (store turns).below) (store turns) v };
 
     /// Where something is known, its benches tell their files.
     ghost benches_tell: { (turns : Self) (v : View) (bench : Self.Bench) → knows turns v → IsSome (Self.Bench.contents bench) };

@@ -1,14 +1,17 @@
 -- What two workers need of the first pass of a repository that was just opened, and what they come to.
-use Rattle.std.proofs.Common.{◌≡◌, ℕ, List, [], length, true, false, refl, sym, ap, subst, ◌∙◌}
-use Rattle.std.specs.Prelude.{Option, Some, None, IfSome, is_some}
+use Rattle.std.proofs.Common.{◌≡◌, ℕ, zero, suc, arith, List, [], length, true, false, refl, sym, ap, subst, ◌∙◌}
+use Rattle.std.specs.Prelude.{Option, Some, None, IfSome, is_some, option_map}
 use Rattle.fsfs_tree.specs.Dated.{last_of}
 use Rattle.fsfs_tree.specs.Revisions.{Revision}
 use Rattle.fsfs_layout.specs.declared.layout.Layout.{Layout}
-use Rattle.fsfs_disk.specs.Trace.{Trace, FirmNames, Performs}
+use Rattle.fsfs_disk.specs.Labels.{Label, Txn as TxnLabel, Pack, HotCopy}
+use Rattle.fsfs_disk.specs.Trace.{Trace, Done, FirmNames, Performs, add_operation, labels_now}
 use Rattle.fsfs_machine.specs.Machine.{revisions}
-use Rattle.fsfs_turn.specs.Opening.{opened_at}
+use Rattle.fsfs_turn.specs.Opening.{given_before, opened_at}
 use Rattle.fsfs_turn.specs.declared.since.Since.{Since}
 use Rattle.fsfs_pass.specs.declared.seats.seat_view.SeatView.{SeatView}
+use Rattle.fsfs_pass.specs.Met.{ground_of}
+use Rattle.fsfs_pass.specs.OtherLabels.{IsAboveAll, KeepsOthersOf}
 use Rattle.fsfs_pass.specs.Seats.{IsSitting}
 use Rattle.fsfs_pass.specs.Tells.{TellsIt}
 use Rattle.fsfs_repo.specs.Known.{HoldBytes}
@@ -19,7 +22,7 @@ use Rattle.fsfs_job_run.specs.Workers.Beside.{IsOfOne}
 use Rattle.fsfs_job_run.specs.Runs.{HoldsAll}
 use Rattle.fsfs_workers.specs.Ready.{IsReady}
 use Rattle.fsfs_workers.specs.Two.{RanTwo}
-use Rattle.fsfs_workers.specs.ByWorkers.{RanBeside, RanBesideOver}
+use Rattle.fsfs_workers.specs.ByWorkers.{IsFrom, KeepsEarlier, RanBeside, RanBesideOver}
 
 -- ---- the first pass: v is what its seat knows, over a disk that told `before`, and `told` when its names were made firm
 
@@ -34,8 +37,8 @@ module _ (before told : Option Trace) (v : SeatView) (firm : Performs FirmNames 
       at None f s = let no : v.told ≡ false = tells_it ∙ ap (λ o. is_some o) f in absurd cc
       at (Some t) f s = (t, s)
 
-  pub is_ready : (layout : Layout) → IsSitting v → v.layout ≡ layout → IsReady layout (is_some told) v
-  is_ready layout sitting laid = record {
+  pub is_ready : (layout : Layout) (low : ℕ) → IsSitting v → ground_of v ≡ record { layout = layout; low = low } → IsReady layout low (is_some told) v
+  is_ready layout low sitting laid = record {
     sitting = sitting;
     laid = laid;
     met = tells.0;
@@ -69,3 +72,19 @@ beside_over (Some t) left v seen same moment js answers youngest ran = (revision
     at : (o : Option Trace) → is_some o ≡ v.told → ((z : Trace) → o ≡ Some z → RanTwo moment v.since js answers youngest (revisions v.seen) z) → RanBeside moment (opened_at t.first t.operations) 2 js answers youngest (revisions v.seen) o
     at None none did = let tells = seen.told in absurd cc
     at (Some z) same did = beside moment v.since (opened_at t.first t.operations) js answers youngest (revisions v.seen) z seen.since (did z refl)
+
+-- ---- the labels
+
+-- a name that isn't above the names before a number is less than it
+from_before : (n : ℕ) (l : Label) → (IsFrom n l → ⊥) → IsAboveAll (given_before n) l → ⊥
+from_before zero (TxnLabel base name) other above = other (omega arith)
+from_before (suc n) (TxnLabel base name) other above = let less = above.0 in other (omega (arith, less))
+from_before n (Pack shard) other above = above
+from_before n HotCopy other above = above
+
+-- those that the table left as they were, where it began behind the opening
+pub keeps_earlier : (n : ℕ) (names : List ℕ) (before told began left : Option Trace) → Performs FirmNames before told → began ≡ told → IfSome before (λ t. names ≡ given_before n) → KeepsOthersOf names began left → KeepsEarlier n (option_map labels_now before) (option_map labels_now left)
+keeps_earlier n names None told began left firm is given keeps = tt
+keeps_earlier n names (Some t) told began None firm is given keeps = tt
+keeps_earlier n names (Some t) told began (Some z) firm is given keeps = λ l other.
+    (subst (λ (ks : List ℕ). KeepsOthersOf ks (Some (add_operation (Done FirmNames) t)) (Some z)) given (subst (λ o. KeepsOthersOf names o (Some z)) (is ∙ firm) keeps)) l (from_before n l other)

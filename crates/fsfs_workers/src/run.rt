@@ -2,6 +2,7 @@
 ghost use Rattle.std.specs.Prelude.{◌≡◌, ◌≤◌, [], length, true, Some, is_some, IfOk, OnErr};
 ghost use Rattle.fsfs_disk.specs.Trace.{Trace};
 ghost use Rattle.fsfs_machine.specs.Machine.{revisions};
+ghost use Rattle.fsfs_pass.specs.OtherLabels.{KeepsOthersOf};
 ghost use Rattle.fsfs_pass.specs.Seats.{alone};
 ghost use Rattle.fsfs_repo.specs.Known.{HoldBytes};
 ghost use Rattle.fsfs_job_run.specs.Workers.Lines.{disk_faults_in, RoseBy};
@@ -35,7 +36,7 @@ where
     D::Bench: Send,
     requires moment { micros ≤ 4102444799999999 }
     requires sits { (seat.table_id ≡ repo.board.shared.table_id) × (seat.me.1 ≡ []) }
-    requires ready { IsReady repo.layout (is_some (D.trace repo.first.value)) seat.me.0 }
+    requires ready { IsReady repo.layout repo.floor (is_some (D.trace repo.first.value)) seat.me.0 }
     requires alone { seat.me.0.kin ≡ alone }
     // It has seen all that there was as images began to be spoken of, with the bytes of each, has added nothing since, and met no fault; and it
     // has met the disk as it was first.
@@ -45,6 +46,8 @@ where
     requires fresh { (seat.me.0.met ≡ D.trace repo.first.value) × (seat.me.0.failures ≡ 0) × (seat.me.0.bench_failures ≡ 0) }
     ensures ran { (t : Trace) → D.trace result.0 ≡ Some t → IfOk result.1 (λ done. RanTwo micros seat.me.0.since jobs.now done.answers.items done.youngest (revisions seat.me.0.seen) t) }
     ensures told { is_some (D.trace result.0) ≡ seat.me.0.told }
+    // Of the labels that were kept as the table began all are, and no more, but for transactions whose names are above those that were given then.
+    ensures labels { KeepsOthersOf repo.board.shared.key.value.seat.given repo.board.shared.key.value.disk.trace (D.trace result.0) }
     ensures each { IfOk result.1 (λ done. length done.answers.items ≡ length jobs.now) }
     ensures none { OnErr result.1 (D.trace result.0 ≡ D.trace repo.first.value) }
     // Whatever the disk tells: as many calls of it failed as lines tell of, and as many of its benches.
@@ -55,8 +58,11 @@ where
 {
     let first = repo.first();
     let layout = repo.layout();
+    let floor = repo.floor();
     let board = repo.board();
-    let (mut seat, done) = do_beside(rt, alloc, board, seat, layout, &first, jobs, micros, gate);
+    let (mut seat, done) = do_beside(
+        rt, alloc, board, seat, layout, floor, &first, jobs, micros, gate,
+    );
     match done {
         Ok(answers) => {
             let youngest = look(board, &mut seat);

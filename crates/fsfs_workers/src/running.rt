@@ -4,7 +4,6 @@ ghost use Rattle.fsfs_tree.specs.Revisions.{Revision};
 ghost use Rattle.fsfs_disk.specs.Trace.{files_now};
 ghost use Rattle.fsfs_stands.specs.Files.{StandsFor};
 ghost use Rattle.fsfs_turn.specs.Mountings.{RoseBy};
-ghost use Rattle.fsfs_turn.specs.Opening.{LeftoversAgree};
 ghost use Rattle.fsfs_job_run.specs.Runs.{run_scene, PrintsRun};
 ghost use Rattle.fsfs_workers.specs.ByWorkers.{RunsByWorkers};
 ghost use Rattle.fsfs_workers.specs.Works.{Works};
@@ -45,7 +44,7 @@ where
     requires right { IsTrue (D.may_write disk) }
     requires moment { micros ≤ 4102444799999999 }
     // Passes rest on each other, so where the disk tells its files they stand for a history.
-    requires stands { IfSome (D.trace disk) (λ t. (h : List Revision) × (stands : StandsFor (files_now t) h) × LeftoversAgree stands) }
+    requires stands { IfSome (D.trace disk) (λ t. (h : List Revision) × StandsFor (files_now t) h) }
     ensures works { Works micros 2 true (D.faults disk) (D.faults result.0) (λ n. RoseBy n 0 (D.bench_faults result.0)) (D.trace disk) (D.trace result.0) (I.remaining input.old) (I.remaining input.new) (I.faults input.old) (I.faults input.new) result.1 }
     ensures mounted { D.mount_path result.0 ≡ D.mount_path disk }
     ensures later { D.faults disk ≤ D.faults result.0 }
@@ -110,7 +109,7 @@ where
     D::Bench: Send,
     requires right { IsTrue (D.may_write disk) }
     requires moment { micros ≤ 4102444799999999 }
-    requires stands { known ≡ true → IfSome (D.trace disk) (λ t. (h : List Revision) × (stands : StandsFor (files_now t) h) × LeftoversAgree stands) }
+    requires stands { known ≡ true → IfSome (D.trace disk) (λ t. (h : List Revision) × StandsFor (files_now t) h) }
     ensures works { Works micros 2 known (D.faults disk) (D.faults result.0) (λ n. RoseBy n 0 (D.bench_faults result.0)) (D.trace disk) (D.trace result.0) (I.remaining input.old) (I.remaining input.new) (I.faults input.old) (I.faults input.new) result.1 }
     ensures mounted { D.mount_path result.0 ≡ D.mount_path disk }
     ensures later { D.faults disk ≤ D.faults result.0 }
@@ -148,7 +147,7 @@ where
     D::Bench: Send,
     requires right { IsTrue (D.may_write disk) }
     requires moment { micros ≤ 4102444799999999 }
-    requires stands { known ≡ true → IfSome (D.trace disk) (λ t. (h : List Revision) × (stands : StandsFor (files_now t) h) × LeftoversAgree stands) }
+    requires stands { known ≡ true → IfSome (D.trace disk) (λ t. (h : List Revision) × StandsFor (files_now t) h) }
     ensures ran { RunsByWorkers micros 2 known (D.faults disk) (D.faults result.0) (λ n. RoseBy n 0 (D.bench_faults result.0)) (run_scene (D.trace disk) (I.remaining input.old) (I.faults input.old) (O.written out.old) (O.faults out.old))
         (run_scene (D.trace result.0) (I.remaining input.new) (I.faults input.new) (O.written out.new) (O.faults out.new)) result.1 }
     ensures mounted { D.mount_path result.0 ≡ D.mount_path disk }

@@ -10,7 +10,7 @@ ghost use Rattle.fsfs_workers.specs.OneWorker.{HasWorked};
 use crate::answers::{Rooms, in_order};
 use crate::share::Share;
 use crate::worker::work;
-use fsfs_base::{Gate, Note};
+use fsfs_base::{Gate, Note, RevNum};
 use fsfs_disk::Disk;
 use fsfs_jobs::JobAnswer;
 use fsfs_layout::Layout;
@@ -42,6 +42,7 @@ pub fn do_beside<R: Threads + Wait + Sync, D: Disk + Drop + Send, G: Gate + Sync
     board: &Board<D>,
     seat: SharedSeat<D>,
     layout: Layout,
+    floor: RevNum,
     first: &Note<D>,
     jobs: &[Job],
     micros: u64,
@@ -52,7 +53,7 @@ where
     requires moment { micros ≤ 4102444799999999 }
     requires sits { (seat.table_id ≡ board.now.shared.table_id) × (board.now.shared.table_id.words ≡ 3) × (board.now.shared.table_id.slots ≡ 1) × (seat.me.1 ≡ []) }
     requires parts { 1 < seat.me.0.kin.parts }
-    requires ready { IsReady layout (is_some (D.trace first.now.value)) seat.me.0 }
+    requires ready { IsReady layout floor (is_some (D.trace first.now.value)) seat.me.0 }
     // Where the disk tells: the lines of both hold of the one history, and each revision that they tell is the pass's own or the other's.
     ensures did { seat.me.0.told ≡ true → IfOk result.1 (λ answers. BothWorked micros jobs.now answers.items seat.me.0 result.0.me.0) }
     ensures each { IfOk result.1 (λ answers. length answers.items ≡ length jobs.now) }
@@ -84,24 +85,25 @@ where
             requires moment { micros ≤ 4102444799999999 }
             requires room { (firsts.items ≡ []) × (length jobs.now ≤ vec_capacity firsts) }
             requires sits { (seat.table_id ≡ board.now.shared.table_id) × (board.now.shared.table_id.words ≡ 3) × (board.now.shared.table_id.slots ≡ 1) × (seat.me.1 ≡ []) }
-            requires ready { IsReady layout (is_some (D.trace note.value)) seat.me.0 }
+            requires ready { IsReady layout floor (is_some (D.trace note.value)) seat.me.0 }
             ensures worked { HasWorked micros (dealt 2 0 jobs.entry.now) result.1.items seat.me.0 result.0.me.0 }
             ensures sits { (result.0.table_id ≡ seat.table_id) × (result.0.me.1 ≡ []) }
         {
             work(
-                rt, alloc, board, seat, layout, note, jobs, FIRST, micros, gate, firsts,
+                rt, alloc, board, seat, layout, floor, note, jobs, FIRST, micros, gate, firsts,
             )
         },
         move || -> (SharedSeat<D>, Vec<JobAnswer>)
             requires moment { micros ≤ 4102444799999999 }
             requires room { (seconds.items ≡ []) × (length jobs.now ≤ vec_capacity seconds) }
             requires sits { (other.table_id ≡ board.now.shared.table_id) × (board.now.shared.table_id.words ≡ 3) × (board.now.shared.table_id.slots ≡ 1) × (other.me.1 ≡ []) }
-            requires ready { IsReady layout (is_some (D.trace other_note.value)) other.me.0 }
+            requires ready { IsReady layout floor (is_some (D.trace other_note.value)) other.me.0 }
             ensures worked { HasWorked micros (dealt 2 1 jobs.entry.now) result.1.items other.me.0 result.0.me.0 }
             ensures sits { (result.0.table_id ≡ other.table_id) × (result.0.me.1 ≡ []) }
         {
             work(
-                rt, alloc, board, other, layout, other_note, jobs, SECOND, micros, gate, seconds,
+                rt, alloc, board, other, layout, floor, other_note, jobs, SECOND, micros, gate,
+                seconds,
             )
         },
     );

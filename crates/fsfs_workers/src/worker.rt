@@ -6,7 +6,7 @@ ghost use Rattle.fsfs_workers.specs.Ready.{IsReady};
 ghost use Rattle.fsfs_workers.specs.OneWorker.{HasWorked};
 
 use crate::share::{Share, do_share};
-use fsfs_base::{Gate, Note};
+use fsfs_base::{Gate, Note, RevNum};
 use fsfs_disk::Disk;
 use fsfs_jobs::JobAnswer;
 use fsfs_layout::Layout;
@@ -22,6 +22,7 @@ pub(crate) fn work<R: Wait, D: Disk + Drop, G: Gate>(
     board: &Board<D>,
     seat: SharedSeat<D>,
     layout: Layout,
+    floor: RevNum,
     first: Note<D>,
     jobs: &[Job],
     share: Share,
@@ -33,11 +34,11 @@ pub(crate) fn work<R: Wait, D: Disk + Drop, G: Gate>(
     requires share { share.before < share.workers }
     requires room { (room.items ≡ []) × (length jobs.now ≤ vec_capacity room) }
     requires sits { (seat.table_id ≡ board.now.shared.table_id) × (board.now.shared.table_id.words ≡ 3) × (board.now.shared.table_id.slots ≡ 1) × (seat.me.1 ≡ []) }
-    requires ready { IsReady layout (is_some (D.trace first.value)) seat.me.0 }
+    requires ready { IsReady layout floor (is_some (D.trace first.value)) seat.me.0 }
     ensures worked { HasWorked micros (dealt share.workers share.before jobs.now) result.1.items seat.me.0 result.0.me.0 }
     ensures sits { (result.0.table_id ≡ seat.table_id) × (result.0.me.1 ≡ []) }
 {
-    let pass = PassTurns::new(board, seat, layout, first);
+    let pass = PassTurns::new(board, seat, layout, floor, first);
     let (pass, answers) = do_share(rt, alloc, pass, jobs, share, micros, gate, room);
     (pass.into_seat(), answers)
 }

@@ -6,7 +6,7 @@ use Rattle.fsfs_layout.specs.FileNames.{only_name}
 use Rattle.fsfs_layout.specs.Small.{IsBase36Line}
 use Rattle.fsfs_layout.specs.declared.only_file.OnlyFile.TheVariants.{TxnCurrent}
 use Rattle.fsfs_fetch.specs.Views.{Later}
-use Rattle.fsfs_disk.specs.Labels.{Label}
+use Rattle.fsfs_disk.specs.Labels.{Label, Txn as TxnLabel}
 use Rattle.fsfs_disk.specs.Trace.{Trace, NameChange, Put, Adopt, file_at}
 use Rattle.fsfs_base.specs.declared.places.place.DiskPlace.{DiskPlace}
 use Rattle.fsfs_machine.specs.declared.machine.Recorded.{Recorded}
@@ -16,7 +16,7 @@ use Rattle.fsfs_machine.specs.declared.machine.Went.{Went}
 use Rattle.fsfs_machine.specs.declared.machine.Went.TheVariants.{Before}
 use Rattle.fsfs_machine.specs.Kept.{IsIn}
 use Rattle.fsfs_machine.specs.Machine.{last_name}
-use Rattle.fsfs_turn.specs.Views.{View, IsDue, Answers, Called, MayAdopt, Adopted, ReadTurn}
+use Rattle.fsfs_turn.specs.Views.{View, IsDue, Answers, Called, MayAdopt, Adopted}
 use Rattle.fsfs_turn.specs.declared.adoption.Adoption.{Adoption}
 use Rattle.fsfs_turn.specs.Learning.{PropsRead, FloorRead, CounterRead, Listed, MayMake, BenchMade, MayPurge, Purged, SpentPurged}
 use Rattle.fsfs_pass.specs.declared.seats.seat_view.Hand.TheVariants.{Empty}
@@ -54,7 +54,6 @@ called_back = Back (λ m u. CalledBy (failed_of (carried m.1)) (view_of m.0) u)
 
 -- whatever was read: the file of a revision that the pass has seen, its properties, the floor
 pub record ReadBy (went : Went) (v u : View) : Type 0 where
-  pub bytes : (r offset size : ℕ) (x : Recorded) → slice_get v.seen r ≡ Some x → ReadTurn r offset size x went v u
   pub properties : (r : ℕ) (x : Recorded) → slice_get v.seen r ≡ Some x → PropsRead r x went v u
   pub floor : FloorRead v.pass.floor went v u
 
@@ -125,9 +124,13 @@ BenchedBy failed v u = (x : Drawn) → MayMake v x → (went : Went) × Ended fa
 abbrev pub benched_back : At → Sat → ℕ → Sat → Type 0
 benched_back = Back (λ m u. BenchedBy (failed_of (carried m.1)) (view_of m.0) u)
 
+-- a label may be kept: that of a transaction whose bench may be made
+abbrev pub MayKeep : View → Label → Type 0
+MayKeep v l = (x : Drawn) × MayMake v x × (l ≡ TxnLabel x.base x.name)
+
 -- a label may be dropped: that of a transaction whose name the pass knows to be given
-abbrev pub MayDrop : View → Type 0
-MayDrop v = (name : ℕ) × (v.section ≡ None) × IsIn name v.given
+abbrev pub MayDrop : View → Label → Type 0
+MayDrop v l = (name : ℕ) × (v.section ≡ None) × IsIn name v.given × (base : ℕ) × (l ≡ TxnLabel base name)
 
 pub record PurgedBy (failed : Bool) (v u : View) : Type 0 where
   pub under_way : (txn : Txn) → MayPurge v txn → (went : Went) × Ended failed went × Purged txn went v u

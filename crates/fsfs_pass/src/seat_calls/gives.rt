@@ -3,16 +3,15 @@ ghost use Rattle.std.specs.Prelude.{◌≡◌, ◌≤◌, [], ◌∷◌, List, l
 ghost use Rattle.fsfs_disk.specs.Labels.{Label as KeptLabel};
 ghost use Rattle.fsfs_disk.specs.Trace.{NameChange, KeepLabel};
 ghost use Rattle.fsfs_base.specs.declared.places.place.DiskPlace.{DiskPlace};
-ghost use Rattle.fsfs_machine.specs.declared.machine.Drawn.{Drawn};
 ghost use Rattle.fsfs_machine.specs.declared.machine.Section.TheVariants.{Begun};
 ghost use Rattle.fsfs_turn.specs.Views.{rev_name, IsDue};
 ghost use Rattle.fsfs_turn.specs.Adoptions.{NeedsFolder};
-ghost use Rattle.fsfs_turn.specs.Learning.{Listed, MayMake};
+ghost use Rattle.fsfs_turn.specs.Learning.{Listed};
 ghost use Rattle.fsfs_disk.specs.Seen.{DiskSeen, IsLater};
 ghost use Rattle.fsfs_pass.specs.declared.seats.seat_view.Hand.TheVariants.{Out};
 ghost use Rattle.fsfs_pass.specs.Seats.{view_of, IsSitting};
 ghost use Rattle.fsfs_pass.specs.SeatCalls.Made.{Made, Dropped, once, went_of};
-ghost use Rattle.fsfs_pass.specs.SeatCalls.Tells.{GivenBack, CalledBy, Unmade, ReadBy, DrawnBy, MayAdoptIt, IsPutOf, AdoptedBy, no_adoption, BenchedBy, MayDrop, PurgedBy, counting};
+ghost use Rattle.fsfs_pass.specs.SeatCalls.Tells.{GivenBack, CalledBy, Unmade, ReadBy, DrawnBy, MayAdoptIt, IsPutOf, AdoptedBy, no_adoption, BenchedBy, MayKeep, MayDrop, PurgedBy, counting};
 
 use crate::seat_calls::plays::{
     Committing, Drawing, Dropping, GiveAdopted, GiveBenched, GiveCalled, GiveDrawn, GiveListed,
@@ -146,8 +145,7 @@ pub(crate) fn give_benched<D: Disk + Drop>(
 )
     requires table { (seat.old.table_id ≡ board.now.shared.table_id) × (board.now.shared.table_id.words ≡ 3) × (board.now.shared.table_id.slots ≡ 1) × (seat.old.me.1 ≡ (0, None) ∷ []) }
     requires sits { IsSitting seat.old.me.0 }
-    requires made { (was : DiskSeen) × (l : KeptLabel) × (seat.old.me.0.hand ≡ Out was) × IsLater (once disk.failed) 0 was disk × Made disk.failed (KeepLabel l) was.trace disk.trace }
-    requires may { seat.old.me.0.told ≡ true → (x : Drawn) × MayMake (view_of seat.old.me.0) x }
+    requires made { (was : DiskSeen) × (l : KeptLabel) × (seat.old.me.0.hand ≡ Out was) × IsLater (once disk.failed) 0 was disk × Made disk.failed (KeepLabel l) was.trace disk.trace × (seat.old.me.0.told ≡ true → MayKeep (view_of seat.old.me.0) l) }
     ensures same { (seat.new.table_id ≡ seat.old.table_id) × (seat.new.id ≡ seat.old.id) × (seat.new.me.1 ≡ []) }
     ensures given { GivenBack (λ u. BenchedBy disk.failed (view_of seat.old.me.0) u) disk.failed disk.trace seat.old.me.0 seat.new.me.0 }
 {
@@ -166,8 +164,7 @@ pub(crate) fn give_purged<K: Dropping, D: Disk + Drop>(
     requires faults { faults.now.value ≡ K.faults }
     requires table { (seat.old.table_id ≡ board.now.shared.table_id) × (board.now.shared.table_id.words ≡ 3) × (board.now.shared.table_id.slots ≡ 1) × (seat.old.me.1 ≡ (0, None) ∷ []) }
     requires sits { IsSitting seat.old.me.0 }
-    requires made { (was : DiskSeen) × (l : KeptLabel) × (seat.old.me.0.hand ≡ Out was) × IsLater (once disk.failed) K.faults was disk × Dropped disk.failed l was.trace disk.trace }
-    requires may { seat.old.me.0.told ≡ true → MayDrop (view_of seat.old.me.0) }
+    requires made { (was : DiskSeen) × (l : KeptLabel) × (seat.old.me.0.hand ≡ Out was) × IsLater (once disk.failed) K.faults was disk × Dropped disk.failed l was.trace disk.trace × (seat.old.me.0.told ≡ true → MayDrop (view_of seat.old.me.0) l) }
     ensures same { (seat.new.table_id ≡ seat.old.table_id) × (seat.new.id ≡ seat.old.id) × (seat.new.me.1 ≡ []) }
     ensures given { GivenBack (λ u. PurgedBy disk.failed (view_of seat.old.me.0) u) disk.failed disk.trace (counting faults.now.value seat.old.me.0) seat.new.me.0 }
 {

@@ -16,7 +16,7 @@ ghost use Rattle.fsfs_pass.specs.declared.seats.seat_view.Hand.TheVariants.{Empt
 ghost use Rattle.fsfs_pass.specs.Seats.{view_of, IsSitting};
 ghost use Rattle.fsfs_pass.specs.Met.{seat_store, seat_labels};
 ghost use Rattle.fsfs_pass.specs.Tells.{TellsIt};
-ghost use Rattle.fsfs_pass.specs.SeatCalls.Tells.{IsBack, MayDrop, counting};
+ghost use Rattle.fsfs_pass.specs.SeatCalls.Tells.{IsBack, MayKeep, MayDrop, counting};
 
 use crate::seat_calls::gives::{give_benched, give_listed, give_purged};
 use crate::seats::table::give_back;
@@ -84,7 +84,7 @@ pub fn bench<D: Disk + Drop, R: Wait>(
 ) -> Result<D::Bench, Failed>
     requires table { (seat.old.table_id ≡ board.now.shared.table_id) × (board.now.shared.table_id.words ≡ 3) × (board.now.shared.table_id.slots ≡ 1) × (seat.old.me.1 ≡ []) }
     requires sits { IsSitting seat.old.me.0 }
-    requires may { seat.old.me.0.told ≡ true → (x : Drawn) × MayMake (view_of seat.old.me.0) x }
+    requires may { seat.old.me.0.told ≡ true → MayKeep (view_of seat.old.me.0) (label_of label.now) }
     ensures same { (seat.new.table_id ≡ seat.old.table_id) × (seat.new.id ≡ seat.old.id) × (seat.new.me.1 ≡ []) }
     ensures back { IsBack (is_err result) seat.old.me.0 seat.new.me.0 }
     ensures tells { TellsIt seat.new.me.0 }
@@ -112,7 +112,7 @@ pub fn drop_bench<D: Disk + Drop, R: Wait>(
 ) -> Result<bool, Failed>
     requires table { (seat.old.table_id ≡ board.now.shared.table_id) × (board.now.shared.table_id.words ≡ 3) × (board.now.shared.table_id.slots ≡ 1) × (seat.old.me.1 ≡ []) }
     requires sits { IsSitting seat.old.me.0 }
-    requires may { seat.old.me.0.told ≡ true → MayDrop (view_of seat.old.me.0) }
+    requires may { seat.old.me.0.told ≡ true → MayDrop (view_of seat.old.me.0) (label_of label.now) }
     ensures same { (seat.new.table_id ≡ seat.old.table_id) × (seat.new.id ≡ seat.old.id) × (seat.new.me.1 ≡ []) }
     // The bench's failures are counted.
     ensures back { IsBack (is_err result) (counting (unwrap_or (option_map D.Bench.faults bench) 0) seat.old.me.0) seat.new.me.0 }

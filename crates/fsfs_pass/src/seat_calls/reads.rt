@@ -10,7 +10,7 @@ ghost use Rattle.fsfs_fetch.specs.Views.{Later};
 ghost use Rattle.fsfs_disk.specs.Trace.{IsRead, IsSize};
 ghost use Rattle.fsfs_machine.specs.declared.machine.Recorded.{Recorded};
 ghost use Rattle.fsfs_machine.specs.declared.machine.Went.{Went};
-ghost use Rattle.fsfs_turn.specs.Views.{rev_name, props_name, Answers, ReadTurn};
+ghost use Rattle.fsfs_turn.specs.Views.{props_name, Answers};
 ghost use Rattle.fsfs_turn.specs.Courses.{ReadOnly};
 ghost use Rattle.fsfs_turn.specs.Learning.{PropsRead, FloorRead};
 ghost use Rattle.fsfs_pass.specs.Seats.{view_of, IsSitting};
@@ -24,8 +24,8 @@ use fsfs_base::{Failed, Name};
 use fsfs_disk::Disk;
 use std::sync::Wait;
 
-/// Fills the buffer from an offset on, as far as the file goes. Of a revision that the pass has seen, from the floor on, it gives the bytes
-/// beside it; in the same way the properties of one, and the floor. `None`: there is no such file.
+/// Fills the buffer from an offset on, as far as the file goes. It gives the properties of a revision that the pass has seen, and the
+/// floor. `None`: there is no such file.
 pub fn read<D: Disk + Drop, R: Wait>(
     rt: &R,
     board: &Board<D>,
@@ -43,8 +43,6 @@ pub fn read<D: Disk + Drop, R: Wait>(
     ensures within { IfOk result (λ found. IfSome found (λ n. n ≤ length buffer.new)) }
     ensures bytes { IfSome (seat_store seat.new.me.0).files (λ m. IfOk result (IsRead (get m name.now) offset buffer.old buffer.new)) }
     ensures onward { seat.old.me.0.told ≡ true → ReadOnly (view_of seat.old.me.0) (view_of seat.new.me.0) }
-    ensures turned { seat.old.me.0.told ≡ true → (r : ℕ) (x : Recorded) → slice_get seat.old.me.0.seen r ≡ Some x → r < 2 ^ 32 → seat.old.me.0.pass.floor ≤ r → name.now ≡ rev_name (view_of seat.old.me.0) r
-        → (went : Went) × Answers result went × ReadTurn r offset (length buffer.old) x went (view_of seat.old.me.0) (view_of seat.new.me.0) × IfOk result (IsRead (Some x.bytes) offset buffer.old buffer.new) }
     ensures properties { seat.old.me.0.told ≡ true → (r : ℕ) (x : Recorded) → slice_get seat.old.me.0.seen r ≡ Some x → r < 2 ^ 32 → name.now ≡ props_name (view_of seat.old.me.0) r
         → (went : Went) × (text : List ℕ) × Answers result went × PropsRead r x went (view_of seat.old.me.0) (view_of seat.new.me.0) × IsDump text x.revision.properties × IfOk result (IsRead (Some text) offset buffer.old buffer.new) }
     ensures floor { seat.old.me.0.told ≡ true → name.now ≡ only_name MinUnpackedRev
@@ -57,7 +55,7 @@ pub fn read<D: Disk + Drop, R: Wait>(
     answer
 }
 
-/// The length of a file. Of a revision that the pass has seen, from the floor on, it is that of the bytes beside it.
+/// The length of a file.
 pub fn size<D: Disk + Drop, R: Wait>(
     rt: &R,
     board: &Board<D>,
@@ -72,8 +70,6 @@ pub fn size<D: Disk + Drop, R: Wait>(
     ensures later { Later (seat_store seat.old.me.0) (seat_store seat.new.me.0) }
     ensures length { IfSome (seat_store seat.new.me.0).files (λ m. IfOk result (IsSize (get m name.now))) }
     ensures onward { seat.old.me.0.told ≡ true → ReadOnly (view_of seat.old.me.0) (view_of seat.new.me.0) }
-    ensures turned { seat.old.me.0.told ≡ true → (r : ℕ) (x : Recorded) → slice_get seat.old.me.0.seen r ≡ Some x → r < 2 ^ 32 → seat.old.me.0.pass.floor ≤ r → name.now ≡ rev_name (view_of seat.old.me.0) r
-        → (went : Went) × Answers result went × ReadTurn r 0 0 x went (view_of seat.old.me.0) (view_of seat.new.me.0) × IfOk result (IsSize (Some x.bytes)) }
     ensures cause { HasCause seat.old.me.0.failures seat.new.me.0.failures result }
 {
     let mut disk = take(rt, board, seat);

@@ -1,4 +1,5 @@
 //! The rule of the table, and what each step tells.
+ghost use Rattle.std.specs.Prelude.{ℕ, List};
 ghost use Rattle.fsfs_disk.specs.Seen.{DiskSeen};
 
 use crate::seats::seat_view::{Beginning, SeatView};
@@ -8,15 +9,17 @@ use fsfs_disk::{Disk, SharedDisk};
 use std::alloc::Global;
 use std::marker::{Brand, PhantomData};
 
-/// The rule: the table holds a state of the machine, and each seat knows what its pass knows of it. The note says how the table began.
+/// The rule: the table holds a state of the machine, and each seat knows what its pass knows of it. The note says how the table began; the
+/// first seat knows no names then.
 pub struct Law;
 
 impl<D: Disk> TableRule<Option<SharedDisk<D>>, SeatView, Note<Beginning>> for Law {
     ghost use Rattle.fsfs_pass.specs.Rule.{Rule};
+    ghost use Rattle.fsfs_pass.specs.Seats.{nameless_view};
 
     ghost holds = { λ key. Rule key.value.disk key.value.seat };
 
-    ghost first = { λ key. key.value.seat };
+    ghost first = { λ key. nameless_view key.value.seat };
 }
 
 /// The table: the words DISK, LOCK and YOUNG, and one slot, for the disk.
@@ -65,15 +68,19 @@ impl<D: Disk> Play<Option<SharedDisk<D>>, SeatView> for Reveal {
     ghost then = { revealed };
 }
 
-/// With which disk the table began. Each call picks it.
+/// With which disk the table began, and which names were given then. Each call picks it.
 pub(crate) trait Began {
     ghost disk: { DiskSeen };
+
+    ghost names: { List ℕ };
 }
 
 impl Began for Brand {
     ghost use Rattle.std.specs.Prelude.{[], None, false};
 
     ghost disk = { record { mount_path = []; trace = None; faults = 0; bench_faults = 0; failed = false } };
+
+    ghost names = { [] };
 }
 
 pub(crate) struct Take<K> {
@@ -83,7 +90,7 @@ pub(crate) struct Take<K> {
 impl<K: Began, D: Disk> Play<Option<SharedDisk<D>>, SeatView> for Take<K> {
     ghost use Rattle.fsfs_pass.specs.Tells.{taken};
 
-    ghost then = { taken K.disk };
+    ghost then = { taken K.disk K.names };
 }
 
 pub(crate) struct GiveBack;

@@ -1,9 +1,10 @@
 //! The table of a store begins and ends.
 ghost use Rattle.std.specs.Prelude.{◌≡◌, ◌≤◌, ◌+◌, ◌-◌, ◌^◌, min, [], Some, is_some, IfOk, IfErr, IsTrue};
 ghost use Rattle.fsfs_disk.specs.Trace.{Trace};
-ghost use Rattle.fsfs_pass.specs.Seats.{all_parts, IsSitting};
+ghost use Rattle.fsfs_pass.specs.Seats.{all_parts, nameless_view, IsSitting};
 ghost use Rattle.fsfs_pass.specs.Tells.{IsMet};
 ghost use Rattle.fsfs_pass.specs.First.{IsFirst};
+ghost use Rattle.fsfs_pass.specs.OtherLabels.{KeepsOthersOf};
 
 use crate::seats::law::{Board, SharedSeat};
 use crate::seats::seat_view::{Beginning, SeatView};
@@ -27,18 +28,22 @@ impl<'a, D: Disk> Says<Beginning> for First<'a, D> {
 }
 
 /// The table of the store on this disk, and the first seat at it, with the view that the note says. Where the disk tells its files they are a
-/// store of which something is known, and all its revisions are; the seat knows it. Without memory the disk comes back.
+/// store of which something is known, and all its revisions are; the seat knows it, but for the names that were given before: of these it
+/// makes and drops none. Without memory the disk comes back.
 pub fn start<D: Disk + Drop>(
     alloc: Global,
     disk: D,
     layout: Layout,
+    floor: RevNum,
     young: RevNum,
     about: &Note<SeatView>,
 ) -> Result<(Board<D>, SharedSeat<D>), D>
     requires right { IsTrue (D.may_write disk) }
-    requires known { IsFirst layout young (D.trace disk) about.now.value }
-    ensures sized { IfOk result (λ r. (r.1.table_id ≡ r.0.shared.table_id) × (r.0.shared.table_id.words ≡ 3) × (r.0.shared.table_id.slots ≡ 1) × (r.1.me ≡ (about.now.value, []))) }
+    requires known { IsFirst layout floor young (D.trace disk) about.now.value }
+    ensures sized { IfOk result (λ r. (r.1.table_id ≡ r.0.shared.table_id) × (r.0.shared.table_id.words ≡ 3) × (r.0.shared.table_id.slots ≡ 1) × (r.1.me ≡ (nameless_view about.now.value, []))) }
     ensures began { IfOk result (λ r. (r.0.shared.key.value.disk.mount_path ≡ D.mount_path disk) × (r.0.shared.key.value.disk.faults ≡ D.faults disk) × (r.0.shared.key.value.disk.bench_faults ≡ D.bench_faults disk)) }
+    // With which labels, and which names had been given.
+    ensures labels { IfOk result (λ r. (r.0.shared.key.value.disk.trace ≡ D.trace disk) × (r.0.shared.key.value.seat.given ≡ about.now.value.given)) }
     ensures back { IfErr result (λ d. (D.mount_path d ≡ D.mount_path disk) × (D.trace d ≡ D.trace disk) × (D.faults d ≡ D.faults disk) × (D.bench_faults d ≡ D.bench_faults disk)) }
 {
     let shared = SharedDisk::new(disk);
@@ -73,6 +78,8 @@ pub fn close<D: Disk + Drop, R: Wait>(rt: &R, board: Board<D>, seat: SharedSeat<
     ensures later { board.shared.key.value.disk.faults ≤ D.faults result }
     ensures rose { min (board.shared.key.value.disk.faults + seat.me.0.failures) (2 ^ 64 - 1) ≤ D.faults result }
     ensures benches { min (board.shared.key.value.disk.bench_faults + seat.me.0.bench_failures) (2 ^ 64 - 1) ≤ D.bench_faults result }
+    // Of the labels that were kept as the table began all are, and no more, but for transactions whose names are above those that were given then.
+    ensures labels { KeepsOthersOf board.shared.key.value.seat.given board.shared.key.value.disk.trace (D.trace result) }
     ensures met { (t : Trace) → D.trace result ≡ Some t → IsMet seat.me.0 t }
 {
     let mut seat = seat;

@@ -46,6 +46,7 @@ pub enum Hand {
 /// What a seat knew before it was joined with another, as far as readers rest on it.
 pub struct Before {
     pub layout: Layout,
+    pub low: u64,
     pub told: bool,
     pub least: u64,
     pub seen: Line,
@@ -74,6 +75,8 @@ pub struct Kin {
 /// What a pass knows of the store, whether the disk tells its trace, and whether the pass has the disk.
 pub struct SeatView {
     pub layout: Layout,
+    // the floor that the opening read
+    pub low: u64,
     pub since: Since,
     pub opened: u64,
     pub number: u64,

@@ -5,4 +5,4 @@ use Rattle.fsfs_turn.specs.Views.{View}
 
 -- what is known is a fact of this state alone
 abbrev pub KnowsIn : OwnedState → View → Type 0
-KnowsIn s v = KnowsAlone s.layout s.young s.stuck s.trace v
+KnowsIn s v = KnowsAlone s.layout s.floor s.young s.stuck s.trace v

@@ -7,7 +7,6 @@ ghost use Rattle.fsfs_disk.specs.Trace.{FirmNames, files_now, labels_now, FailsA
 ghost use Rattle.fsfs_stands.specs.Files.{StandsFor};
 ghost use Rattle.fsfs_create.specs.OpenFaults.{OpensBecause};
 ghost use Rattle.fsfs_create.specs.Known.{HasSeenAll, DecidesSo};
-ghost use Rattle.fsfs_turn.specs.Opening.{LeftoversAgree};
 ghost use Rattle.fsfs_turn.specs.Views.{View, Looked};
 
 use fsfs_base::RevNum;
@@ -37,9 +36,9 @@ impl<D: Disk> Repo<D> {
     pub fn open(alloc: Global, disk: D) -> Result<OpenedRepo<D>, Unopened<D>>
         requires { IsTrue (D.may_write disk) }
         ensures opened { IfSome (D.trace disk) (λ t. IfOk result (λ o. IsOpened (small_texts (files_now t)) o.said)) }
-        // Where the files stand for a history, packed or not, and each file that is left over of a packed revision has the same bytes,
-        // its pass has seen all of that history, and is in no section. Of images it is spoken from then on.
-        ensures known { IfSome (D.trace disk) (λ t. (h : List Revision) (stands : StandsFor (files_now t) h) → LeftoversAgree stands
+        // Where the files stand for a history, packed or not, its pass has seen all of that history, and is in no section. Of images it is
+        // spoken from then on.
+        ensures known { IfSome (D.trace disk) (λ t. (h : List Revision) (stands : StandsFor (files_now t) h)
             → IfOk result (λ o. HasSeenAll (⟦<Owned<D> as Turns<()>>⟧.knows o.repo.turns) t stands.opened.min_unpacked_rev stands.opened.next_txn.number h)) }
         ensures refused { IfErr result (λ e. OpensBecause (Rose (D.faults disk) (D.faults e.disk)) (D.trace disk) e.why) }
         // Where it is opened or refused is decided by the files alone.

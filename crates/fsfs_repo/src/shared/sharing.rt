@@ -1,13 +1,15 @@
 //! A shared repository is lent to its passes, and closed.
 ghost use Rattle.std.specs.Prelude.{◌≡◌, ◌≤◌, ◌+◌, ◌-◌, ◌^◌, min, [], true, Some, is_some, IfSome};
 ghost use Rattle.fsfs_disk.specs.Trace.{Trace};
+ghost use Rattle.fsfs_pass.specs.Met.{ground_of};
 ghost use Rattle.fsfs_pass.specs.Seats.{all_parts, view_of, IsSitting};
 ghost use Rattle.fsfs_pass.specs.Tells.{IsMet, TellsIt};
+ghost use Rattle.fsfs_pass.specs.OtherLabels.{KeepsOthersOf};
 ghost use Rattle.fsfs_pass.specs.Passes.{KnowsIt};
 ghost use Rattle.fsfs_repo.specs.Shared.Left.{Leaves};
 
 use crate::shared::repo::SharedRepo;
-use fsfs_base::Note;
+use fsfs_base::{Note, RevNum};
 use fsfs_disk::Disk;
 use fsfs_layout::Layout;
 use fsfs_pass::{Board, PassTurns, SharedSeat, said_again};
@@ -29,6 +31,13 @@ impl<D: Disk + Drop> SharedRepo<D> {
         self.layout
     }
 
+    /// The floor that the opening read: revisions below it are in packs.
+    pub fn floor(&self) -> RevNum
+        ensures { result ≡ self.now.floor }
+    {
+        self.floor
+    }
+
     /// The disk as it was first, which clauses alone read.
     pub fn first(&self) -> Note<D>
         ensures { result.value ≡ self.now.first.value }
@@ -39,7 +48,7 @@ impl<D: Disk + Drop> SharedRepo<D> {
     /// The turns of the pass in this seat.
     pub fn pass<'a>(&'a self, seat: SharedSeat<D>) -> PassTurns<'a, D>
         requires sits { (seat.table_id ≡ self.now.board.shared.table_id) × (seat.me.1 ≡ []) × IsSitting seat.me.0 }
-        requires layout { seat.me.0.layout ≡ self.now.layout }
+        requires layout { ground_of seat.me.0 ≡ record { layout = self.now.layout; low = self.now.floor } }
         requires tells { TellsIt seat.me.0 }
         ensures seat { result.seat ≡ seat }
         ensures first { result.first.value ≡ self.now.first.value }
@@ -48,7 +57,7 @@ impl<D: Disk + Drop> SharedRepo<D> {
     {
         let board = &self.board;
         let first = said_again(&self.first);
-        PassTurns::new(board, seat, self.layout, first)
+        PassTurns::new(board, seat, self.layout, self.floor, first)
     }
 
     /// Closes the repository, by one of its passes: the disk. Where it tells its files they are those of a state of the machine, of which
@@ -60,6 +69,9 @@ impl<D: Disk + Drop> SharedRepo<D> {
         ensures left { IfSome (D.trace result) (λ t. Leaves seat.me.0 t) }
         // With all parts nobody else changed the disk: the pass has met it so.
         ensures alone { seat.me.0.kin.parts ≡ all_parts → D.trace result ≡ seat.me.0.met }
+        // Of the labels that were kept as the table began (`labels` of `open`) all are, and no more, but for transactions whose names are above those that
+        // were given then.
+        ensures labels { KeepsOthersOf self.board.shared.key.value.seat.given self.board.shared.key.value.disk.trace (D.trace result) }
         // It is the disk with which the table began (`began` of `open`), and as many of its calls have failed as failed of the pass's, or more, and as
         // many of those of benches.
         ensures mounted { D.mount_path result ≡ self.board.shared.key.value.disk.mount_path }

@@ -1,4 +1,4 @@
-use Rattle.std.proofs.Common.{◌≡◌, ℕ, List, ◌++◌, sym, subst}
+use Rattle.std.proofs.Common.{◌≡◌, ◌++◌, sym, subst}
 use Rattle.std.specs.Prelude.{Option, option_map, codes}
 use Rattle.hex.specs.Hex.{encode_lower}
 use Rattle.fsfs_dump.specs.declared.facts.Facts.{Facts}

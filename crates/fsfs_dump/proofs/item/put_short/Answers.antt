@@ -1,11 +1,11 @@
-use Rattle.std.proofs.Common.{◌≡◌, ℕ, List, [], ◌++◌, Option, Ok, Err, refl, ap, ◌∙◌}
+use Rattle.std.proofs.Common.{◌≡◌, ℕ, List, [], ◌++◌, Option, Ok, refl, ap, ◌∙◌}
 use Rattle.std.specs.Prelude.{option_map, unwrap_or, Result}
 use Rattle.std.proofs.lemmas.Result.{err_from_is_err_and}
 use Rattle.fsfs_revision.specs.declared.wrong.Wrong.{Wrong}
 use Rattle.fsfs_stands.specs.FileTexts.{IsWholeText}
 use Rattle.fsfs_stands.specs.Texts.{Stopped}
 use Rattle.fsfs_look.specs.Revprops.Texts.{ReadText}
-use Rattle.fsfs_dump.specs.Records.{facts_of, props_block, records_head, record_end, change_records}
+use Rattle.fsfs_dump.specs.Records.{facts_of, records_head, record_end, change_records}
 use Rattle.fsfs_dump.specs.Readings.{IfSet, ContentOf, source_of, TextRecords}
 use Rattle.fsfs_dump.specs.Views.{text_value}
 use Rattle.fsfs_dump.proofs.WalkLemmas.{walks_as, walks_put, walks_starved, walks_unread}

@@ -1,7 +1,6 @@
 use Rattle.std.proofs.Common.{◌≡◌, true, false, sym, ◌∙◌}
 use Rattle.fsfs_stands.specs.FileTexts.{IsWholeText}
 use Rattle.fsfs_look.specs.Revprops.Texts.{ReadText}
-use Rattle.fsfs_revision.proofs.Keeping.{keeps_refl}
 use Rattle.fsfs_dump.specs.Records.{delete_record}
 use Rattle.fsfs_dump.specs.Readings.{ThereRecords, ItemRecords}
 use Rattle.fsfs_dump.specs.Views.{is_gone}

@@ -1,4 +1,4 @@
-use Rattle.std.proofs.Common.{ℕ, List, [], Ok, Err}
+use Rattle.std.proofs.Common.{[]}
 use Rattle.std.proofs.lemmas.Result.{err_from_is_err_and}
 use Rattle.fsfs_revision.specs.Shows.Reading.{PropsOf}
 use Rattle.fsfs_revision.proofs.Keeping.{keeps_trans}

@@ -1,4 +1,3 @@
-use Rattle.std.proofs.Common.{ℕ, List, Ok, Err}
 use Rattle.std.proofs.lemmas.Result.{err_from_is_err_and}
 use Rattle.fsfs_base.specs.declared.kind.Kind.{Kind}
 use Rattle.fsfs_revision.proofs.Keeping.{keeps_trans}

@@ -1,5 +1,4 @@
-use Rattle.std.proofs.Common.{◌≡◌, ◌≤◌, ℕ, Ok, true, false, refl, sym, subst, ◌∙◌, arith}
-use Rattle.std.specs.Prelude.{IfOk, Result}
+use Rattle.std.proofs.Common.{◌≡◌, true, false, sym, ◌∙◌, arith}
 use Rattle.fsfs_stands.specs.ChangedTexts.{is_nameable}
 use Rattle.fsfs_history.proofs.KindLemmas.{nameable_le}
 use Rattle.fsfs_dump.proofs.NodeLemmas.{named_as, there_as, id_within}

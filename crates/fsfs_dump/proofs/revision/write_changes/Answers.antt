@@ -1,10 +1,10 @@
-use Rattle.std.proofs.Common.{◌≡◌, ◌≤◌, ℕ, List, [], Ok, Err, refl, subst, arith, inl, inr}
+use Rattle.std.proofs.Common.{List, [], refl, subst, arith, inl, inr}
 use Rattle.std.specs.Prelude.{Option}
 use Rattle.std.proofs.lemmas.Result.{err_from_is_err_and}
 use Rattle.fsfs_revision.specs.declared.wrong.Wrong.{Wrong}
 use Rattle.fsfs_noderev.specs.declared.changes.item.ChangeItem.{ChangeItem}
 use Rattle.fsfs_dag.proofs.Steps.{knows_later}
-use Rattle.fsfs_stands.specs.Texts.{End, Stopped}
+use Rattle.fsfs_stands.specs.Texts.{Stopped}
 use Rattle.fsfs_stands.specs.Items.{ItemsOf}
 use Rattle.fsfs_stands.specs.ChangedTexts.{ByText, end_of, in_order}
 use Rattle.fsfs_history.specs.declared.items.ReadItems.{ReadItems}

@@ -1,11 +1,11 @@
-use Rattle.std.proofs.Common.{◌≡◌, ◌∷◌, [], ◌++◌, ℕ, List, Ok, Err, map, refl, sym, subst, ◌∙◌, arith, rules}
+use Rattle.std.proofs.Common.{◌≡◌, ◌∷◌, [], List, Err, map, sym, subst, ◌∙◌, arith, rules}
 use Rattle.std.specs.Map.Iter.{deref}
 use Rattle.std.proofs.lemmas.Map.Iter.{rest_more, rest_all}
 use Rattle.std.proofs.lemmas.Result.{err_from_is_err_and}
 use Rattle.fsfs_revision.proofs.Keeping.{keeps_refl, keeps_trans}
 use Rattle.fsfs_noderev.specs.declared.changes.item.ChangeItem.{ChangeItem}
 use Rattle.fsfs_dag.proofs.Steps.{knows_later}
-use Rattle.fsfs_stands.specs.Texts.{End, Stopped}
+use Rattle.fsfs_stands.specs.Texts.{Stopped}
 use Rattle.fsfs_stands.specs.ChangedTexts.{end_of, in_order}
 use Rattle.fsfs_look.specs.Revprops.Texts.{ReadText}
 use Rattle.fsfs_look.specs.Walks.{Walks}

@@ -1,4 +1,4 @@
-use Rattle.std.proofs.Common.{◌≡◌, ℕ, List, [], Ok, Err, refl, inl, inr}
+use Rattle.std.proofs.Common.{[], refl, inl, inr}
 use Rattle.std.proofs.lemmas.Result.{err_from_is_err_and}
 use Rattle.fsfs_dag.proofs.Steps.{knows_later}
 use Rattle.fsfs_stands.specs.Texts.{Stopped}

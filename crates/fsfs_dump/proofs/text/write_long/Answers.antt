@@ -2,7 +2,7 @@ use Rattle.std.proofs.Common.{◌≡◌, ℕ, List, [], ◌++◌, Ok, Err, refl,
 use Rattle.std.proofs.lemmas.Result.{err_from_is_err_and}
 use Rattle.fsfs_base.specs.Streams.{Adds}
 use Rattle.fsfs_base.specs.Output.{AddsFront}
-use Rattle.fsfs_revision.specs.Rep.Frames.{rev_of, text_of}
+use Rattle.fsfs_revision.specs.Rep.Frames.{text_of}
 use Rattle.fsfs_stands.specs.FileTexts.{IsWholeText}
 use Rattle.fsfs_stands.specs.Texts.{Whole}
 use Rattle.fsfs_look.specs.declared.look_error.LookError.TheVariants as errors

@@ -1,4 +1,4 @@
-use Rattle.std.proofs.Common.{ℕ, List, [], subst}
+use Rattle.std.proofs.Common.{ℕ, List, subst}
 use Rattle.fsfs_look.specs.Walks.{Walks}
 use Rattle.fsfs_look.proofs.NodeTexts.{ends_written}
 use Rattle.fsfs_dump.specs.Texts.{DumpText}

@@ -1,4 +1,4 @@
-use Rattle.std.proofs.Common.{ℕ, List, ◌++◌}
+use Rattle.std.proofs.Common.{◌++◌}
 use Rattle.std.specs.Prelude.{codes}
 use Rattle.fsfs_dump.proofs.Appends.{then_more}
 use Rattle.fsfs_dump.proofs.whole.put_front.Goals as goal

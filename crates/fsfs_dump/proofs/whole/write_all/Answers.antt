@@ -1,4 +1,4 @@
-use Rattle.std.proofs.Common.{◌≡◌, ℕ, suc, List, [], ◌++◌, Ok, Err, refl, inr}
+use Rattle.std.proofs.Common.{suc, [], ◌++◌, refl, inr}
 use Rattle.std.proofs.lemmas.Result.{err_from_is_err_and}
 use Rattle.fsfs_stands.specs.Texts.{Stopped}
 use Rattle.fsfs_stands.specs.FileTexts.{IsWholeText}

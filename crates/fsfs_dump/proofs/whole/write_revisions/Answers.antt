@@ -1,8 +1,7 @@
-use Rattle.std.proofs.Common.{◌≡◌, ◌≤◌, ◌+◌, ◌-◌, ℕ, zero, suc, List, [], Ok, Err, refl, sym, subst, arith, inr}
-use Rattle.std.specs.Prelude.{Result}
+use Rattle.std.proofs.Common.{◌≡◌, ◌+◌, ◌-◌, ℕ, suc, [], Ok, Err, refl, sym, subst, arith, inr}
 use Rattle.std.proofs.lemmas.Result.{err_from_is_err_and}
 use Rattle.fsfs_revision.proofs.Keeping.{keeps_refl, keeps_trans}
-use Rattle.fsfs_stands.specs.Texts.{End, Stopped}
+use Rattle.fsfs_stands.specs.Texts.{Stopped}
 use Rattle.fsfs_look.specs.declared.look_error.LookError.TheVariants as errors
 use Rattle.fsfs_look.specs.Walks.{Walks}
 use Rattle.fsfs_look.proofs.ProgressLemmas.{knows_upto}

@@ -1,4 +1,4 @@
-use Rattle.std.proofs.Common.{◌≡◌, ◌≤◌, ◌-◌, ℕ, suc, List}
+use Rattle.std.proofs.Common.{◌≤◌, ◌-◌, ℕ, suc, List}
 use Rattle.fsfs_revision.specs.Told.{RevisionBytes, Knows, Keeps}
 use Rattle.fsfs_look.specs.Walks.{Walks}
 use Rattle.fsfs_dump.specs.Texts.{RevisionsText}

@@ -28,7 +28,7 @@ returns-in-Ok-clause-does g c = λ v known none told on le.
     let after = c.edit_and_commit.result.0.turns in
     let same = if_ok c.begin-repo.result.1 c.in-Ok.txn (λ z. z.base ≡ c.args.base) c.in-Ok.is c.begin-repo.ensures.base in
     let d = if_ok c.begin-repo.result.1 c.in-Ok.txn _ c.in-Ok.is (c.begin-repo.ensures.begun v known none) in
-    begun_so (KnowsAlone after.layout after.young after.stuck (g.D.Disk.trace after.disk)) (Rose (g.D.Disk.faults c.begin-repo.result.0.turns.disk) (g.D.Disk.faults after.disk)) (Rose (g.D.Disk.faults c.args.repo.turns.disk) (g.D.Disk.faults after.disk)) c.args.micros c.args.base c.in-Ok.txn.base _ _ c.args.job.now
+    begun_so (KnowsAlone after.layout after.floor after.young after.stuck (g.D.Disk.trace after.disk)) (Rose (g.D.Disk.faults c.begin-repo.result.0.turns.disk) (g.D.Disk.faults after.disk)) (Rose (g.D.Disk.faults c.args.repo.turns.disk) (g.D.Disk.faults after.disk)) c.args.micros c.args.base c.in-Ok.txn.base _ _ c.args.job.now
     c.edit_and_commit.result.1 v d.0 (λ r. omega (arith, r, c.begin-repo.ensures.later)) known.1.own d.1.1.own told on same d.2 (λ out still given based so stands. c.edit_and_commit.ensures.does d.0 d.1 out still given based so stands)
 
 pub returns-in-Err-clause-does : goal.returns-in-Err-clause-does
@@ -37,10 +37,10 @@ returns-in-Err-clause-does g c = λ v known none told on le.
     let rose = Rose (g.D.Disk.faults c.args.repo.turns.disk) (g.D.Disk.faults after.disk) in
     let job = c.args.job.now in
     let disk = if_err c.begin-repo.result.1 c.in-Err.why (λ why. IfDisk why rose) c.in-Err.is c.begin-repo.ensures.cause in
-    subst (λ f. CommitsSo (KnowsAlone after.layout after.young after.stuck (g.D.Disk.trace after.disk)) rose c.args.micros job (Stopped job.line f) v) (sym c.of_begin-fault.ensures)
-    (⊎_elim (λ d. unbegun_so (KnowsAlone after.layout after.young after.stuck (g.D.Disk.trace after.disk)) rose c.args.micros c.args.base job c.in-Err.why v d.0 d.1 known.1.own d.1.1.own told le d.2
-    (λ wrong less root. root_whole (bytes_of d.0.seen) c.args.base (tree_of (revisions d.0.seen) c.args.base) wrong ((trees_seen after.layout after.young after.stuck (g.D.Disk.trace after.disk) d.0 d.1).each c.args.base (omega (arith, less, revisions_length d.0.seen))) root) d.3 disk)
-    (λ m. lacking_so (KnowsAlone after.layout after.young after.stuck (g.D.Disk.trace after.disk)) rose c.args.micros job c.in-Err.why v m.2.0 m.2.1 known.1.own m.2.1.1.own m.2.2 m.2.3 m.1 disk)
+    subst (λ f. CommitsSo (KnowsAlone after.layout after.floor after.young after.stuck (g.D.Disk.trace after.disk)) rose c.args.micros job (Stopped job.line f) v) (sym c.of_begin-fault.ensures)
+    (⊎_elim (λ d. unbegun_so (KnowsAlone after.layout after.floor after.young after.stuck (g.D.Disk.trace after.disk)) rose c.args.micros c.args.base job c.in-Err.why v d.0 d.1 known.1.own d.1.1.own told le d.2
+    (λ wrong less root. root_whole (bytes_of d.0.seen) c.args.base (tree_of (revisions d.0.seen) c.args.base) wrong ((trees_seen after.layout after.floor after.young after.stuck (g.D.Disk.trace after.disk) d.0 d.1).each c.args.base (omega (arith, less, revisions_length d.0.seen))) root) d.3 disk)
+    (λ m. lacking_so (KnowsAlone after.layout after.floor after.young after.stuck (g.D.Disk.trace after.disk)) rose c.args.micros job c.in-Err.why v m.2.0 m.2.1 known.1.own m.2.1.1.own m.2.2 m.2.3 m.1 disk)
     (if_err c.begin-repo.result.1 c.in-Err.why _ c.in-Err.is (c.begin-repo.ensures.refused v known none)))
 
 pub returns-in-Ok-clause-cause : goal.returns-in-Ok-clause-cause
@@ -64,12 +64,12 @@ returns-in-Ok-clause-listed g c = λ least has.
     let now = g.D.Disk.faults c.edit_and_commit.result.0.turns.disk in
     let s = c.args.repo.turns in
     begun_lists (Rose mid now) (Rose start now) least _ _ _ _
-    (new_from (KnowsAlone s.layout s.young s.stuck (g.D.Disk.trace s.disk)) least c.in-Ok.txn.own.txn.number.number has (λ v known none. let d = if_ok c.begin-repo.result.1 c.in-Ok.txn _ c.in-Ok.is (c.begin-repo.ensures.begun v known none) in d.2.above)) (λ r. omega (arith, r, c.begin-repo.ensures.later)) (if_ok c.begin-repo.result.1 c.in-Ok.txn _ c.in-Ok.is c.begin-repo.ensures.listed) c.edit_and_commit.ensures.listed
+    (new_from (KnowsAlone s.layout s.floor s.young s.stuck (g.D.Disk.trace s.disk)) least c.in-Ok.txn.own.txn.number.number has (λ v known none. let d = if_ok c.begin-repo.result.1 c.in-Ok.txn _ c.in-Ok.is (c.begin-repo.ensures.begun v known none) in d.2.above)) (λ r. omega (arith, r, c.begin-repo.ensures.later)) (if_ok c.begin-repo.result.1 c.in-Ok.txn _ c.in-Ok.is c.begin-repo.ensures.listed) c.edit_and_commit.ensures.listed
 
 pub returns-in-Err-clause-listed : goal.returns-in-Err-clause-listed
 returns-in-Err-clause-listed g c = λ least has.
     let s = c.args.repo.turns in
-    unbegun_lists _ (KnowsAlone s.layout s.young s.stuck (g.D.Disk.trace s.disk)) least c.args.base _ _ has (on_err c.begin-repo.result.1 c.in-Err.why _ c.in-Err.is c.begin-repo.ensures.unlisted)
+    unbegun_lists _ (KnowsAlone s.layout s.floor s.young s.stuck (g.D.Disk.trace s.disk)) least c.args.base _ _ has (on_err c.begin-repo.result.1 c.in-Err.why _ c.in-Err.is c.begin-repo.ensures.unlisted)
 
 pub returns-in-Ok-clause-benches : goal.returns-in-Ok-clause-benches
 returns-in-Ok-clause-benches g c =

@@ -25,7 +25,7 @@ returns-in-Ok-clause-does g c = λ v known none.
     let l = c.in-Ok.ensures.looked v known none in
     let b = c.in-Ok.ensures.base v known none in
     let seen = ap (λ (h : List Recorded). last_of (revisions h)) (sym l.2.stays.seen) in
-    commits_behind (KnowsAlone after.layout after.young after.stuck (g.D.Disk.trace after.disk)) (Rose (g.D.Disk.faults c.base_of.new.repo.turns.disk) (g.D.Disk.faults after.disk)) (Rose (g.D.Disk.faults c.args.repo.turns.disk) (g.D.Disk.faults after.disk)) c.args.micros c.args.job.now c.begin_and_commit.result.1 v l.0
+    commits_behind (KnowsAlone after.layout after.floor after.young after.stuck (g.D.Disk.trace after.disk)) (Rose (g.D.Disk.faults c.base_of.new.repo.turns.disk) (g.D.Disk.faults after.disk)) (Rose (g.D.Disk.faults c.args.repo.turns.disk) (g.D.Disk.faults after.disk)) c.args.micros c.args.job.now c.begin_and_commit.result.1 v l.0
     (λ r. omega (arith, r, c.in-Ok.ensures.faults)) l.2.stays l.2.doubtless l.2.left
     (c.begin_and_commit.ensures.does l.0 l.1 l.2.stays.outside (l.2.least ∙ seen) (b.0 ∙ ap (λ (n : ℕ). base_of c.args.job.now.base n) seen) (subst (λ (n : ℕ). c.in-Ok.base ≤ n) seen b.1))
 
@@ -54,7 +54,7 @@ returns-in-Ok-clause-listed g c = λ least has.
     let s = c.args.repo.turns in
     let m = c.base_of.new.repo.turns in
     lists_behind (Rose mid now) (Rose start now) least 1 _ _ _ (λ r. omega (arith, r, c.in-Ok.ensures.faults)) (ap (λ (s : OwnedState). option_map labels_now s.trace) c.in-Ok.ensures.same)
-    (c.begin_and_commit.ensures.listed least (given_on (KnowsAlone s.layout s.young s.stuck (g.D.Disk.trace s.disk)) (KnowsAlone m.layout m.young m.stuck (g.D.Disk.trace m.disk)) least (λ v known none. let l = c.in-Ok.ensures.looked v known none in (l.0, l.1, l.2.stays.outside, λ k there. subst (λ (xs : List ℕ). IsIn k xs) (sym l.2.stays.given) (among k l.2.stays.more v.given there))) has))
+    (c.begin_and_commit.ensures.listed least (given_on (KnowsAlone s.layout s.floor s.young s.stuck (g.D.Disk.trace s.disk)) (KnowsAlone m.layout m.floor m.young m.stuck (g.D.Disk.trace m.disk)) least (λ v known none. let l = c.in-Ok.ensures.looked v known none in (l.0, l.1, l.2.stays.outside, λ k there. subst (λ (xs : List ℕ). IsIn k xs) (sym l.2.stays.given) (among k l.2.stays.more v.given there))) has))
 
 pub returns-in-Err-clause-listed : goal.returns-in-Err-clause-listed
 returns-in-Err-clause-listed g c = λ least has. inl (none_begun least 1 _ _ (ap (λ (s : OwnedState). option_map labels_now s.trace) c.in-Err.ensures.same))

@@ -20,8 +20,8 @@ returns-clause-edits g c = λ v known based stands.
     let told = c.reader-reader.ensures.told v known in
     let base = c.args.txn.now.base in
     edits_as c.as_slice.result.now c.args.steps.now _ base _ c.do_edits-done.result (bytes_of v.seen) (tree_of (revisions v.seen)) (last_of (revisions v.seen)) (tree_of (revisions v.seen) base) c.as_slice.ensures
-    (c.do_edits-done.ensures.edits (λ x. owned_benches_tell turns.layout turns.young turns.stuck (g.D.Disk.trace turns.disk) (g.D.Bench.Bench.contents x.bench) v (g.met.D.Disk.benches_tell turns.disk x.bench) known.0)
-    (bytes_of v.seen) (tree_of (revisions v.seen)) (last_of (revisions v.seen)) (tree_of (revisions v.seen) base) [] told.revs told.youngest told.shown.each (revisions_seen turns.layout turns.young turns.stuck (g.D.Disk.trace turns.disk) v known) (omega (arith, based, revisions_length v.seen)) stands)
+    (c.do_edits-done.ensures.edits (λ x. owned_benches_tell turns.layout turns.floor turns.young turns.stuck (g.D.Disk.trace turns.disk) (g.D.Bench.Bench.contents x.bench) v (g.met.D.Disk.benches_tell turns.disk x.bench) known.0)
+    (bytes_of v.seen) (tree_of (revisions v.seen)) (last_of (revisions v.seen)) (tree_of (revisions v.seen) base) [] told.revs told.youngest told.shown.each (revisions_seen turns.layout turns.floor turns.young turns.stuck (g.D.Disk.trace turns.disk) v known) (omega (arith, based, revisions_length v.seen)) stands)
 
 pub returns-clause-known : goal.returns-clause-known
 returns-clause-known g c = λ v known. c.of_reader.ensures.known v (subst (λ s. KnowsIn s v) (sym c.do_edits-done.ensures.kept.below) (c.reader-reader.ensures.told v known).known)

@@ -22,7 +22,7 @@ returns-in-Ok-clause-does g c = λ v known none told given based on stands.
     let base = c.args.txn.base in
     let e = edits_done job.steps _ base _ c.edit-repo.result.1 _ (bytes_of v.seen) (tree_of (revisions v.seen)) (last_of (revisions v.seen)) (tree_of (revisions v.seen) base) c.in-Ok.is (c.edit-repo.ensures.edits v known based stands) in
     let s = stands_for v _ base _ job based e in
-    edited_so (KnowsAlone after.layout after.young after.stuck (g.D.Disk.trace after.disk)) (Rose (g.D.Disk.faults mid.disk) (g.D.Disk.faults after.disk)) (Rose (g.D.Disk.faults c.args.repo.turns.disk) (g.D.Disk.faults after.disk)) c.args.micros base job c.commit_edited.result.1 s.0 v
+    edited_so (KnowsAlone after.layout after.floor after.young after.stuck (g.D.Disk.trace after.disk)) (Rose (g.D.Disk.faults mid.disk) (g.D.Disk.faults after.disk)) (Rose (g.D.Disk.faults c.args.repo.turns.disk) (g.D.Disk.faults after.disk)) c.args.micros base job c.commit_edited.result.1 s.0 v
     (λ r. omega (arith, r, c.edit-repo.ensures.later)) on (omega (arith, based, revisions_length v.seen)) s.2 c.commit_edited.ensures.plain
     (c.commit_edited.ensures.ends v s.0 (c.edit-repo.ensures.known v known) none told (subst (λ (n : ℕ). IsIn n v.given) (sym s.1.numbered) given)
     (txn_as v.seen _ _ _ _ _ s.0 c.edit-repo.ensures.name c.edit-repo.ensures.base s.1))
@@ -33,7 +33,7 @@ returns-in-Err-clause-does g c = λ v known none told given based on stands.
     let after = c.purged.result.turns in
     let job = c.args.job.now in
     let base = c.args.txn.base in
-    stopped_so (KnowsAlone after.layout after.young after.stuck (g.D.Disk.trace after.disk)) (Rose (g.D.Disk.faults c.args.repo.turns.disk) (g.D.Disk.faults mid.disk)) (Rose (g.D.Disk.faults c.args.repo.turns.disk) (g.D.Disk.faults after.disk)) c.args.micros base _ job c.in-Err.field-0.line c.in-Err.field-0.fault v
+    stopped_so (KnowsAlone after.layout after.floor after.young after.stuck (g.D.Disk.trace after.disk)) (Rose (g.D.Disk.faults c.args.repo.turns.disk) (g.D.Disk.faults mid.disk)) (Rose (g.D.Disk.faults c.args.repo.turns.disk) (g.D.Disk.faults after.disk)) c.args.micros base _ job c.in-Err.field-0.line c.in-Err.field-0.fault v
     (λ r. omega (arith, r, c.purged.ensures.later)) on (omega (arith, based, revisions_length v.seen))
     (edits_stopped job.steps _ base _ c.edit-repo.result.1 c.in-Err.field-0 c.in-Err.field-0.line c.in-Err.field-0.fault (bytes_of v.seen) (tree_of (revisions v.seen)) (last_of (revisions v.seen)) (tree_of (revisions v.seen) base) c.in-Err.is refl refl (c.edit-repo.ensures.edits v known based stands))
     (edits_failed c.edit-repo.result.1 c.in-Err.field-0 c.in-Err.field-0.fault (Rose (g.D.Disk.faults c.args.repo.turns.disk) (g.D.Disk.faults mid.disk)) c.in-Err.is refl c.edit-repo.ensures.cause)

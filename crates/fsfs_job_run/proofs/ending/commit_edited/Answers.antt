@@ -18,7 +18,7 @@ pub returns-in-Err-clause-ends : goal.returns-in-Err-clause-ends
 returns-in-Err-clause-ends g c = λ v x known none told given is.
     let after = c.purged.result.turns in
     let job = c.args.job.now in
-    ends_purged (KnowsAlone after.layout after.young after.stuck (g.D.Disk.trace after.disk)) (is_lone after.layout after.young after.stuck (g.D.Disk.trace after.disk)) (Rose (g.D.Disk.faults c.args.repo.turns.disk) (g.D.Disk.faults after.disk)) c.args.micros job (Stopped job.line Memory) x v v (stays_here v none) (λ few. few) refl tt (inr (ByMemory (jobs.Commit job) job.line)) (λ u same. tt)
+    ends_purged (KnowsAlone after.layout after.floor after.young after.stuck (g.D.Disk.trace after.disk)) (is_lone after.layout after.floor after.young after.stuck (g.D.Disk.trace after.disk)) (Rose (g.D.Disk.faults c.args.repo.turns.disk) (g.D.Disk.faults after.disk)) c.args.micros job (Stopped job.line Memory) x v v (stays_here v none) (λ few. few) refl tt (inr (ByMemory (jobs.Commit job) job.line)) (λ u same. tt)
     (c.purged.ensures.leaves v known none (subst (λ (k : ℕ). IsIn k v.given) is.numbered given))
 
 pub returns-in-Ok-clause-listed : goal.returns-in-Ok-clause-listed

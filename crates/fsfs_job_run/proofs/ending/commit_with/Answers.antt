@@ -21,7 +21,7 @@ pub returns-in-Committed-clause-ends : goal.returns-in-Committed-clause-ends
 returns-in-Committed-clause-ends g c = λ v x known none told given is.
     let before = c.args.repo.turns in
     let after = c.commit-repo.result.0.turns in
-    committed_by _ _ _ _ c.commit-repo.result.1 (Rose (g.D.Disk.faults before.disk) (g.D.Disk.faults after.disk)) c.args.micros c.args.job.now c.args.properties v x (KnowsAlone after.layout after.young after.stuck (g.D.Disk.trace after.disk)) (is_lone after.layout after.young after.stuck (g.D.Disk.trace after.disk)) c.in-Committed.rev c.in-Committed.purged ((is_lone before.layout before.young before.stuck (g.D.Disk.trace before.disk)).number v known) known.1.own
+    committed_by _ _ _ _ c.commit-repo.result.1 (Rose (g.D.Disk.faults before.disk) (g.D.Disk.faults after.disk)) c.args.micros c.args.job.now c.args.properties v x (KnowsAlone after.layout after.floor after.young after.stuck (g.D.Disk.trace after.disk)) (is_lone after.layout after.floor after.young after.stuck (g.D.Disk.trace after.disk)) c.in-Committed.rev c.in-Committed.purged ((is_lone before.layout before.floor before.young before.stuck (g.D.Disk.trace before.disk)).number v known) known.1.own
     c.requires.undated c.in-Committed.is (c.commit-repo.ensures.meets v x known none given is)
 
 pub returns-in-Barred-clause-ends : goal.returns-in-Barred-clause-ends
@@ -29,21 +29,21 @@ returns-in-Barred-clause-ends g c = λ v x known none told given is.
     let before = c.args.repo.turns in
     let mid = c.commit-repo.result.0.turns in
     let after = c.purged.result.turns in
-    barred_by _ _ _ _ c.commit-repo.result.1 (Rose (g.D.Disk.faults before.disk) (g.D.Disk.faults after.disk)) c.args.micros c.args.job.now c.args.properties v x (KnowsAlone mid.layout mid.young mid.stuck (g.D.Disk.trace mid.disk)) (KnowsAlone after.layout after.young after.stuck (g.D.Disk.trace after.disk)) (is_lone mid.layout mid.young mid.stuck (g.D.Disk.trace mid.disk)) (is_lone after.layout after.young after.stuck (g.D.Disk.trace after.disk)) c.in-Barred.bar c.in-Barred.txn c.barred.result
-    (history_seen before.layout before.young before.stuck (g.D.Disk.trace before.disk) v known) (over_seen v.seen _ _ _ x is) known.1.own none told (some_seen before.layout before.young before.stuck (g.D.Disk.trace before.disk) v known) given c.barred.ensures c.in-Barred.is (c.commit-repo.ensures.meets v x known none given is) (λ u k o i. c.purged.ensures.leaves u k o i)
+    barred_by _ _ _ _ c.commit-repo.result.1 (Rose (g.D.Disk.faults before.disk) (g.D.Disk.faults after.disk)) c.args.micros c.args.job.now c.args.properties v x (KnowsAlone mid.layout mid.floor mid.young mid.stuck (g.D.Disk.trace mid.disk)) (KnowsAlone after.layout after.floor after.young after.stuck (g.D.Disk.trace after.disk)) (is_lone mid.layout mid.floor mid.young mid.stuck (g.D.Disk.trace mid.disk)) (is_lone after.layout after.floor after.young after.stuck (g.D.Disk.trace after.disk)) c.in-Barred.bar c.in-Barred.txn c.barred.result
+    (history_seen before.layout before.floor before.young before.stuck (g.D.Disk.trace before.disk) v known) (over_seen v.seen _ _ _ x is) known.1.own none told (some_seen before.layout before.floor before.young before.stuck (g.D.Disk.trace before.disk) v known) given c.barred.ensures c.in-Barred.is (c.commit-repo.ensures.meets v x known none given is) (λ u k o i. c.purged.ensures.leaves u k o i)
 
 pub returns-in-DiskFault-clause-ends : goal.returns-in-DiskFault-clause-ends
 returns-in-DiskFault-clause-ends g c = λ v x known none told given is.
     let before = c.args.repo.turns in
     let after = c.commit-repo.result.0.turns in
-    disk_by _ _ _ _ c.commit-repo.result.1 (Rose (g.D.Disk.faults before.disk) (g.D.Disk.faults after.disk)) c.args.micros c.args.job.now c.args.properties v x (KnowsAlone after.layout after.young after.stuck (g.D.Disk.trace after.disk)) (is_lone after.layout after.young after.stuck (g.D.Disk.trace after.disk)) c.in-DiskFault.place c.stopped.result known.1.own none c.stopped.ensures c.requires.undated c.in-DiskFault.is
+    disk_by _ _ _ _ c.commit-repo.result.1 (Rose (g.D.Disk.faults before.disk) (g.D.Disk.faults after.disk)) c.args.micros c.args.job.now c.args.properties v x (KnowsAlone after.layout after.floor after.young after.stuck (g.D.Disk.trace after.disk)) (is_lone after.layout after.floor after.young after.stuck (g.D.Disk.trace after.disk)) c.in-DiskFault.place c.stopped.result known.1.own none c.stopped.ensures c.requires.undated c.in-DiskFault.is
     c.commit-repo.ensures.cause (c.commit-repo.ensures.meets v x known none given is)
 
 pub returns-in-BenchFault-clause-ends : goal.returns-in-BenchFault-clause-ends
 returns-in-BenchFault-clause-ends g c = λ v x known none told given is.
     let before = c.args.repo.turns in
     let after = c.commit-repo.result.0.turns in
-    bench_by _ _ _ _ c.commit-repo.result.1 (Rose (g.D.Disk.faults before.disk) (g.D.Disk.faults after.disk)) c.args.micros c.args.job.now c.args.properties v x (KnowsAlone after.layout after.young after.stuck (g.D.Disk.trace after.disk)) (is_lone after.layout after.young after.stuck (g.D.Disk.trace after.disk)) c.stopped-in-BenchFault.result known.1.own none c.stopped-in-BenchFault.ensures c.in-BenchFault.is
+    bench_by _ _ _ _ c.commit-repo.result.1 (Rose (g.D.Disk.faults before.disk) (g.D.Disk.faults after.disk)) c.args.micros c.args.job.now c.args.properties v x (KnowsAlone after.layout after.floor after.young after.stuck (g.D.Disk.trace after.disk)) (is_lone after.layout after.floor after.young after.stuck (g.D.Disk.trace after.disk)) c.stopped-in-BenchFault.result known.1.own none c.stopped-in-BenchFault.ensures c.in-BenchFault.is
     (c.commit-repo.ensures.meets v x known none given is)
 
 pub returns-in-Barred-clause-plain : goal.returns-in-Barred-clause-plain

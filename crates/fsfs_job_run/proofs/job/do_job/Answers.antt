@@ -10,7 +10,7 @@ use Rattle.fsfs_job_run.proofs.job.do_job.Goals as goal
 pub returns-in-Commit-clause-does : goal.returns-in-Commit-clause-does
 returns-in-Commit-clause-does g c = λ v known none.
     let after = c.commit_job.result.0.turns in
-    subst (λ (j : Job). DoesSo (KnowsAlone after.layout after.young after.stuck (g.D.Disk.trace after.disk)) (Rose (g.D.Disk.faults c.args.repo.turns.disk) (g.D.Disk.faults after.disk)) c.args.micros j c.commit_job.result.1 v) (sym c.in-Commit.is)
+    subst (λ (j : Job). DoesSo (KnowsAlone after.layout after.floor after.young after.stuck (g.D.Disk.trace after.disk)) (Rose (g.D.Disk.faults c.args.repo.turns.disk) (g.D.Disk.faults after.disk)) c.args.micros j c.commit_job.result.1 v) (sym c.in-Commit.is)
     (c.commit_job.ensures.does v known none).0
 
 pub returns-in-Commit-clause-counted : goal.returns-in-Commit-clause-counted
@@ -18,18 +18,18 @@ returns-in-Commit-clause-counted g c = λ v known none.
     subst (λ (j : Job). IfCounted j c.commit_job.result.1 (StopsOver v.seen)) (sym c.in-Commit.is) (c.commit_job.ensures.does v known none).1
 
 pub returns-in-Commit-clause-crashes : goal.returns-in-Commit-clause-crashes
-returns-in-Commit-clause-crashes g c = λ u known. let turns = c.commit_job.result.0.turns in survives turns.layout turns.young turns.stuck (g.D.Disk.trace turns.disk) u known
+returns-in-Commit-clause-crashes g c = λ u known. let turns = c.commit_job.result.0.turns in survives turns.layout turns.floor turns.young turns.stuck (g.D.Disk.trace turns.disk) u known
 
 pub returns-in-Read-clause-does : goal.returns-in-Read-clause-does
 returns-in-Read-clause-does g c = λ v known none.
     let after = c.read_text.result.0.turns in
-    subst (λ (j : Job). DoesSo (KnowsAlone after.layout after.young after.stuck (g.D.Disk.trace after.disk)) (Rose (g.D.Disk.faults c.args.repo.turns.disk) (g.D.Disk.faults after.disk)) c.args.micros j c.read_text.result.1 v) (sym c.in-Read.is) (c.read_text.ensures.does v c.args.micros known none)
+    subst (λ (j : Job). DoesSo (KnowsAlone after.layout after.floor after.young after.stuck (g.D.Disk.trace after.disk)) (Rose (g.D.Disk.faults c.args.repo.turns.disk) (g.D.Disk.faults after.disk)) c.args.micros j c.read_text.result.1 v) (sym c.in-Read.is) (c.read_text.ensures.does v c.args.micros known none)
 
 pub returns-in-Read-clause-counted : goal.returns-in-Read-clause-counted
 returns-in-Read-clause-counted g c = λ v known none. subst (λ (j : Job). IfCounted j c.read_text.result.1 (StopsOver v.seen)) (sym c.in-Read.is) tt
 
 pub returns-in-Read-clause-crashes : goal.returns-in-Read-clause-crashes
-returns-in-Read-clause-crashes g c = λ u known. let turns = c.read_text.result.0.turns in survives turns.layout turns.young turns.stuck (g.D.Disk.trace turns.disk) u known
+returns-in-Read-clause-crashes g c = λ u known. let turns = c.read_text.result.0.turns in survives turns.layout turns.floor turns.young turns.stuck (g.D.Disk.trace turns.disk) u known
 
 pub returns-in-Commit-clause-listed : goal.returns-in-Commit-clause-listed
 returns-in-Commit-clause-listed g c = c.commit_job.ensures.listed

@@ -18,9 +18,9 @@ returns-in-Ok-clause-does g c = λ v known none opened had clear few.
     let at = c.run_jobs-repo.result.0.turns in
     let then = c.youngest-youngest.new.self.turns in
     let same = c.youngest-youngest.ensures.same in
-    let a = state_of at.layout at.young at.stuck (told at.disk) (path at.disk) (benches at.disk) in
-    let b = state_of then.layout then.young then.stuck (told then.disk) (path then.disk) (benches then.disk) in
-    ran_in at.layout at.young at.stuck (told at.disk) (told c.close-disk.result) c.args.micros c.args.jobs.now c.in-Ok.answers.items c.youngest-youngest.result v (ap told c.close-disk.ensures ∙ ap (λ s. s.trace) same) opened had clear few (λ full. left_in a (if_ok c.run_jobs-repo.result.1 c.in-Ok.answers _ c.in-Ok.is (c.run_jobs-repo.ensures.full v known none) full))
+    let a = state_of at.layout at.floor at.young at.stuck (told at.disk) (path at.disk) (benches at.disk) in
+    let b = state_of then.layout then.floor then.young then.stuck (told then.disk) (path then.disk) (benches then.disk) in
+    ran_in at.layout at.floor at.young at.stuck (told at.disk) (told c.close-disk.result) c.args.micros c.args.jobs.now c.in-Ok.answers.items c.youngest-youngest.result v (ap told c.close-disk.ensures ∙ ap (λ s. s.trace) same) opened had clear few (λ full. left_in a (if_ok c.run_jobs-repo.result.1 c.in-Ok.answers _ c.in-Ok.is (c.run_jobs-repo.ensures.full v known none) full))
     (λ u k. c.youngest-youngest.ensures.all u (known_still a b u same k)) c.run_jobs-repo.ensures.crashes
     (if_ok c.run_jobs-repo.result.1 c.in-Ok.answers _ c.in-Ok.is (c.run_jobs-repo.ensures.does v known none))
 

@@ -42,7 +42,7 @@ returns-in-Ok-done-clause-ran g c =
     let listed = λ (least : ℕ) (next : IsNextName (told c.args.disk) least).
     subst (λ (l : List Job). LeavesListed least (length l) (option_map labels_now (told c.args.disk)) (option_map labels_now (told c.do_jobs-disk.result.0)) ⊎ Rose (count c.args.disk) now) given
     (lists_behind (Rose (count c.in-Ok.field-0.repo.turns.disk) now) (Rose (count c.args.disk) now) least (length c.as_slice.result.now) _ _ _ (λ r. omega (arith, r, c.in-Ok.ensures.later)) c.in-Ok.ensures.listed
-    (c.do_jobs-disk.ensures.listed least (let s = c.in-Ok.field-0.repo.turns in opened_given (KnowsAlone s.layout s.young s.stuck (g.D.Disk.trace s.disk)) (told c.args.disk) least c.in-Ok.ensures.known next))) in
+    (c.do_jobs-disk.ensures.listed least (let s = c.in-Ok.field-0.repo.turns in opened_given (KnowsAlone s.layout s.floor s.young s.stuck (g.D.Disk.trace s.disk)) (told c.args.disk) least c.in-Ok.ensures.known next))) in
     let rose = if_ok c.do_jobs-disk.result.1 c.in-Ok-done.done _ c.in-Ok-done.is c.do_jobs-disk.ensures.benches in
     let benches : RoseBy (bench_faults_in answers) 0 (g.D.Disk.bench_faults c.do_jobs-disk.result.0) = omega (arith, rose) in
     Done c.in-Ok.field-0.said js answers c.in-Ok-done.done.youngest c.tell.result c.in-Ok.ensures.opened c.in-Ok-read_script.ensures.read c.in-Ok-read_script.ensures.whole each failed (calm_all answers (count c.args.disk) now failed) benches listed over c.tell.ensures.printed

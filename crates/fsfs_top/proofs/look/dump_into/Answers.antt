@@ -30,7 +30,7 @@ returns-in-Err-clause-printed g c =
       result = r;
       writes = dump_writes (g.D.Disk.trace c.args.disk) o c.as_bytes.result.now _ (may_read (Ends reads.youngest) (owned_props (g.D.Disk.trace reads.disk) reads.layout)) (g.O.Sink.written c.args.out.now) (g.O.Sink.written c.dump-dumped.new.sink) r c.requires c.over_disk-book.ensures.told c.over_disk-book.ensures.props
           c.as_bytes.ensures.bytes c.in-Err.ensures.told;
-      fault_is = fault_with_cause disk write [] c.in-Err.error c.fault_dumped.result c.fault_dumped.ensures
+      fault_is = fault_with_cause disk write [] c.in-Err.error c.fault_of_all.result c.fault_of_all.ensures
           (same_counts c.in-Err.error _ _ (g.D.Disk.faults c.args.disk) (g.D.Disk.faults c.disk_of-disk.result) c.over_disk-book.ensures.faults c.disk_of-disk.ensures.faults c.in-Err.ensures.cause.failed)
           c.in-Err.ensures.sink.failed;
     }

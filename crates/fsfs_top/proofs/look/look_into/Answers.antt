@@ -31,6 +31,13 @@ returns-in-Dump-clause-printed g c =
     subst (λ (l : Look). LooksInto (Rose (g.D.Disk.faults c.args.disk) (g.D.Disk.faults c.dump_into.result.0)) l c.args.opened.now (option_map files_now (g.D.Disk.trace c.args.disk)) old new (fault_of c.dump_into.result.1))
     (sym c.in-Dump.is) c.dump_into.ensures.printed
 
+pub returns-in-Verify-clause-printed : goal.returns-in-Verify-clause-printed
+returns-in-Verify-clause-printed g c =
+    let old = sink_scene g.O.Sink c.args.out.now in
+    let new = sink_scene g.O.Sink c.verify_into.new.out in
+    subst (λ (l : Look). LooksInto (Rose (g.D.Disk.faults c.args.disk) (g.D.Disk.faults c.verify_into.result.0)) l c.args.opened.now (option_map files_now (g.D.Disk.trace c.args.disk)) old new (fault_of c.verify_into.result.1))
+    (sym c.in-Verify.is) c.verify_into.ensures.printed
+
 pub returns-in-AtRevision-clause-printed : goal.returns-in-AtRevision-clause-printed
 returns-in-AtRevision-clause-printed g c =
     let old = sink_scene g.O.Sink c.args.out.now in

@@ -15,8 +15,9 @@ do_beside-seat-requires-clause-parts g c = let e = ap (λ (k : Kin). k.parts) c.
 
 pub do_beside-seat-requires-clause-ready : goal.do_beside-seat-requires-clause-ready
 do_beside-seat-requires-clause-ready g c κs within =
-    subst (λ l. IsReady l (is_some (g.D.Disk.trace c.first-first.result.value)) c.args.seat.me.0) (sym c.layout-layout.ensures)
-    (subst (λ d. IsReady c.args.repo.layout (is_some (g.D.Disk.trace d)) c.args.seat.me.0) (sym c.first-first.ensures) c.requires.ready)
+    subst (λ l. IsReady l c.floor-floor.result (is_some (g.D.Disk.trace c.first-first.result.value)) c.args.seat.me.0) (sym c.layout-layout.ensures)
+    (subst (λ f. IsReady c.args.repo.layout f (is_some (g.D.Disk.trace c.first-first.result.value)) c.args.seat.me.0) (sym c.floor-floor.ensures)
+    (subst (λ d. IsReady c.args.repo.layout c.args.repo.floor (is_some (g.D.Disk.trace d)) c.args.seat.me.0) (sym c.first-first.ensures) c.requires.ready))
 
 pub look-youngest-requires-clause-sits : goal.look-youngest-requires-clause-sits
 look-youngest-requires-clause-sits g c = c.do_beside-seat.ensures.rests.sitting
@@ -27,6 +28,12 @@ returns-in-Ok-clause-ran g c = λ t is.
     ran_so c.args.micros c.look-youngest.result c.args.jobs.now c.in-Ok.answers.items c.args.seat.me.0 b.result.0.me.0 c.look-youngest.new.seat.me.0 (g.D.Disk.trace c.close.result) t is
     (ap (λ m. m.0) c.look-youngest.ensures.same.2) c.close.ensures.told c.close.ensures.left (λ told. if_ok b.result.1 c.in-Ok.answers _ c.in-Ok.is (b.ensures.did told)) c.look-youngest.ensures.looked b.ensures.rests b.ensures.duty
     c.requires.seen c.requires.alone b.ensures.parts
+
+pub returns-in-Ok-clause-labels : goal.returns-in-Ok-clause-labels
+returns-in-Ok-clause-labels g c = c.close.ensures.labels
+
+pub returns-clause-labels : goal.returns-clause-labels
+returns-clause-labels g c = c.close-in-Err.ensures.labels
 
 pub returns-in-Ok-clause-cause : goal.returns-in-Ok-clause-cause
 returns-in-Ok-clause-cause g c =

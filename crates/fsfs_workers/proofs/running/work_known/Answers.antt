@@ -7,7 +7,7 @@ use Rattle.fsfs_job_run.proofs.RunLemmas.{firm_fails}
 use Rattle.fsfs_job_run.specs.Serial.Jobs.{bench_faults_in}
 use Rattle.fsfs_job_run.specs.Workers.Lines.{disk_faults_in, RoseBy}
 use Rattle.fsfs_workers.specs.Two.{RanTwo}
-use Rattle.fsfs_workers.proofs.Begun.{is_ready, has_nothing, beside_over}
+use Rattle.fsfs_workers.proofs.Begun.{is_ready, has_nothing, beside_over, keeps_earlier}
 use Rattle.fsfs_workers.proofs.Ends.{rose_since, unopened, unread, unroomed, worked}
 use Rattle.fsfs_base.proofs.ResultLemmas.{if_ok, on_err}
 use Rattle.fsfs_workers.proofs.running.work_known.Goals as goal
@@ -17,7 +17,7 @@ run_two-disk-requires-clause-ready g c κs within =
     let o = c.in-Ok.opened in
     let e = c.in-Ok.ensures in
     let told = g.D.Disk.trace in
-    is_ready (told c.args.disk) (told o.repo.first.value) o.seat.me.0 e.firm e.fresh.0 e.tells e.seen o.repo.layout e.sits.2 (e.laid.1 ∙ sym e.laid.0)
+    is_ready (told c.args.disk) (told o.repo.first.value) o.seat.me.0 e.firm e.fresh.0 e.tells e.seen o.repo.layout o.repo.floor e.sits.2 (e.laid.2 ∙ sym (λ i. record { layout = e.laid.0 i; low = e.laid.1 i }))
 
 pub run_two-disk-requires-clause-seen : goal.run_two-disk-requires-clause-seen
 run_two-disk-requires-clause-seen g c κs within =
@@ -54,7 +54,8 @@ returns-in-Ok-done-clause-works g c =
     (λ (t : Trace) is. subst (λ l. RanTwo c.args.micros o.seat.me.0.since l done.answers.items done.youngest (revisions o.seat.me.0.seen) t) given (if_ok made.1 done _ c.in-Ok-done.is (c.run_two-disk.ensures.ran t is))) in
     let failed = if_ok made.1 done _ c.in-Ok-done.is c.run_two-disk.ensures.benches in
     let benches : RoseBy (bench_faults_in done.answers.items) 0 (g.D.Disk.bench_faults made.0) = omega (arith, failed) in
-    worked c.args.micros (count c.args.disk) (count made.0) (λ n. RoseBy n 0 (g.D.Disk.bench_faults made.0)) (told c.args.disk) (told made.0) (g.I.Source.remaining c.args.input.now) (g.I.Source.remaining c.read_script.new.source) (g.I.Source.faults c.args.input.now) (g.I.Source.faults c.read_script.new.source) o.said js done e.opened c.in-Ok-read_script.ensures.read c.in-Ok-read_script.ensures.whole each rose benches over
+    let kept = keeps_earlier o.said.next_txn.number o.repo.board.shared.key.value.seat.given (told c.args.disk) (told o.repo.first.value) o.repo.board.shared.key.value.disk.trace (told made.0) e.firm e.labels.0 e.labels.1 c.run_two-disk.ensures.labels in
+    worked c.args.micros (count c.args.disk) (count made.0) (λ n. RoseBy n 0 (g.D.Disk.bench_faults made.0)) (told c.args.disk) (told made.0) (g.I.Source.remaining c.args.input.now) (g.I.Source.remaining c.read_script.new.source) (g.I.Source.faults c.args.input.now) (g.I.Source.faults c.read_script.new.source) o.said js done e.opened c.in-Ok-read_script.ensures.read c.in-Ok-read_script.ensures.whole each rose benches kept over
 
 pub returns-clause-works : goal.returns-clause-works
 returns-clause-works g c =

@@ -19,16 +19,16 @@ join-seat-requires-after_bounds g c κs within =
     let split = c.split-other.ensures in
     let room = c.in-Ok.ensures in
     let tells = is_some (g.D.Disk.trace c.args.first.now.value) in
-    let half = subst (λ (z : SeatView). IsReady c.args.layout tells z) (sym (ap (λ m. m.0) split.same.2)) (halved_ready c.args.layout tells c.args.seat.me.0 r.ready) in
-    let new = subst (λ (z : SeatView). IsReady c.args.layout tells z) (sym split.split.1)
-    (split_ready c.args.layout tells c.args.seat.me.0 split.split.0 c.split-other.result.me.0.met r.ready (subst (λ (z : SeatView). TellsIt z) split.split.1 split.tells)) in (
+    let half = subst (λ (z : SeatView). IsReady c.args.layout c.args.floor tells z) (sym (ap (λ m. m.0) split.same.2)) (halved_ready c.args.layout c.args.floor tells c.args.seat.me.0 r.ready) in
+    let new = subst (λ (z : SeatView). IsReady c.args.layout c.args.floor tells z) (sym split.split.1)
+    (split_ready c.args.layout c.args.floor tells c.args.seat.me.0 split.split.0 c.split-other.result.me.0.met r.ready (subst (λ (z : SeatView). TellsIt z) split.split.1 split.tells)) in (
       (
         r.moment,
         (
           (room.empty.0, omega (arith, room.many.0)),
           (
             (split.same.0 ∙ r.sits.0, r.sits.1, r.sits.2, ap (λ m. m.1) split.same.2 ∙ r.sits.3),
-            subst (λ d. IsReady c.args.layout (is_some (g.D.Disk.trace d)) c.split-other.new.seat.me.0) (sym c.said_again-note.ensures) half,
+            subst (λ d. IsReady c.args.layout c.args.floor (is_some (g.D.Disk.trace d)) c.split-other.new.seat.me.0) (sym c.said_again-note.ensures) half,
           ),
         ),
       ),
@@ -38,7 +38,7 @@ join-seat-requires-after_bounds g c κs within =
           (room.empty.1, omega (arith, room.many.1)),
           (
             (split.new.0 ∙ r.sits.0, r.sits.1, r.sits.2, split.new.1),
-            subst (λ d. IsReady c.args.layout (is_some (g.D.Disk.trace d)) c.split-other.result.me.0) (sym c.said_again-other_note.ensures) new,
+            subst (λ d. IsReady c.args.layout c.args.floor (is_some (g.D.Disk.trace d)) c.split-other.result.me.0) (sym c.said_again-other_note.ensures) new,
           ),
         ),
       ),

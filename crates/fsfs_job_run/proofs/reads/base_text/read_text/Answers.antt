@@ -31,7 +31,7 @@ returns-clause-does g c = λ v moment known none.
     let b = c.in-Ok.ensures.base v known none in
     let told = c.reader-reader.ensures.told l.0 l.1 in
     let le : c.in-Ok.base ≤ last_of (revisions l.0.seen) = subst (λ (h : List Recorded). c.in-Ok.base ≤ last_of (revisions h)) (sym l.2.stays.seen) b.1 in
-    read_so (KnowsAlone after.layout after.young after.stuck (g.D.Disk.trace after.disk)) _ moment c.in-Ok.base job c.read_job-answer.result v l.0 (c.of_reader.ensures.known l.0 (subst (λ s. KnowsIn s l.0) (sym c.read_job-answer.ensures.kept.below) told.known)) l.2 b.0 b.1
+    read_so (KnowsAlone after.layout after.floor after.young after.stuck (g.D.Disk.trace after.disk)) _ moment c.in-Ok.base job c.read_job-answer.result v l.0 (c.of_reader.ensures.known l.0 (subst (λ s. KnowsIn s l.0) (sym c.read_job-answer.ensures.kept.below) told.known)) l.2 b.0 b.1
     (c.read_job-answer.ensures.told (bytes_of l.0.seen) (tree_of (revisions l.0.seen) c.in-Ok.base) (λ r low. told.revs r (omega (arith, low, le))) (told.shown.each c.in-Ok.base le))
     (fails_as c.read_job-answer.result _ _ _ _ (c.reader-reader.ensures.faults ∙ c.in-Ok.ensures.faults) (sym c.of_reader.ensures.faults) c.read_job-answer.ensures.cause.failed)
 

@@ -1,11 +1,9 @@
 use Rattle.std.proofs.Common.{◌≡◌, rules, true, ◌∷◌, sym, ap, subst, ◌∙◌, Some, None, arith}
 use Rattle.atomic_table.specs.Table.{rest}
-use Rattle.fsfs_machine.specs.declared.machine.Drawn.{Drawn}
-use Rattle.fsfs_turn.specs.Learning.{MayMake}
 use Rattle.fsfs_pass.specs.declared.seats.seat_view.SeatView.{SeatView}
 use Rattle.fsfs_pass.specs.Seats.{view_of}
 use Rattle.fsfs_pass.specs.SeatCalls.Made.{carried, failed_of}
-use Rattle.fsfs_pass.specs.SeatCalls.Tells.{BenchedBy}
+use Rattle.fsfs_pass.specs.SeatCalls.Tells.{BenchedBy, MayKeep}
 use Rattle.fsfs_pass.proofs.Going.{told_so}
 use Rattle.fsfs_pass.proofs.LabelCalls.{gives_benched}
 use Rattle.fsfs_pass.proofs.seat_calls.gives.give_benched.Goals as goal
@@ -17,7 +15,7 @@ pub store-requires : goal.store-requires
 store-requires g c = let now = c.exchange.ensures.3 in let me = ap (λ m. m.0) now in let hand = ap (λ m. m.0.hand) now in (
   search rules,
   search rules,
-  gives_benched _ _ _ _ _ c.args.disk (ap (λ m. m.0.kin.stage) now ∙ c.requires.sits) c.files_are_short.ensures c.requires.made.0 c.requires.made.1 (let one = c.requires.table.2 in omega (arith, one)) (ap (λ m. m.1) now ∙ ap (λ cs. (0, Some c.args.disk) ∷ rest cs) c.requires.table.3) (hand ∙ c.requires.made.2) c.requires.made.3 c.requires.made.4 (subst (λ (v : SeatView). v.told ≡ true → (x : Drawn) × MayMake (view_of v) x) (sym me) c.requires.may),
+  gives_benched _ _ _ _ _ c.args.disk (ap (λ m. m.0.kin.stage) now ∙ c.requires.sits) c.files_are_short.ensures c.requires.made.0 c.requires.made.1 (let one = c.requires.table.2 in omega (arith, one)) (ap (λ m. m.1) now ∙ ap (λ cs. (0, Some c.args.disk) ∷ rest cs) c.requires.table.3) (hand ∙ c.requires.made.2) c.requires.made.3 c.requires.made.4 (subst (λ (v : SeatView). v.told ≡ true → MayKeep (view_of v) c.requires.made.1) (sym me) c.requires.made.5),
 )
 
 pub returns-clause-same : goal.returns-clause-same

@@ -15,7 +15,7 @@ pub store-requires : goal.store-requires
 store-requires g c = let now = c.exchange.ensures.3 in let me = ap (λ m. m.0) now in let hand = ap (λ m. m.0.hand) now in (
   search rules,
   search rules,
-  gives_purged g.K.Dropping.faults _ _ _ _ _ c.args.disk (ap (λ m. m.0.kin.stage) now ∙ c.requires.sits) c.files_are_short.ensures c.requires.made.0 c.requires.made.1 (let one = c.requires.table.2 in omega (arith, one)) (ap (λ m. m.1) now ∙ ap (λ cs. (0, Some c.args.disk) ∷ rest cs) c.requires.table.3) (hand ∙ c.requires.made.2) c.requires.made.3 c.requires.made.4 (subst (λ (v : SeatView). v.told ≡ true → MayDrop (view_of v)) (sym me) c.requires.may),
+  gives_purged g.K.Dropping.faults _ _ _ _ _ c.args.disk (ap (λ m. m.0.kin.stage) now ∙ c.requires.sits) c.files_are_short.ensures c.requires.made.0 c.requires.made.1 (let one = c.requires.table.2 in omega (arith, one)) (ap (λ m. m.1) now ∙ ap (λ cs. (0, Some c.args.disk) ∷ rest cs) c.requires.table.3) (hand ∙ c.requires.made.2) c.requires.made.3 c.requires.made.4 (subst (λ (v : SeatView). v.told ≡ true → MayDrop (view_of v) c.requires.made.1) (sym me) c.requires.made.5),
 )
 
 pub returns-clause-same : goal.returns-clause-same

@@ -5,10 +5,8 @@ use Rattle.fsfs_pass.specs.declared.seats.seat_view.SeatView.{SeatView}
 use Rattle.fsfs_pass.specs.Seats.{view_of}
 use Rattle.fsfs_pass.specs.SeatCalls.Made.{risen}
 use Rattle.fsfs_disk.specs.Labels.{label_of, with_label}
-use Rattle.fsfs_machine.specs.declared.machine.Drawn.{Drawn}
-use Rattle.fsfs_turn.specs.Learning.{MayMake}
 use Rattle.fsfs_turn.proofs.Knowing.{kept_label, unkept_label, empty_told}
-use Rattle.fsfs_pass.specs.SeatCalls.Tells.{BenchedBy}
+use Rattle.fsfs_pass.specs.SeatCalls.Tells.{BenchedBy, MayKeep}
 use Rattle.fsfs_pass.proofs.Answering.{later_call, later_so, made_keep, back_so, before_so, may_so, was_so, benched_so, cause_so}
 use Rattle.fsfs_pass.proofs.MetLabels.{relabels_on, may_relabel_on, empty_on}
 use Rattle.fsfs_pass.proofs.seat_calls.labels.bench.Goals as goal
@@ -20,10 +18,8 @@ give_benched-requires-clause-made g c = (
   ap (λ m. m.0.hand) c.take-disk.ensures.out,
   later_call c.take-disk.result c.bench-answer.new.self c.bench-answer.result c.bench-answer.ensures.mounted c.bench-answer.ensures.flag c.bench-answer.ensures.cause c.bench-answer.ensures.benches,
   made_keep c.bench-answer.new.self.failed (label_of c.args.label.now) c.take-disk.result.trace c.bench-answer.new.self.trace c.bench-answer.result c.bench-answer.ensures.flag c.bench-answer.ensures.ok c.bench-answer.ensures.err,
+  may_so (λ v. MayKeep v (label_of c.args.label.now)) c.args.seat.now.me.0 c.take-disk.new.seat.me.0 (Out c.take-disk.result) (ap (λ m. m.0) c.take-disk.ensures.out) c.requires.may,
 )
-
-pub give_benched-requires-clause-may : goal.give_benched-requires-clause-may
-give_benched-requires-clause-may g c = may_so (λ v. (x : Drawn) × MayMake v x) c.args.seat.now.me.0 c.take-disk.new.seat.me.0 (Out c.take-disk.result) (ap (λ m. m.0) c.take-disk.ensures.out) c.requires.may
 
 pub returns-clause-back : goal.returns-clause-back
 returns-clause-back g c = back_so c.bench-answer.new.self.failed (is_err c.bench-answer.result) c.args.seat.now.me.0 c.take-disk.new.seat.me.0 c.give_benched.new.seat.me.0 (Out c.take-disk.result) (ap (λ m. m.0) c.take-disk.ensures.out) c.bench-answer.ensures.flag c.give_benched.ensures.given.back

@@ -19,10 +19,8 @@ give_purged-requires-clause-made g c = (
   later_dropping c.of-faults.result.value c.take-disk.result c.drop_bench-answer.new.self c.drop_bench-answer.result c.drop_bench-answer.ensures.mounted c.drop_bench-answer.ensures.flag c.drop_bench-answer.ensures.cause
       (subst (λ n. min (c.take-disk.result.bench_faults + n) (2 ^ 64 - 1) ≤ c.drop_bench-answer.new.self.bench_faults) (sym c.of-faults.ensures) (count_dropped g.D.Bench.Bench.faults c.args.bench c.take-disk.result.bench_faults c.drop_bench-answer.new.self.bench_faults c.drop_bench-answer.ensures.benches)),
   made_drop c.drop_bench-answer.new.self.failed (label_of c.args.label.now) c.take-disk.result.trace c.drop_bench-answer.new.self.trace c.drop_bench-answer.result c.drop_bench-answer.ensures.flag c.drop_bench-answer.ensures.ok c.drop_bench-answer.ensures.err,
+  may_so (λ v. MayDrop v (label_of c.args.label.now)) c.args.seat.now.me.0 c.take-disk.new.seat.me.0 (Out c.take-disk.result) (ap (λ m. m.0) c.take-disk.ensures.out) c.requires.may,
 )
-
-pub give_purged-requires-clause-may : goal.give_purged-requires-clause-may
-give_purged-requires-clause-may g c = may_so MayDrop c.args.seat.now.me.0 c.take-disk.new.seat.me.0 (Out c.take-disk.result) (ap (λ m. m.0) c.take-disk.ensures.out) c.requires.may
 
 pub returns-clause-back : goal.returns-clause-back
 returns-clause-back g c =

@@ -10,7 +10,7 @@ use Rattle.fsfs_pass.specs.SeatCalls.Tells.{ReadBy}
 use Rattle.fsfs_pass.proofs.Answering.{later_call, back_so, later_so, before_so, cause_so}
 use Rattle.fsfs_pass.proofs.MetLabels.{of_files}
 use Rattle.fsfs_pass.proofs.Onward.{reads_only}
-use Rattle.fsfs_pass.proofs.Reading.{taken_so, read_tells, props_tell, floor_tells}
+use Rattle.fsfs_pass.proofs.Reading.{taken_so, props_tell, floor_tells}
 use Rattle.fsfs_pass.proofs.seat_calls.reads.read.Goals as goal
 
 pub give_read-requires-clause-out : goal.give_read-requires-clause-out
@@ -29,9 +29,6 @@ returns-clause-bytes g c = of_files c.give_read.new.seat.me.0 c.take-disk.result
 
 pub returns-clause-onward : goal.returns-clause-onward
 returns-clause-onward g c told = reads_only c.args.seat.now.me.0.pass.floor (went_of c.read-answer.new.self.failed) (view_of c.args.seat.now.me.0) (view_of c.give_read.new.seat.me.0) (before_so (λ v. ReadBy (went_of c.read-answer.new.self.failed) v (view_of c.give_read.new.seat.me.0)) c.args.seat.now.me.0 c.take-disk.new.seat.me.0 (Out c.take-disk.result) (ap (λ m. m.0) c.take-disk.ensures.out) c.give_read.ensures.given.step told).floor
-
-pub returns-clause-turned : goal.returns-clause-turned
-returns-clause-turned g c told r x there fits above named = read_tells c.read-answer.new.self.failed c.args.seat.now.me.0 c.give_read.new.seat.me.0 c.take-disk.result.trace (taken_so c.args.seat.now.me.0 c.take-disk.result.trace c.take-disk.ensures.told c.take-disk.ensures.met told) c.args.name.now c.args.buffer.now c.read-answer.new.buffer c.args.offset c.read-answer.result c.read-answer.ensures.flag c.read-answer.ensures.bytes (before_so (λ v. ReadBy (went_of c.read-answer.new.self.failed) v (view_of c.give_read.new.seat.me.0)) c.args.seat.now.me.0 c.take-disk.new.seat.me.0 (Out c.take-disk.result) (ap (λ m. m.0) c.take-disk.ensures.out) c.give_read.ensures.given.step told) r x there fits above named
 
 pub returns-clause-properties : goal.returns-clause-properties
 returns-clause-properties g c told r x there fits named = props_tell c.read-answer.new.self.failed c.args.seat.now.me.0 c.give_read.new.seat.me.0 c.take-disk.result.trace (taken_so c.args.seat.now.me.0 c.take-disk.result.trace c.take-disk.ensures.told c.take-disk.ensures.met told) c.args.name.now c.args.buffer.now c.read-answer.new.buffer c.args.offset c.read-answer.result c.read-answer.ensures.flag c.read-answer.ensures.bytes (before_so (λ v. ReadBy (went_of c.read-answer.new.self.failed) v (view_of c.give_read.new.seat.me.0)) c.args.seat.now.me.0 c.take-disk.new.seat.me.0 (Out c.take-disk.result) (ap (λ m. m.0) c.take-disk.ensures.out) c.give_read.ensures.given.step told) r x there fits named

@@ -22,6 +22,9 @@ returns-clause-turned g c = λ v x known may labelled.
     knows_went (g.D.Disk.trace c.args.self.now.first.value) c.args.self.now.last c.args.self.now.last c.args.self.now.seat.me.0 c.bench.new.seat.me.0 (λ went. Answers c.bench.result went) (λ went a b. BenchMade x went a b) v known (ap {A = SeatView} (λ z. z.told) c.bench.ensures.back) c.bench.ensures.tells
     (c.bench.ensures.made known.told x (subst (λ z. MayMake z x) (sym known.is) may))
 
+pub bench-requires-clause-may : goal.bench-requires-clause-may
+bench-requires-clause-may g c = λ told. let w = c.requires.due told in (w.1, subst (λ z. MayMake z w.1) (sym w.2.is) w.3, w.4)
+
 pub bench-requires-clause-sits : goal.bench-requires-clause-sits
 bench-requires-clause-sits g c = sits_so c.args.self.now.seat.me.0 c.args.self.now.sitting
 

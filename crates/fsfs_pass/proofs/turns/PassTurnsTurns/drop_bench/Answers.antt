@@ -32,7 +32,7 @@ returns-clause-spent g c = λ v name base known outside given labelled.
     (c.drop_bench.ensures.spent known.told name (ap (λ z. z.section) known.is ∙ outside) (subst (λ z. IsIn name z.given) (sym known.is) given))
 
 pub drop_bench-requires-clause-may : goal.drop_bench-requires-clause-may
-drop_bench-requires-clause-may g c = λ told. let w = c.requires.due told in (w.1, ap (λ z. z.section) w.3.is ∙ w.4, subst (λ z. IsIn w.1 z.given) (sym w.3.is) w.5)
+drop_bench-requires-clause-may g c = λ told. let w = c.requires.due told in (w.1, ap (λ z. z.section) w.3.is ∙ w.4, subst (λ z. IsIn w.1 z.given) (sym w.3.is) w.5, w.2, w.6)
 
 pub drop_bench-requires-clause-sits : goal.drop_bench-requires-clause-sits
 drop_bench-requires-clause-sits g c = sits_so c.args.self.now.seat.me.0 c.args.self.now.sitting

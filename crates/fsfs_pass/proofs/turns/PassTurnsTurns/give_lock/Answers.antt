@@ -3,13 +3,14 @@ use Rattle.fsfs_machine.specs.declared.machine.Step.TheVariants.{GiveLock}
 use Rattle.fsfs_turn.specs.Views.{LockGiven}
 use Rattle.fsfs_pass.specs.declared.seats.seat_view.SeatView.{SeatView}
 use Rattle.fsfs_pass.specs.Passes.{pass_store}
+use Rattle.fsfs_pass.specs.Met.{ground_of}
 use Rattle.fsfs_pass.proofs.Turning.{knows_still, sits_so, mounted_still, stays}
 use Rattle.fsfs_pass.proofs.turns.PassTurnsTurns.give_lock.Goals as goal
 
 pub returns-clause-turned : goal.returns-clause-turned
 returns-clause-turned g c = λ v known may.
     let is = ap (λ m. m.0) c.give_lock.ensures.same.2 in
-    knows_still (g.D.Disk.trace c.args.self.now.first.value) c.args.self.now.last c.args.self.now.seat.me.0 c.give_lock.new.seat.me.0 (λ a b. LockGiven (GiveLock a.number) a b) v known (ap {A = SeatView} (λ z. z.told) is) (ap {A = SeatView} (λ z. pass_store c.args.self.now.last z) is) (ap {A = SeatView} (λ z. z.layout) is) (ap {A = SeatView} (λ z. z.seen) is) c.give_lock.ensures.given
+    knows_still (g.D.Disk.trace c.args.self.now.first.value) c.args.self.now.last c.args.self.now.seat.me.0 c.give_lock.new.seat.me.0 (λ a b. LockGiven (GiveLock a.number) a b) v known (ap {A = SeatView} (λ z. z.told) is) (ap {A = SeatView} (λ z. pass_store c.args.self.now.last z) is) (ap {A = SeatView} (λ z. ground_of z) is) (ap {A = SeatView} (λ z. z.seen) is) c.give_lock.ensures.given
 
 pub give_lock-requires-clause-sits : goal.give_lock-requires-clause-sits
 give_lock-requires-clause-sits g c = sits_so c.args.self.now.seat.me.0 c.args.self.now.sitting
@@ -26,4 +27,4 @@ invariant_of-self-clause-sitting g c =
     stays c.args.self.now.seat.me.0 c.give_lock.new.seat.me.0 kin c.args.self.now.sitting
 
 pub returns-clause-same : goal.returns-clause-same
-returns-clause-same g c = ap {A = SeatView} (λ z. z.layout) (ap (λ m. m.0) c.give_lock.ensures.same.2)
+returns-clause-same g c = ap {A = SeatView} (λ z. ground_of z) (ap (λ m. m.0) c.give_lock.ensures.same.2)

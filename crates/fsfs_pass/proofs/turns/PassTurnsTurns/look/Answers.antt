@@ -1,6 +1,7 @@
 use Rattle.std.proofs.Common.{ap, ◌∙◌, ◌≡◌}
 use Rattle.fsfs_turn.specs.Views.{Looked}
 use Rattle.fsfs_pass.specs.declared.seats.seat_view.SeatView.{SeatView}
+use Rattle.fsfs_pass.specs.Met.{ground_of}
 use Rattle.fsfs_pass.proofs.Turning.{look_told, look_low, look_youngest, look_there, look_turns, tells_later, knows_on, sits_so, stays, mounted_still}
 use Rattle.fsfs_pass.proofs.turns.PassTurnsTurns.look.Goals as goal
 
@@ -9,7 +10,7 @@ invariant_of-self g c =
     let is = ap (λ m. m.0) c.look-found.ensures.same.2 in
     record {
       sits = (c.look-found.ensures.same.0 ∙ c.args.self.now.sits.0, c.args.self.now.sits.1, c.args.self.now.sits.2, ap (λ m. m.1) c.look-found.ensures.same.2 ∙ c.args.self.now.sits.3);
-      layout_is = ap {A = SeatView} (λ z. z.layout) is ∙ c.args.self.now.layout_is;
+      layout_is = ap {A = SeatView} (λ z. ground_of z) is ∙ c.args.self.now.layout_is;
       sitting = stays c.args.self.now.seat.me.0 c.look-found.new.seat.me.0 (ap {A = SeatView} (λ z. z.kin) is) c.args.self.now.sitting;
       met_told = c.look-found.ensures.tells.0;
       last_low = look_low c.args.self.now.last c.look-found.result c.later_of-last.result c.args.self.now.seat.me.0 c.look-found.new.seat.me.0 is c.args.self.now.last_low c.look-found.ensures.looked c.later_of-last.ensures.one c.later_of-last.ensures.other c.later_of-last.ensures.greater;

@@ -1,10 +1,10 @@
-use Rattle.std.proofs.Common.{ap, subst, ◌∙◌, length, ◌≡◌, ◌<◌, ◌≤◌, ◌^◌, ℕ}
+use Rattle.std.proofs.Common.{ap, subst, ◌∙◌, ◌≡◌, ◌<◌, ◌^◌, ℕ}
 use Rattle.std.specs.Prelude.{List, Some, IfOk, slice_get}
 use Rattle.fsfs_layout.specs.Small.{IsRevLine}
 use Rattle.fsfs_layout.specs.Hash.Dump.{IsDump}
 use Rattle.fsfs_disk.specs.Trace.{IsRead}
 use Rattle.fsfs_machine.specs.declared.machine.Went.{Went}
-use Rattle.fsfs_turn.specs.Views.{View, rev_name, props_name, Answers, ReadTurn}
+use Rattle.fsfs_turn.specs.Views.{View, props_name, Answers}
 use Rattle.fsfs_turn.specs.Courses.{ReadOnly}
 use Rattle.fsfs_turn.specs.Learning.{PropsRead, FloorRead}
 use Rattle.fsfs_pass.specs.declared.seats.seat_view.SeatView.{SeatView}
@@ -27,11 +27,6 @@ invariant_of-self g c =
 
 pub returns-clause-onward : goal.returns-clause-onward
 returns-clause-onward g c = λ v known. knows_on (g.D.Disk.trace c.args.self.now.first.value) c.args.self.now.last c.args.self.now.last c.args.self.now.seat.me.0 c.read.new.seat.me.0 (λ a b. ReadOnly a b) v known (ap {A = SeatView} (λ z. z.told) c.read.ensures.back) c.read.ensures.tells c.read.ensures.onward
-
-pub returns-clause-turned : goal.returns-clause-turned
-returns-clause-turned g c = λ v r x known.
-    subst (λ z. slice_get z.seen r ≡ Some x → r < 2 ^ 32 → z.pass.floor ≤ r → c.args.name.now ≡ rev_name z r → (u : View) × (went : Went) × KnowsIt (g.D.Disk.trace c.args.self.now.first.value) c.args.self.now.last c.read.new.seat.me.0 u × Answers c.read.result went × ReadTurn r c.args.offset (length c.args.buffer.now) x went z u × IfOk c.read.result (IsRead (Some x.bytes) c.args.offset c.args.buffer.now c.read.new.buffer)) known.is
-    (λ at fits above named. let t = c.read.ensures.turned known.told r x at fits above named in (view_of c.read.new.seat.me.0, t.0, knows_now (g.D.Disk.trace c.args.self.now.first.value) c.args.self.now.last c.read.new.seat.me.0 known.disk (ap {A = SeatView} (λ z. z.told) c.read.ensures.back ∙ known.told) c.read.ensures.tells, t.1, t.2, t.3))
 
 pub returns-clause-properties : goal.returns-clause-properties
 returns-clause-properties g c = λ v r x known.

@@ -3,6 +3,7 @@ use Rattle.fsfs_machine.specs.declared.machine.Step.TheVariants.{StickLock}
 use Rattle.fsfs_turn.specs.Views.{LockGiven}
 use Rattle.fsfs_pass.specs.declared.seats.seat_view.SeatView.{SeatView}
 use Rattle.fsfs_pass.specs.Passes.{pass_store}
+use Rattle.fsfs_pass.specs.Met.{ground_of}
 use Rattle.fsfs_pass.proofs.Turning.{knows_still, sits_so, mounted_still, stays}
 use Rattle.fsfs_pass.proofs.turns.PassTurnsTurns.stick.Goals as goal
 
@@ -12,7 +13,7 @@ stick-requires-clause-may g c = λ told. let w = c.requires.due told in (w.1, ap
 pub returns-clause-turned : goal.returns-clause-turned
 returns-clause-turned g c = λ v x known at.
     let is = ap (λ m. m.0) c.stick.ensures.same.2 in
-    knows_still (g.D.Disk.trace c.args.self.now.first.value) c.args.self.now.last c.args.self.now.seat.me.0 c.stick.new.seat.me.0 (λ a b. LockGiven (StickLock a.number) a b) v known (ap {A = SeatView} (λ z. z.told) is) (ap {A = SeatView} (λ z. pass_store c.args.self.now.last z) is) (ap {A = SeatView} (λ z. z.layout) is) (ap {A = SeatView} (λ z. z.seen) is) c.stick.ensures.given
+    knows_still (g.D.Disk.trace c.args.self.now.first.value) c.args.self.now.last c.args.self.now.seat.me.0 c.stick.new.seat.me.0 (λ a b. LockGiven (StickLock a.number) a b) v known (ap {A = SeatView} (λ z. z.told) is) (ap {A = SeatView} (λ z. pass_store c.args.self.now.last z) is) (ap {A = SeatView} (λ z. ground_of z) is) (ap {A = SeatView} (λ z. z.seen) is) c.stick.ensures.given
 
 pub stick-requires-clause-sits : goal.stick-requires-clause-sits
 stick-requires-clause-sits g c = sits_so c.args.self.now.seat.me.0 c.args.self.now.sitting

@@ -6,15 +6,15 @@ use Rattle.fsfs_turn.proofs.owned.OwnedTurns.drop_bench.Goals as goal
 
 pub returns-clause-purged : goal.returns-clause-purged
 returns-clause-purged g c = λ v txn base known may labelled.
-    purge_alone c.args.self.now.layout c.args.self.now.young c.args.self.now.stuck (g.D.Disk.trace c.args.self.now.disk) (g.D.Disk.trace c.drop_bench.new.self)
+    purge_alone c.args.self.now.layout c.args.self.now.floor c.args.self.now.young c.args.self.now.stuck (g.D.Disk.trace c.args.self.now.disk) (g.D.Disk.trace c.drop_bench.new.self)
     (goes_if_there (DropLabel (label_of c.args.label.now)) tt (g.D.Disk.trace c.args.self.now.disk) (g.D.Disk.trace c.drop_bench.new.self) c.drop_bench.result c.drop_bench.ensures.ok c.drop_bench.ensures.err) v known txn c.drop_bench.result
-    (purge_known c.args.self.now.layout c.args.self.now.young c.args.self.now.stuck (g.D.Disk.trace c.args.self.now.disk) (g.D.Disk.trace c.drop_bench.new.self) (label_of c.args.label.now) c.drop_bench.result c.drop_bench.ensures.ok c.drop_bench.ensures.err v txn known.0 may)
+    (purge_known c.args.self.now.layout c.args.self.now.floor c.args.self.now.young c.args.self.now.stuck (g.D.Disk.trace c.args.self.now.disk) (g.D.Disk.trace c.drop_bench.new.self) (label_of c.args.label.now) c.drop_bench.result c.drop_bench.ensures.ok c.drop_bench.ensures.err v txn known.0 may)
 
 pub returns-clause-spent : goal.returns-clause-spent
 returns-clause-spent g c = λ v name base known outside given labelled.
-    spent_alone c.args.self.now.layout c.args.self.now.young c.args.self.now.stuck (g.D.Disk.trace c.args.self.now.disk) (g.D.Disk.trace c.drop_bench.new.self)
+    spent_alone c.args.self.now.layout c.args.self.now.floor c.args.self.now.young c.args.self.now.stuck (g.D.Disk.trace c.args.self.now.disk) (g.D.Disk.trace c.drop_bench.new.self)
     (goes_if_there (DropLabel (label_of c.args.label.now)) tt (g.D.Disk.trace c.args.self.now.disk) (g.D.Disk.trace c.drop_bench.new.self) c.drop_bench.result c.drop_bench.ensures.ok c.drop_bench.ensures.err) v known name c.drop_bench.result
-    (spent_known c.args.self.now.layout c.args.self.now.young c.args.self.now.stuck (g.D.Disk.trace c.args.self.now.disk) (g.D.Disk.trace c.drop_bench.new.self) (label_of c.args.label.now) c.drop_bench.result c.drop_bench.ensures.ok c.drop_bench.ensures.err v name known.0 outside given)
+    (spent_known c.args.self.now.layout c.args.self.now.floor c.args.self.now.young c.args.self.now.stuck (g.D.Disk.trace c.args.self.now.disk) (g.D.Disk.trace c.drop_bench.new.self) (label_of c.args.label.now) c.drop_bench.result c.drop_bench.ensures.ok c.drop_bench.ensures.err v name known.0 outside given)
 
 pub returns-clause-dropped : goal.returns-clause-dropped
 returns-clause-dropped g c = dropped_label (label_of c.args.label.now) (g.D.Disk.trace c.args.self.now.disk) (g.D.Disk.trace c.drop_bench.new.self) c.drop_bench.result c.drop_bench.ensures.there c.drop_bench.ensures.ok

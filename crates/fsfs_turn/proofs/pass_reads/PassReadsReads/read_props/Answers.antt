@@ -21,7 +21,7 @@ returns-clause-met g c =
     let turns = c.self.inside.turns in
     let old = g.T.Turns.store turns in
     subst (λ z. IfOk c.read.result (Met (seen_props (g.T.Turns.knows z.0) c.args.rev) c.args.buffer.now c.read.new.buffer)) c.self.view_is
-    (turn_met (g.T.Turns.knows turns) (g.T.Turns.knows c.read.new.self) (g.T.Turns.store c.read.new.self) old.layout c.read.ensures.later.layout c.read.ensures.onward (g.met.T.Turns.tells c.read.new.self) c.args.rev
+    (turn_met (g.T.Turns.low (g.T.Turns.store c.read.new.self).below) (g.T.Turns.knows turns) (g.T.Turns.knows c.read.new.self) (g.T.Turns.store c.read.new.self) old.layout c.read.ensures.later.layout c.read.ensures.onward (g.met.T.Turns.tells c.read.new.self) c.args.rev
     c.name-name.result c.args.buffer.now c.read.new.buffer c.read.result (c.name-name.ensures ∙ ap (λ (l : Layout). file_name l (repository.Props c.args.rev)) c.layout.ensures) c.read.auto.buffer c.read.ensures.within c.read.ensures.bytes)
 
 pub returns-clause-fewer : goal.returns-clause-fewer

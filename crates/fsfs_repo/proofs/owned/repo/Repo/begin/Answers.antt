@@ -19,19 +19,19 @@ begin_txn-back-requires g c = record { due = λ bound. absurd (both_ways false r
 
 pub returns-clause-begun : goal.returns-clause-begun
 returns-clause-begun g c = λ v known none.
-    c.begin_txn-back.ensures.alone (λ a b v same known. known_still (state_of a.layout a.young a.stuck (g.D.Disk.trace a.disk) (g.D.Disk.mount_path a.disk) (g.D.Disk.bench_faults a.disk)) (state_of b.layout b.young b.stuck (g.D.Disk.trace b.disk) (g.D.Disk.mount_path b.disk) (g.D.Disk.bench_faults b.disk)) v same known) v known none
+    c.begin_txn-back.ensures.alone (λ a b v same known. known_still (state_of a.layout a.floor a.young a.stuck (g.D.Disk.trace a.disk) (g.D.Disk.mount_path a.disk) (g.D.Disk.bench_faults a.disk)) (state_of b.layout b.floor b.young b.stuck (g.D.Disk.trace b.disk) (g.D.Disk.mount_path b.disk) (g.D.Disk.bench_faults b.disk)) v same known) v known none
 
 pub returns-clause-refused : goal.returns-clause-refused
 returns-clause-refused g c = λ v known none.
     IfErr-weaker c.begin_txn-back.result.1 _ _ (λ why w. either_way (λ a. a) (λ past. (
-      last_before _ c.args.self.turns past.0 (record { files = λ a b same. files_same (state_of a.layout a.young a.stuck (g.D.Disk.trace a.disk) (g.D.Disk.mount_path a.disk) (g.D.Disk.bench_faults a.disk)) (state_of b.layout b.young b.stuck (g.D.Disk.trace b.disk) (g.D.Disk.mount_path b.disk) (g.D.Disk.bench_faults b.disk)) same }),
+      last_before _ c.args.self.turns past.0 (record { files = λ a b same. files_same (state_of a.layout a.floor a.young a.stuck (g.D.Disk.trace a.disk) (g.D.Disk.mount_path a.disk) (g.D.Disk.bench_faults a.disk)) (state_of b.layout b.floor b.young b.stuck (g.D.Disk.trace b.disk) (g.D.Disk.mount_path b.disk) (g.D.Disk.bench_faults b.disk)) same }),
       past.1,
       past.2,
     )) w) (c.begin_txn-back.ensures.refused v known none)
 
 pub returns-clause-full : goal.returns-clause-full
 returns-clause-full g c = λ last.
-    c.begin_txn-back.ensures.full (record { files = λ a b same. files_same (state_of a.layout a.young a.stuck (g.D.Disk.trace a.disk) (g.D.Disk.mount_path a.disk) (g.D.Disk.bench_faults a.disk)) (state_of b.layout b.young b.stuck (g.D.Disk.trace b.disk) (g.D.Disk.mount_path b.disk) (g.D.Disk.bench_faults b.disk)) same }) last
+    c.begin_txn-back.ensures.full (record { files = λ a b same. files_same (state_of a.layout a.floor a.young a.stuck (g.D.Disk.trace a.disk) (g.D.Disk.mount_path a.disk) (g.D.Disk.bench_faults a.disk)) (state_of b.layout b.floor b.young b.stuck (g.D.Disk.trace b.disk) (g.D.Disk.mount_path b.disk) (g.D.Disk.bench_faults b.disk)) same }) last
 
 pub returns-clause-listed : goal.returns-clause-listed
 returns-clause-listed g c =
@@ -43,4 +43,4 @@ pub returns-clause-unlisted : goal.returns-clause-unlisted
 returns-clause-unlisted g c = if_free c.begin_txn-back.result.1 _ c.begin_txn-back.ensures.unlisted
 
 pub returns-clause-crashes : goal.returns-clause-crashes
-returns-clause-crashes g c = λ u known. let turns = c.begin_txn-back.result.0 in survives turns.layout turns.young turns.stuck (g.D.Disk.trace turns.disk) u known
+returns-clause-crashes g c = λ u known. let turns = c.begin_txn-back.result.0 in survives turns.layout turns.floor turns.young turns.stuck (g.D.Disk.trace turns.disk) u known

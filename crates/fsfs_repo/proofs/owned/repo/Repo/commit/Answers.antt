@@ -26,4 +26,4 @@ returns-clause-listed g c =
     leaves_alone (txn_label (pair_of c.args.txn.own.txn)) (Rose (g.D.Disk.faults turns.disk) (g.D.Disk.faults back.disk)) (option_map labels_now (g.D.Disk.trace turns.disk)) (option_map labels_now (g.D.Disk.trace back.disk)) c.commit_txn-back.result.1 c.commit_txn-back.ensures.listed
 
 pub returns-clause-crashes : goal.returns-clause-crashes
-returns-clause-crashes g c = λ u known. let turns = c.commit_txn-back.result.0 in survives turns.layout turns.young turns.stuck (g.D.Disk.trace turns.disk) u known
+returns-clause-crashes g c = λ u known. let turns = c.commit_txn-back.result.0 in survives turns.layout turns.floor turns.young turns.stuck (g.D.Disk.trace turns.disk) u known

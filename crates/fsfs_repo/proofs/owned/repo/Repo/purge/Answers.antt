@@ -25,4 +25,4 @@ pub returns-clause-purged : goal.returns-clause-purged
 returns-clause-purged g c = λ v known none given. c.purge_txn.ensures.purged v known none given (omega (arith, known.1.all))
 
 pub returns-clause-crashes : goal.returns-clause-crashes
-returns-clause-crashes g c = λ u known. survives c.purge_txn.new.turns.layout c.purge_txn.new.turns.young c.purge_txn.new.turns.stuck (g.D.Disk.trace c.purge_txn.new.turns.disk) u known
+returns-clause-crashes g c = λ u known. survives c.purge_txn.new.turns.layout c.purge_txn.new.turns.floor c.purge_txn.new.turns.young c.purge_txn.new.turns.stuck (g.D.Disk.trace c.purge_txn.new.turns.disk) u known

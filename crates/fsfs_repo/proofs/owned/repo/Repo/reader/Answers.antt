@@ -9,7 +9,7 @@ pub returns-clause-told : goal.returns-clause-told
 returns-clause-told g c = λ v known.
     let turns = c.args.self.turns in
     let at = c.over_turns.result.reads.turns in
-    tells_all (state_of turns.layout turns.young turns.stuck (g.D.Disk.trace turns.disk) (g.D.Disk.mount_path turns.disk) (g.D.Disk.bench_faults turns.disk)) (state_of at.layout at.young at.stuck (g.D.Disk.trace at.disk) (g.D.Disk.mount_path at.disk) (g.D.Disk.bench_faults at.disk)) c.over_turns.result.floor c.over_turns.result.kept v known c.over_turns.ensures.below
+    tells_all (state_of turns.layout turns.floor turns.young turns.stuck (g.D.Disk.trace turns.disk) (g.D.Disk.mount_path turns.disk) (g.D.Disk.bench_faults turns.disk)) (state_of at.layout at.floor at.young at.stuck (g.D.Disk.trace at.disk) (g.D.Disk.mount_path at.disk) (g.D.Disk.bench_faults at.disk)) c.over_turns.result.floor c.over_turns.result.kept v known c.over_turns.ensures.below
     (c.over_turns.ensures.told v known)
 
 pub returns-clause-mounted : goal.returns-clause-mounted

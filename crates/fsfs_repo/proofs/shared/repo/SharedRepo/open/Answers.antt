@@ -3,7 +3,7 @@ use Rattle.std.specs.Prelude.{IsTrue}
 use Rattle.fsfs_base.specs.Failures.{Rose}
 use Rattle.fsfs_disk.specs.Trace.{FirmNames, Performs}
 use Rattle.fsfs_base.specs.declared.places.open_fault.OpenFault.TheVariants.{Memory}
-use Rattle.fsfs_repo.proofs.Opened.{begun_as, all_seen, said_on, if_ok_map, both_so, wanting_because, firm_left}
+use Rattle.fsfs_repo.proofs.Opened.{begun_as, all_seen, names_on, said_on, if_ok_map, both_so, wanting_because, firm_left}
 use Rattle.fsfs_repo.proofs.shared.repo.SharedRepo.open.Goals as goal
 
 pub share-requires-clause-right : goal.share-requires-clause-right
@@ -11,14 +11,17 @@ share-requires-clause-right g c = subst (λ d. IsTrue (g.D.Disk.may_write d)) (s
 
 pub some-about-requires : goal.some-about-requires
 some-about-requires g c =
-    begun_as c.in-Ok.field-0.store.layout c.in-Ok.field-0.said.layout c.in-Ok.field-0.store.young c.in-Ok.field-0.said.youngest c.in-Ok.field-0.store.stuck (g.D.Disk.trace c.args.disk) (g.D.Disk.trace c.of-before.result.value) (g.D.Disk.trace c.in-Ok.field-0.store.disk) (g.D.Disk.trace c.into_disk-disk.result)
-    c.in-Ok.ensures.same.0 c.in-Ok.ensures.same.1 (ap (λ d. g.D.Disk.trace d) c.into_disk-disk.ensures) (ap (λ d. g.D.Disk.trace d) c.of-before.ensures) c.in-Ok.ensures.firm c.requires.stands c.in-Ok.ensures.known
+    begun_as c.in-Ok.field-0.said c.in-Ok.field-0.store.layout c.in-Ok.field-0.store.floor c.in-Ok.field-0.store.young c.in-Ok.field-0.store.stuck (g.D.Disk.trace c.args.disk) (g.D.Disk.trace c.of-before.result.value) (g.D.Disk.trace c.in-Ok.field-0.store.disk) (g.D.Disk.trace c.into_disk-disk.result)
+    c.in-Ok.ensures.same.0 c.in-Ok.ensures.same.1 c.in-Ok.ensures.same.2 (ap (λ d. g.D.Disk.trace d) c.into_disk-disk.ensures) (ap (λ d. g.D.Disk.trace d) c.of-before.ensures) c.in-Ok.ensures.firm c.requires.stands c.in-Ok.ensures.opened c.in-Ok.ensures.known
 
 pub share-requires-clause-known : goal.share-requires-clause-known
 share-requires-clause-known g c = c.some-about.ensures.0
 
 pub returns-in-Ok-clause-seen : goal.returns-in-Ok-clause-seen
 returns-in-Ok-clause-seen g c = all_seen c.share.result (λ o. o.seat.me.0) (λ o. o.youngest) (g.D.Disk.trace c.args.disk) (g.D.Disk.trace c.of-before.result.value) c.some-about.result.value (ap (λ d. g.D.Disk.trace d) c.of-before.ensures) c.some-about.ensures.1 c.share.ensures.looked
+
+pub returns-in-Ok-clause-labels : goal.returns-in-Ok-clause-labels
+returns-in-Ok-clause-labels g c = names_on c.share.result (λ o. o.repo.board.shared.key.value.disk.trace ≡ g.D.Disk.trace o.repo.first.value) (λ o. o.repo.board.shared.key.value.seat.given) (λ o. o.said) c.in-Ok.field-0.said (g.D.Disk.trace c.args.disk) (g.D.Disk.trace c.of-before.result.value) c.some-about.result.value (ap (λ d. g.D.Disk.trace d) c.of-before.ensures) c.some-about.ensures.2 c.share.ensures.said c.share.ensures.labels
 
 pub returns-in-Ok-clause-opened : goal.returns-in-Ok-clause-opened
 returns-in-Ok-clause-opened g c = said_on c.share.result (λ o. o.said) c.in-Ok.field-0.said (g.D.Disk.trace c.args.disk) c.share.ensures.said c.in-Ok.ensures.opened

@@ -1,0 +1,9 @@
+pub mod NoDamage
+pub mod Standing
+pub mod Ids
+pub mod Maps
+pub mod Shown
+pub mod Finite
+pub mod Changed
+pub mod Histories
+pub mod Ahead

@@ -1,0 +1,15 @@
+pub mod Finds
+pub mod Preds
+pub mod Same
+pub mod PartSets
+pub mod Brought
+pub mod Copies
+pub mod Edges
+pub mod LinksUp
+pub mod Roots
+pub mod ReadDirs
+pub mod ItemFaults
+pub mod AllWritten
+pub mod Texts
+pub mod Walks
+pub mod Steps
