@@ -3,7 +3,7 @@ use Rattle.std.proofs.Common.{◌≡◌, false, ap}
 use Rattle.fsfs_base.specs.declared.places.place.DiskPlace.TheVariants.{Commit}
 use Rattle.fsfs_base.specs.declared.places.place.CommitPlace.{CommitPlace}
 use Rattle.fsfs_machine.specs.declared.machine.Coming.{Coming}
-use Rattle.fsfs_turn.specs.Alone.{BringsNoDoubt, brings_doubt}
+use Rattle.fsfs_turn.specs.Alone.{BringsNoDoubt, leaves_stuck}
 use Rattle.fsfs_turn.specs.Views.{View}
 use Rattle.fsfs_turn.proofs.Doubts.{fault_more}
 use Rattle.fsfs_commit.specs.declared.committing.CommitFault.{CommitFault}
@@ -11,7 +11,7 @@ use Rattle.fsfs_commit.specs.declared.committing.CommitFault.TheVariants as faul
 use Rattle.fsfs_commit.specs.Courses.{StoppedAt}
 use Rattle.fsfs_commit.specs.Replies.{UnlessDoubt}
 
-pub stopped_doubtless : (place : CommitPlace) (x : Coming) (v u : View) → StoppedAt place x v u → brings_doubt (Commit place) ≡ false → BringsNoDoubt v u
+pub stopped_doubtless : (place : CommitPlace) (x : Coming) (v u : View) → StoppedAt place x v u → leaves_stuck (Commit place) ≡ false → BringsNoDoubt v u
 stopped_doubtless place x v u s = fault_more (Commit place) v u (ap {A = View} (λ z. z.pass.faults) s.is)
 
 -- ---- an answer

@@ -8,7 +8,7 @@ use Rattle.fsfs_machine.specs.declared.machine.Coming.{Coming}
 use Rattle.fsfs_machine.specs.declared.machine.Txn.{Txn}
 use Rattle.fsfs_base.specs.declared.places.place.DiskPlace.TheVariants.{Commit}
 use Rattle.fsfs_machine.specs.Machine.{revisions, entry_of}
-use Rattle.fsfs_turn.specs.Alone.{BringsNoDoubt, brings_doubt}
+use Rattle.fsfs_turn.specs.Alone.{BringsNoDoubt, leaves_stuck}
 use Rattle.fsfs_turn.specs.Bytes.{BytesShow}
 use Rattle.fsfs_machine.specs.declared.machine.Step.TheVariants.{GiveLock}
 use Rattle.fsfs_turn.specs.Views.{View, Begins, is_held, LockGiven}
@@ -143,7 +143,7 @@ abbrev pub UnlessDoubt : {E : Type 0} → CommitFault E → Type 0 → Type 0
 UnlessDoubt RevsFull P = P
 UnlessDoubt (Stuck place) P = P
 UnlessDoubt (Refuses refusal) P = P
-UnlessDoubt (DiskFault place) P = brings_doubt (Commit place) ≡ false → P
+UnlessDoubt (DiskFault place) P = leaves_stuck (Commit place) ≡ false → P
 
 -- what is left in doubt is what was, unless a call of the section failed: then it may be a revision of which this is known
 abbrev pub FaultLeft : {E : Type 0} → CommitFault E → (Coming → Type 0) → View → View → Type 0

@@ -13,7 +13,7 @@ use Rattle.fsfs_machine.specs.declared.machine.Txn.{Txn}
 use Rattle.fsfs_machine.specs.Kept.{IsIn}
 use Rattle.fsfs_machine.specs.Machine.{revisions}
 use Rattle.fsfs_machine.proofs.Growing.{revisions_length}
-use Rattle.fsfs_turn.specs.Alone.{BringsNoDoubt, brings_doubt}
+use Rattle.fsfs_turn.specs.Alone.{BringsNoDoubt, leaves_stuck}
 use Rattle.fsfs_turn.specs.Views.{View, IsTxnOver}
 use Rattle.fsfs_repo.specs.Replies.{Committed, LeavesDoubt, Moved, Wrote}
 use Rattle.fsfs_repo.specs.Works.{Landings}
@@ -67,7 +67,7 @@ dated_so : (moment : ℕ) (job : CommitJob) (properties dated : List (List ℕ �
 dated_so moment job properties dated undated date = date.2 ∙ ap (λ (p : List (List ℕ × List ℕ)). insert_entry (slice_cmp nat_cmp) p date_name date.0) undated ∙ job_dated date.0 job
 
 pub disk_ends : (knows : View → Type 0) → IsLone knows → (rose : Type 0) (moment : ℕ) (job : CommitJob) (at : DiskPlace) (answer : JobAnswer) (v : View) (x : Txn) → IsCounted v → v.section ≡ None → rose → answer ≡ answers.Stopped job.line (Outside (outside.Disk at))
-    → (properties dated : List (List ℕ × List ℕ)) → properties ≡ undated_properties job → IsDatedAt moment properties dated → (u : View) → (brings_doubt at ≡ false → BringsNoDoubt v u) → LeavesDoubt (Wrote dated v u x) v u → Moved v u → (gone : Bool) → IsDropped knows gone x.name u
+    → (properties dated : List (List ℕ × List ℕ)) → properties ≡ undated_properties job → IsDatedAt moment properties dated → (u : View) → (leaves_stuck at ≡ false → BringsNoDoubt v u) → LeavesDoubt (Wrote dated v u x) v u → Moved v u → (gone : Bool) → IsDropped knows gone x.name u
     → EndsSo knows rose moment job answer x v
 disk_ends knows lone rose moment job at answer v x all none up is properties dated undated date u brings doubt moved gone dropped =
     subst (λ (a : JobAnswer). EndsSo knows rose moment job a x v) (sym is)

@@ -10,7 +10,7 @@ use Rattle.fsfs_machine.specs.declared.machine.Section.TheVariants.{Begun, Count
 use Rattle.fsfs_machine.specs.declared.machine.Went.{Went}
 use Rattle.fsfs_machine.specs.declared.machine.Went.TheVariants.{Fine, Before, After, Torn}
 use Rattle.fsfs_machine.specs.Machine.{either, after, spoiled}
-use Rattle.fsfs_turn.specs.Alone.{are_harmless, brings_doubt, is_doubtful}
+use Rattle.fsfs_turn.specs.Alone.{are_harmless, leaves_stuck, is_doubtful}
 use Rattle.fsfs_turn.proofs.Alone.{after_calm}
 
 -- the place of the call that is due in a section
@@ -26,20 +26,20 @@ place_due (CurrentRenamed x) = Commit FirmCurrent
 place_due s = Read
 
 -- none of these faults leaves a revision in doubt, so the last doesn't
-harmless_last : (places : List DiskPlace) (place : DiskPlace) → are_harmless (places ++ place ∷ []) ≡ true → brings_doubt place ≡ false
-harmless_last [] place e = by_test (brings_doubt place) e
+harmless_last : (places : List DiskPlace) (place : DiskPlace) → are_harmless (places ++ place ∷ []) ≡ true → leaves_stuck place ≡ false
+harmless_last [] place e = by_test (leaves_stuck place) e
   where
     by_test : (b : Bool) → cond b false true ≡ true → b ≡ false
     by_test true e = absurd cc
     by_test false e = refl
-harmless_last (x ∷ places) place e = by_test (brings_doubt x) e (harmless_last places place)
+harmless_last (x ∷ places) place e = by_test (leaves_stuck x) e (harmless_last places place)
   where
-    by_test : (b : Bool) → cond b false (are_harmless (places ++ place ∷ [])) ≡ true → (are_harmless (places ++ place ∷ []) ≡ true → brings_doubt place ≡ false) → brings_doubt place ≡ false
+    by_test : (b : Bool) → cond b false (are_harmless (places ++ place ∷ [])) ≡ true → (are_harmless (places ++ place ∷ []) ≡ true → leaves_stuck place ≡ false) → leaves_stuck place ≡ false
     by_test true e rest = absurd cc
     by_test false e rest = rest e
 
 -- one is left in doubt just by the faults that leave a revision so
-spoiled_doubtful : (s : Section) → is_doubtful (spoiled s) ≡ brings_doubt (place_due s)
+spoiled_doubtful : (s : Section) → is_doubtful (spoiled s) ≡ leaves_stuck (place_due s)
 spoiled_doubtful Begun = refl
 spoiled_doubtful (CountRead x) = refl
 spoiled_doubtful (CountPut x) = refl

@@ -53,7 +53,7 @@ word_stays p before after l = ⊎_elim
 -- ---- the seat that knows this
 
 abbrev pub seat_with : Bool → Option Trace → SeatView → View → SeatView
-seat_with failed left m u = record m { pass = u.pass; seen = u.seen; section = u.section; given = u.given; full = u.full; hand = Empty; met = left; failures = risen failed m.failures }
+seat_with failed left m u = record m { pass = u.pass; seen = u.seen; section = u.section; given = u.given; full = u.full; firm = u.firm; hand = Empty; met = left; failures = risen failed m.failures }
 
 -- one that knows what it knew, and whether a name is left
 abbrev pub seat_as : Bool → Option Trace → Bool → SeatView → SeatView
@@ -150,7 +150,7 @@ module _ (first : SeatView) (views : List SeatView) (lock young : ℕ) (t : Trac
         subst (λ b. cond b (me.pass.least + (length me.seen - 1 - me.pass.least)) 0 ≤ cond b (a.view.pass.least + (length a.view.seen - 1 - a.view.pass.least)) 0) (sym told) (omega (arith, seen, before, least))
 
     pub later_after : me.told ≡ true → Later (seat_store me) (seat_store after_call)
-    later_after told = later_now moved.world new own.met.0 me after_call
+    later_after told = later_now me.low young (stuck_place a.world.lock) moved.world new own.met.0 me after_call moved.store
         (met_after me.layout me.number w moved.world t new own.met.0 me me moved.spares lasts (omega arith) (omega arith) met_own) told own.met.1 left_is refl refl (further told)
 
     pub tells_after : P (view_of after_call)
@@ -162,7 +162,7 @@ module _ (first : SeatView) (views : List SeatView) (lock young : ℕ) (t : Trac
     as_it_was = seat_as failed left full (counting k me)
 
     sees_still : Sees w (view_of as_it_was)
-    sees_still = let e = own.sees in record { pass = e.pass; seen = e.seen; section = e.section; up = e.up; sure = e.sure; whole = e.whole; given = e.given; opened = e.opened; shown = e.shown; names = names }
+    sees_still = let e = own.sees in record { pass = e.pass; seen = e.seen; section = e.section; up = e.up; sure = e.sure; whole = e.whole; given = e.given; opened = e.opened; shown = e.shown; firm = e.firm; names = names }
 
     met_same : Met first.layout w t as_it_was t
     met_same = met_now first.layout first.low young (stuck_place w.lock) t w as_it_was s.store (seen_within w (view_of me) own.sees) (seen_of (length w.history) w.low (most_floor (may_rise w.lock) w.size w.floor) w.passes me.number me.pass s.store.kept.seen own.sees.pass).least
@@ -174,7 +174,7 @@ module _ (first : SeatView) (views : List SeatView) (lock young : ℕ) (t : Trac
     seen_still told = tells_seen w t t as_it_was (subst (λ l. Met l w t as_it_was t) (sym own.layout) met_same) (s.store.low_is ∙ sym own.low) told left_is sees_still
 
     pub later_still : me.told ≡ true → Later (seat_store me) (seat_store as_it_was)
-    later_still told = later_now w t own.met.0 me as_it_was met_own told own.met.1 left_is refl refl (omega arith)
+    later_still told = later_now first.low young (stuck_place w.lock) w t own.met.0 me as_it_was (subst (λ l. IsStore l first.low young (stuck_place w.lock) t w) (sym own.layout) s.store) met_own told own.met.1 left_is refl refl (omega arith)
 
 -- ---- the disk goes back
 

@@ -13,6 +13,7 @@ use Rattle.fsfs_machine.specs.declared.machine.Step.TheVariants as step
 use Rattle.fsfs_machine.specs.Machine.{stuck_place, recorded}
 use Rattle.fsfs_turn.specs.Alone.{are_harmless, is_doubtful_at}
 use Rattle.fsfs_turn.specs.Past.{doubt, stuck_with, Safe}
+use Rattle.fsfs_turn.specs.Standing.{IsStore}
 use Rattle.fsfs_turn.specs.Views.{View, Sees, is_held, left_by, coming_at, Looked, LockTaken, FoundStuck, MayGive, LockGiven, Revealed}
 use Rattle.fsfs_turn.specs.Telling.{TellsSeen}
 use Rattle.fsfs_turn.proofs.Moves.{Moved}
@@ -138,7 +139,7 @@ module _ (first : SeatView) (views : List SeatView) (lock young : ℕ) (t : Trac
   -- if it meets the trace as it is it tells what is later
   pub later : (u : SeatView) → me.told ≡ true → u.met ≡ Some t → u.layout ≡ me.layout → u.low ≡ me.low → known_last me ≤ known_last u → Later (seat_store me) (seat_store u)
   later u told met layout low reach = let o = seated first views lock young t s id me at in
-      later_now s.world t o.met.0 me u (subst (λ l. Met l s.world t me o.met.0) (sym o.layout) o.met.2) told o.met.1 met layout low reach
+      later_now first.low young (stuck_place s.world.lock) s.world t o.met.0 me u (subst (λ l. IsStore l first.low young (stuck_place s.world.lock) t s.world) (sym o.layout) s.store) (subst (λ l. Met l s.world t me o.met.0) (sym o.layout) o.met.2) told o.met.1 met layout low reach
 
   -- a look tells of no fewer revisions than its pass knew of
   pub looks_further : me.told ≡ true → known_last me ≤ known_last (look_view young (Some t) me)

@@ -1,13 +1,13 @@
 -- Which labels the passes at a table leave as they are: all but those of transactions whose names were given since it began.
-use Rattle.std.specs.Prelude.{◌≡◌, ℕ, List, Option, IfSome}
-use Rattle.fsfs_disk.specs.Labels.{Label, Txn as TxnLabel, has_label}
+use Rattle.std.specs.Prelude.{◌≡◌, ℕ, List, Option, IfSome, Unit}
+use Rattle.fsfs_disk.specs.Labels.{Label, Txn as TxnLabel, Pack as PackLabel, has_label}
 use Rattle.fsfs_disk.specs.Trace.{Trace, labels_now}
 use Rattle.fsfs_machine.specs.Kept.{AllBelow, IsIn}
 
--- it is the label of a transaction whose name is above all of these
+-- it is the label of a transaction whose name is above all of these, or of a pack, which who holds the lock makes and drops
 abbrev pub IsAboveAll : List ℕ → Label → Type 0
 IsAboveAll names (TxnLabel base name) = AllBelow name names
-IsAboveAll names l = ⊥
+IsAboveAll names (PackLabel shard) = Unit {0}
 
 -- KEEPS OTHERS: each other label is kept where it was, and nowhere else.
 abbrev pub KeepsOthers : List ℕ → List Label → List Label → Type 0

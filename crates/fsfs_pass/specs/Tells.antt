@@ -16,10 +16,10 @@ use Rattle.fsfs_fetch.specs.Views.{Later}
 use Rattle.fsfs_machine.specs.declared.machine.Coming.{Coming}
 use Rattle.fsfs_machine.specs.declared.machine.Pass.{Pass}
 use Rattle.fsfs_machine.specs.Kept.{IsIn, AreOnce}
-use Rattle.fsfs_machine.specs.declared.machine.Section.TheVariants.{CurrentFirm, Doubtful}
+use Rattle.fsfs_machine.specs.declared.machine.Section.TheVariants.{CurrentFirm}
 use Rattle.fsfs_machine.specs.declared.machine.Step.TheVariants.{GiveLock, StickLock}
 use Rattle.fsfs_base.specs.declared.places.place.DiskPlace.{DiskPlace}
-use Rattle.fsfs_turn.specs.Views.{Sees, Begins, Looked, LockTaken, FoundStuck, LockGiven, MayGive, Revealed}
+use Rattle.fsfs_turn.specs.Views.{Sees, Begins, Looked, LockTaken, FoundStuck, LockGiven, MayGive, MustStick, Revealed}
 use Rattle.fsfs_disk.specs.Seen.{DiskSeen, IsLater}
 use Rattle.fsfs_pass.specs.declared.seats.seat_view.Hand.TheVariants.{Empty, Out}
 use Rattle.fsfs_pass.specs.declared.seats.seat_view.Before.{Before}
@@ -63,7 +63,7 @@ gave_lock st m found m' = (m' ≡ (outside_view m.0, m.1)) × (m.0.told ≡ true
 
 -- it is at a fault of this place, which leaves the lock stuck
 abbrev pub CanStick : DiskPlace → SeatView → Type 0
-CanStick place v = v.told ≡ true → (x : Coming) × (v.section ≡ Some (Doubtful place x))
+CanStick place v = v.told ≡ true → MustStick place (view_of v)
 
 abbrev pub stuck_it : At → Sat → ℕ → Sat → Type 0
 stuck_it st m found m' = (m' ≡ (outside_view m.0, m.1)) × (m.0.told ≡ true → LockGiven (StickLock m.0.number) (view_of m.0) (view_of (outside_view m.0)))

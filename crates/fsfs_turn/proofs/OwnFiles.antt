@@ -1,8 +1,9 @@
 -- The files that no turn changes are in their formats, and have their bytes, in each image of each moment.
-use Rattle.std.proofs.Common.{◌≡◌, ◌+◌, ℕ, List, [], ◌∷◌, length, true, false, ⊎_elim, refl, sym, ap, subst, ◌∙◌, arith}
+use Rattle.std.proofs.Common.{◌≡◌, ◌+◌, ◌/◌, ◌<◌, ◌^◌, ℕ, List, [], ◌∷◌, length, true, false, ⊎_elim, refl, sym, ap, subst, ◌∙◌, arith}
 use Rattle.std.specs.Prelude.{Bool, Option, Some, None, unwrap_or}
 use Rattle.std.specs.FinMap.{get, insert, remove}
 use Rattle.std.proofs.lemmas.Bool.{both_ways}
+use Rattle.std.proofs.lemmas.Nat.{div_below}
 use Rattle.fsfs_base.specs.Files.{Files, renamed}
 use Rattle.fsfs_base.proofs.FileLemmas.{get_kept, get_left}
 use Rattle.fsfs_tree.specs.Revisions.{Revision}
@@ -14,12 +15,16 @@ use Rattle.fsfs_layout.specs.declared.only_file.OnlyFile.TheVariants as only
 use Rattle.fsfs_layout.specs.declared.repository_file.RepositoryFile.{RepositoryFile}
 use Rattle.fsfs_layout.specs.declared.repository_file.RepositoryFile.TheVariants as file
 use Rattle.fsfs_layout.proofs.Apart.{names_apart}
+use Rattle.fsfs_layout.specs.Layouts.{shard_size}
+use Rattle.fsfs_layout.proofs.Manifests.{size_some}
 use Rattle.fsfs_disk.specs.Trace.{Trace, NameChange, Operation, Done, Attempted, Put, Adopt, Rename, Remove, FirmNames, KeepLabel, DropLabel, change_of, files_after, files_now, IsImage, ImageAfter, TornBy, ImageSince}
 use Rattle.fsfs_disk.proofs.CrashLemmas.{image_now, files_are_image}
 use Rattle.fsfs_base.specs.declared.places.place.DiskPlace.{DiskPlace}
 use Rattle.fsfs_base.specs.declared.places.place.DiskPlace.TheVariants.{Begin, Commit}
 use Rattle.fsfs_base.specs.declared.places.place.BeginPlace.TheVariants as begin
 use Rattle.fsfs_base.specs.declared.places.place.CommitPlace.TheVariants.{PutProps, FirmRev, PutCurrent, RenameCurrent, FirmCurrent}
+use Rattle.fsfs_base.specs.declared.places.place.DiskPlace.TheVariants as disk
+use Rattle.fsfs_base.specs.declared.places.place.PackPlace.TheVariants as pack
 use Rattle.fsfs_machine.specs.declared.contents.FileName.{FileName}
 use Rattle.fsfs_machine.specs.declared.contents.FileName.TheVariants.{Current, CurrentNext, Counter, CounterNext, Floor, FloorNext, Rev, Props, Pack, Manifest}
 use Rattle.fsfs_machine.specs.declared.machine.Txn.{Txn}
@@ -28,7 +33,7 @@ use Rattle.fsfs_images.specs.Shown.{Fits, IsBeside}
 use Rattle.fsfs_images.proofs.RealNaming.{fits_in}
 use Rattle.fsfs_turn.specs.declared.since.Since.{Since}
 use Rattle.fsfs_turn.specs.Stands.{HasOwnFiles, KeepsOwnFiles, is_lasting}
-use Rattle.fsfs_turn.specs.Views.{View, rev_name, IsDue, MayAdopt}
+use Rattle.fsfs_turn.specs.Views.{View, rev_name, IsFullShard, IsDue, MayAdopt}
 
 abbrev pub is_own : RepositoryFile → Bool
 is_own (file.Only only.Format) = true
@@ -94,11 +99,14 @@ abbrev lasts_as : RepositoryFile → Bool
 lasts_as (file.Only f) = is_lasting f
 lasts_as f = false
 
--- a name of the machine's is none of theirs, but for the floor's
+-- a name of the machine's is none of theirs
 machine_spares : (layout : Layout) (n : FileName) → lasts_as (machine_file n) ≡ false → Fits n → (name : List ℕ) → name ≡ machine_name layout n → IsNotOwn name
 machine_spares layout n changes fits name named f lasts e =
     let same : machine_file n ≡ file.Only f = names_apart layout (machine_file n) (file.Only f) (fits_in layout n fits) tt (sym (e ∙ named)) in
     both_ways (lasts_as (machine_file n)) changes (ap lasts_as same ∙ lasts)
+
+shard_fits : (v : View) (f : ℕ) → IsFullShard v f → f / shard_size v.layout < 2 ^ 32
+shard_fits v f full = div_below f (shard_size v.layout) (2 ^ 32) (size_some v.layout) (omega (arith, full.fits, size_some v.layout))
 
 pub due_spares : (v : View) (place : DiskPlace) (change : NameChange) → IsDue v place change → SparesOwn change
 due_spares v (Begin begin.Put) (Put name bytes) d = machine_spares v.layout CounterNext refl tt name d.2
@@ -109,7 +117,17 @@ due_spares v (Commit FirmRev) FirmNames d = tt
 due_spares v (Commit PutCurrent) (Put name bytes) d = machine_spares v.layout CurrentNext refl tt name d.2
 due_spares v (Commit RenameCurrent) (Rename from to) d = (machine_spares v.layout CurrentNext refl tt from d.2, machine_spares v.layout Current refl tt to d.3)
 due_spares v (Commit FirmCurrent) FirmNames d = tt
+due_spares v (disk.Pack pack.AdoptPack) (Adopt name bytes) d = machine_spares v.layout (Pack (d.0 / shard_size v.layout)) refl (shard_fits v d.0 d.1) name d.3
+due_spares v (disk.Pack pack.AdoptManifest) (Adopt name bytes) d = machine_spares v.layout (Manifest (d.0 / shard_size v.layout)) refl (shard_fits v d.0 d.1) name d.3
+due_spares v (disk.Pack pack.FirmPack) FirmNames d = tt
+due_spares v (disk.Pack pack.PutFloor) (Put name bytes) d = machine_spares v.layout FloorNext refl tt name d.3
+due_spares v (disk.Pack pack.RenameFloor) (Rename from to) d = (machine_spares v.layout FloorNext refl tt from d.1, machine_spares v.layout Floor refl tt to d.2)
+due_spares v (disk.Pack pack.FirmFloor) FirmNames d = tt
 due_spares v place change d = absurd d
+
+-- nor is the own file of a packed revision
+pub remove_spares : (v : View) (r : ℕ) → r < 2 ^ 32 → (name : List ℕ) → name ≡ rev_name v r → IsNotOwn name
+remove_spares v r fits name named = machine_spares v.layout (Rev r) refl fits name named
 
 -- nor is that of a commit's first file
 pub adopt_spares : (v : View) (txn : Txn) (properties : List (List ℕ × List ℕ)) (next : Revision) (bytes : List ℕ) → MayAdopt v txn properties next bytes → (name : List ℕ) → name ≡ rev_name v (length v.seen) → IsNotOwn name

@@ -26,14 +26,12 @@ pub record HasOwnFiles (files : Files) (layout : Layout) : Type 0 where
   pub format : SaysFormat (small_texts files) (Known layout)
   pub uuid : (uuid : List ℕ) × IsUuid (text_at files (only_name only.Uuid)) uuid
 
--- The files that no turn changes: the formats, the kind of store, the identifier, and the oldest revision that isn't packed. Turns pack
--- nothing, so the floor neither falls nor rises.
+-- the files that no turn changes: the formats, the kind of store, and the identifier
 abbrev pub is_lasting : OnlyFile → Bool
 is_lasting only.RepositoryFormat = true
 is_lasting only.Format = true
 is_lasting only.FsType = true
 is_lasting only.Uuid = true
-is_lasting only.MinUnpackedRev = true
 is_lasting f = false
 
 -- they have the bytes that they had before

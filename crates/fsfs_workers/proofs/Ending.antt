@@ -12,7 +12,7 @@ use Rattle.fsfs_draft.specs.Drafts.{Folder}
 use Rattle.fsfs_machine.specs.declared.machine.Recorded.{Recorded}
 use Rattle.fsfs_machine.specs.declared.machine.Txn.{Txn}
 use Rattle.fsfs_machine.specs.Machine.{revisions}
-use Rattle.fsfs_turn.specs.Alone.{BringsNoDoubt, brings_doubt}
+use Rattle.fsfs_turn.specs.Alone.{BringsNoDoubt, leaves_stuck}
 use Rattle.fsfs_turn.specs.Views.{View, Begins, IsTxnOver}
 use Rattle.fsfs_turn.proofs.Longer.{txn_later}
 use Rattle.fsfs_turn.proofs.Reading.{begins_on}
@@ -135,7 +135,7 @@ module _ (knows : View → Type 0) (rose : Type 0) (moment k last : ℕ) (job : 
 
   -- ---- nothing was added, and it is no more
 
-  pub disk_ends : (at : DiskPlace) (properties dated : List (List ℕ × List ℕ)) (u : View) (gone : Bool) → properties ≡ undated_properties job → IsDatedAt moment properties dated → rose → (brings_doubt at ≡ false → BringsNoDoubt v u) → LeavesDoubt (Wrote dated v u x) v u → Moved v u → IsDropped knows gone x.name u → EndsFrom knows rose moment k (jobs.Commit job) (answers.Stopped job.line (Outside (outside.Disk at))) v
+  pub disk_ends : (at : DiskPlace) (properties dated : List (List ℕ × List ℕ)) (u : View) (gone : Bool) → properties ≡ undated_properties job → IsDatedAt moment properties dated → rose → (leaves_stuck at ≡ false → BringsNoDoubt v u) → LeavesDoubt (Wrote dated v u x) v u → Moved v u → IsDropped knows gone x.name u → EndsFrom knows rose moment k (jobs.Commit job) (answers.Stopped job.line (Outside (outside.Disk at))) v
   disk_ends at properties dated u gone undated date up brings doubt moved dropped =
       let left = by_dropping knows gone x.name u (moved.section ∙ none) dropped in
       (left.0, left.1, fails_so moment k (jobs.Commit job) (answers.Stopped job.line (Outside (outside.Disk at))) v u left.0 moved none left.2 brings (left_by left.0 left.2 doubt) refl refl (ByDisk (jobs.Commit job) job.line at) (λ P. tt), up)

@@ -12,7 +12,7 @@ use Rattle.fsfs_machine.specs.declared.machine.Coming.{Coming}
 use Rattle.fsfs_machine.specs.declared.machine.Recorded.{Recorded}
 use Rattle.fsfs_machine.specs.Kept.{Follows}
 use Rattle.fsfs_machine.specs.Machine.{revisions}
-use Rattle.fsfs_turn.specs.Alone.{BringsNoDoubt, brings_doubt}
+use Rattle.fsfs_turn.specs.Alone.{BringsNoDoubt, leaves_stuck}
 use Rattle.fsfs_turn.specs.Views.{View, Begins}
 use Rattle.fsfs_script.specs.declared.job_lines.job.CommitJob.{CommitJob}
 use Rattle.fsfs_script.specs.declared.job_lines.job.Job.{Job}
@@ -68,7 +68,7 @@ own_of (Stopped line fault) = []
 
 -- it tells of a fault that leaves a revision in doubt
 abbrev pub tells_doubt : JobAnswer → Bool
-tells_doubt (Stopped line (Outside (Disk at))) = brings_doubt at
+tells_doubt (Stopped line (Outside (Disk at))) = leaves_stuck at
 tells_doubt answer = false
 
 -- What an answer leaves: the pass is in no section, and has seen what it had seen and what the answer tells, which is its own; it knows more names

@@ -9,7 +9,7 @@ use Rattle.fsfs_machine.specs.declared.machine.Went.{Went}
 use Rattle.fsfs_machine.specs.declared.machine.Went.TheVariants.{Fine}
 use Rattle.fsfs_machine.specs.declared.machine.Step.TheVariants.{PurgeSpent}
 use Rattle.fsfs_machine.specs.Machine.{is_fine_in}
-use Rattle.fsfs_turn.specs.Alone.{BringsNoDoubt, brings_doubt}
+use Rattle.fsfs_turn.specs.Alone.{BringsNoDoubt, leaves_stuck}
 use Rattle.fsfs_turn.specs.Learning.{with_spent}
 use Rattle.fsfs_turn.specs.Views.{View}
 use Rattle.fsfs_begin.specs.Purged.{HasPurged, HasNotPurged}
@@ -72,7 +72,7 @@ IsNoMore knows v u x = Moved v u × ((gone : Bool) × IsDropped knows gone x.nam
 abbrev pub Ends : {X : Type 0} → (View → Type 0) → (List Recorded → Txn → X → Type 0) → List (List ℕ × List ℕ) → View → Txn → CommitAnswer X → Type 0
 Ends knows back properties v x (answers.Committed rev purged) = (m : View) × (y : Txn) × Committed rev properties v m x y × IsDropped knows purged x.name m
 Ends knows back properties v x (answers.Barred bar txn) = (u : View) × (y : Txn) × knows u × IsBack back v u x y txn × Bars bar u y
-Ends knows back properties v x (answers.DiskFault at) = (u : View) × FailsAt at v u × (brings_doubt at ≡ false → BringsNoDoubt v u) × LeavesDoubt (Wrote properties v u x) v u × IsNoMore knows v u x
+Ends knows back properties v x (answers.DiskFault at) = (u : View) × FailsAt at v u × (leaves_stuck at ≡ false → BringsNoDoubt v u) × LeavesDoubt (Wrote properties v u x) v u × IsNoMore knows v u x
 Ends knows back properties v x answers.BenchFault = (u : View) × BringsNoDoubt v u × (u.left ≡ v.left) × IsNoMore knows v u x
 
 -- MEETS: so it ends, with the moment as the date

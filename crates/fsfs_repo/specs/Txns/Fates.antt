@@ -2,7 +2,7 @@
 use Rattle.std.specs.Prelude.{◌≡◌, ℕ, List, false}
 use Rattle.fsfs_base.specs.declared.places.place.DiskPlace.TheVariants as place
 use Rattle.fsfs_machine.specs.declared.machine.Txn.{Txn}
-use Rattle.fsfs_turn.specs.Alone.{brings_doubt}
+use Rattle.fsfs_turn.specs.Alone.{leaves_stuck}
 use Rattle.fsfs_turn.specs.Views.{View}
 use Rattle.fsfs_commit.specs.declared.committing.CommitFault.{CommitFault}
 use Rattle.fsfs_commit.specs.declared.committing.CommitFault.TheVariants as faults
@@ -39,7 +39,7 @@ Fated fates.BenchFault v u y = Unit {0}
 -- a fact, unless a call failed at a place that leaves a revision in doubt
 abbrev pub UnlessDoubtful : Fate → Type 0 → Type 0
 UnlessDoubtful (fates.Barred bar) P = P
-UnlessDoubtful (fates.DiskFault at) P = brings_doubt at ≡ false → P
+UnlessDoubtful (fates.DiskFault at) P = leaves_stuck at ≡ false → P
 UnlessDoubtful fates.BenchFault P = P
 
 -- what is left in doubt is what was, unless a call failed: then it may be the revision that this commit was to add

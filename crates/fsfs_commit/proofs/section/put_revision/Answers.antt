@@ -8,7 +8,7 @@ use Rattle.fsfs_commit.proofs.section.put_revision.Goals as goal
 -- ---- the calls are due
 
 pub make_folder_at-requires : goal.make_folder_at-requires
-make_folder_at-requires g c = record { due = λ bound. let w = c.requires.due bound in (w.view, w.known, inr (w.txn, g.D.Draft.properties c.args.draft.now, w.next, w.bytes, w.may)) }
+make_folder_at-requires g c = record { due = λ bound. let w = c.requires.due bound in (w.view, w.known, inr (inr (w.txn, g.D.Draft.properties c.args.draft.now, w.next, w.bytes, w.may))) }
 
 pub hand_over-requires-clause-pinned : goal.hand_over-requires-clause-pinned
 hand_over-requires-clause-pinned g c = λ bound. c.requires.pinned (sym c.in-Ok.ensures.duty ∙ bound)

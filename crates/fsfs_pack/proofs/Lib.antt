@@ -1,0 +1,13 @@
+pub mod Cutting
+pub mod BenchFiles
+pub mod Offsets
+pub mod Going
+pub mod Reading
+pub mod Ending
+pub mod Filling
+pub mod InBench
+pub mod TxnLabels
+pub mod Written
+pub mod Settling
+pub mod Onward
+pub mod Held
