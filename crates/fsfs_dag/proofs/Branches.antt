@@ -1,44 +1,34 @@
 -- Branches of a tree, by what lies on their two sides.
-use Rattle.std.proofs.Common.{◌≡◌, ◌<◌, ◌≤◌, ℕ, Bool, true, false, not, ◌&&◌, List, ◌++◌, sym, ap, subst, ◌∙◌, arith}
-use Rattle.std.specs.Prelude.{Option, nat_lt}
+use Rattle.std.proofs.Common.{◌≡◌, Bool, true, false, not, ◌&&◌, List, ◌++◌, sym, ap, subst, ◌∙◌}
+use Rattle.std.specs.Prelude.{Option}
 use Rattle.std.proofs.lemmas.Bool.{and_parts}
 use Rattle.fsfs_base.specs.Paths.{PathName}
 use Rattle.fsfs_revision.specs.Shows.Reading.{DirEntry, named}
 use Rattle.fsfs_dag.specs.declared.listing.tree.Tree.{Tree}
 use Rattle.fsfs_dag.specs.Listing.Lists.{IsChangedList, IsSameList, kept_names, all_names, is_below, is_from}
-use Rattle.fsfs_dag.specs.Listing.Trees.{values, is_sorted}
+use Rattle.fsfs_dag.specs.Listing.Trees.{values, is_sorted, sorted_sides, IsTreeOf}
 use Rattle.fsfs_dag.proofs.Lists.{kept_is}
 use Rattle.fsfs_dag.proofs.Changing.{same_parts, low_named, high_named, low_changed, high_changed}
 
--- tests of a hash
-pub lt_true : (a b hash : ℕ) → hash ≡ a → hash < b → nat_lt a b ≡ true
-lt_true a b hash is lt = let e : nat_lt hash b ≡ true = grind (arith, lt) in subst (λ (x : ℕ). nat_lt x b ≡ true) is e
-
-pub lt_false : (a b hash : ℕ) → hash ≡ a → b ≤ hash → nat_lt a b ≡ false
-lt_false a b hash is le = let e : nat_lt hash b ≡ false = grind (arith, le) in subst (λ (x : ℕ). nat_lt x b ≡ false) is e
-
 -- what is asked of a branch with these sides
-abbrev pub sorted_sides : ℕ → Tree → Tree → Bool
-sorted_sides middle low high = (all_names (is_below middle) (values low) && all_names (is_from middle) (values high)) && (is_sorted low && is_sorted high)
-
-pub record Sides (middle : ℕ) (low high : Tree) : Type 0 where
+pub record Sides (middle : PathName) (low high : Tree) : Type 0 where
   pub lows : all_names (is_below middle) (values low) ≡ true
   pub highs : all_names (is_from middle) (values high) ≡ true
   pub low_sorted : is_sorted low ≡ true
   pub high_sorted : is_sorted high ≡ true
 
-pub sides_of : (middle : ℕ) (low high : Tree) → sorted_sides middle low high ≡ true → Sides middle low high
+pub sides_of : (middle : PathName) (low high : Tree) → sorted_sides middle low high ≡ true → Sides middle low high
 sides_of middle low high is =
     let both = and_parts (all_names (is_below middle) (values low) && all_names (is_from middle) (values high)) (is_sorted low && is_sorted high) is in
     let names = and_parts (all_names (is_below middle) (values low)) (all_names (is_from middle) (values high)) both.0 in
     let trees = and_parts (is_sorted low) (is_sorted high) both.1 in
     record { lows = names.0; highs = names.1; low_sorted = trees.0; high_sorted = trees.1 }
 
-pub sides_sorted : (middle : ℕ) (low high : Tree) → Sides middle low high → sorted_sides middle low high ≡ true
+pub sides_sorted : (middle : PathName) (low high : Tree) → Sides middle low high → sorted_sides middle low high ≡ true
 sides_sorted middle low high s = λ i. (s.lows i && s.highs i) && (s.low_sorted i && s.high_sorted i)
 
 -- the two parts of a leaf
-pub sides_split : (middle : ℕ) (es : List DirEntry) (low high : Tree) → values low ≡ kept_names (is_below middle) es → values high ≡ kept_names (is_from middle) es → is_sorted low ≡ true → is_sorted high ≡ true → Sides middle low high
+pub sides_split : (middle : PathName) (es : List DirEntry) (low high : Tree) → values low ≡ kept_names (is_below middle) es → values high ≡ kept_names (is_from middle) es → is_sorted low ≡ true → is_sorted high ≡ true → Sides middle low high
 sides_split middle es low high lows highs low_sorted high_sorted = record {
   lows = ap (λ (l : List DirEntry). all_names (is_below middle) l) lows ∙ kept_is (is_below middle) es;
   highs = ap (λ (l : List DirEntry). all_names (is_from middle) l) highs ∙ kept_is (is_from middle) es;
@@ -46,10 +36,10 @@ sides_split middle es low high lows highs low_sorted high_sorted = record {
   high_sorted = high_sorted;
 }
 
-pub same_split : (middle : ℕ) (es : List DirEntry) (low high : Tree) → values low ≡ kept_names (is_below middle) es → values high ≡ kept_names (is_from middle) es → IsSameList es (values low ++ values high)
+pub same_split : (middle : PathName) (es : List DirEntry) (low high : Tree) → values low ≡ kept_names (is_below middle) es → values high ≡ kept_names (is_from middle) es → IsSameList es (values low ++ values high)
 same_split middle es low high lows highs = subst (λ (l : List DirEntry). IsSameList es l) (sym (λ i. lows i ++ highs i)) (same_parts middle es)
 
-module _ (middle : ℕ) (low high : Tree) (s : Sides middle low high) where
+module _ (middle : PathName) (low high : Tree) (s : Sides middle low high) where
   -- a look
   pub found_low : (name : PathName) (o : Option DirEntry) → is_below middle name ≡ true → o ≡ named name (values low) → o ≡ named name (values low ++ values high)
   found_low name o this is = is ∙ sym (low_named middle name (values low) (values high) s.highs this)
@@ -86,3 +76,16 @@ module _ (middle : ℕ) (low high : Tree) (s : Sides middle low high) where
       (λ i. sorted_sides middle (left_is i) (right_is i)) ∙ sides_sorted middle low new (high_sides this c),
       subst (λ (l : List DirEntry). IsChangedList (values low ++ values high) l name e) (sym (λ i. values (left_is i) ++ values (right_is i))) (high_side this c),
     )
+
+-- a tree of two parts of a list, the second of which begins with the name
+pub over_sides : (middle : PathName) (es lows highs : List DirEntry) (low high : Tree) → lows ++ highs ≡ es → all_names (is_below middle) lows ≡ true → all_names (is_from middle) highs ≡ true → IsTreeOf lows low → IsTreeOf highs high
+    → (sorted_sides middle low high ≡ true) × (values low ++ values high ≡ es)
+over_sides middle es lows highs low high whole below from l h = (
+  sides_sorted middle low high (record {
+    lows = ap (λ (l : List DirEntry). all_names (is_below middle) l) l.all ∙ below;
+    highs = ap (λ (l : List DirEntry). all_names (is_from middle) l) h.all ∙ from;
+    low_sorted = l.sorted;
+    high_sorted = h.sorted;
+  }),
+  (λ i. l.all i ++ h.all i) ∙ whole,
+)

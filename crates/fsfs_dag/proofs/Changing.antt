@@ -1,5 +1,5 @@
 -- Lists that are changed behind one name, in a leaf and in a branch.
-use Rattle.std.proofs.Common.{◌≡◌, ◌≤◌, ◌+◌, ℕ, Bool, true, false, not, ◌&&◌, cond, List, [], ◌∷◌, ◌++◌, length, refl, sym, ap, subst, ◌∙◌, arith}
+use Rattle.std.proofs.Common.{◌≡◌, ◌≤◌, ◌+◌, ℕ, Bool, true, false, not, ◌&&◌, cond, List, ◌∷◌, ◌++◌, length, refl, sym, ap, subst, ◌∙◌, arith}
 use Rattle.std.specs.Prelude.{Option, Some, None, is_some}
 use Rattle.std.proofs.lemmas.Bool.{and_parts}
 use Rattle.std.proofs.lemmas.List.{length-append}
@@ -8,8 +8,8 @@ use Rattle.std.proofs.lemmas.List.Filters.{length-filter_both}
 use Rattle.fsfs_base.specs.Paths.{PathName, same_name}
 use Rattle.fsfs_base.proofs.PathLemmas.{same_name-is, same_name-symm}
 use Rattle.fsfs_revision.specs.Shows.Reading.{DirEntry, named}
-use Rattle.fsfs_dag.specs.Listing.Lists.{IsPut, IsChangedList, IsSameList, kept_names, all_names, is_other, is_below, is_from}
-use Rattle.fsfs_dag.proofs.Lists.{or_other, or_none, named_append, none_named, kept_named, kept_all, count_others}
+use Rattle.fsfs_dag.specs.Listing.Lists.{IsPut, IsAmong, IsChangedList, IsSameList, kept_names, all_names, is_other, is_below, is_from}
+use Rattle.fsfs_dag.proofs.Lists.{or_other, or_none, named_append, none_named, kept_named, kept_all, kept_is, count_others}
 
 all_append : (is : PathName → Bool) (a b : List DirEntry) → all_names is (a ++ b) ≡ (all_names is a && all_names is b)
 all_append is a b = list_all-append (λ (e : DirEntry). is e.name) a b
@@ -22,29 +22,37 @@ all_parts is a b h = and_parts (all_names is a) (all_names is b) (sym (all_appen
 
 -- ---- a leaf
 
--- another behind the name
-pub put_in_leaf : (name : PathName) (es : List DirEntry) (e : DirEntry) → e.name ≡ name → IsChangedList es (kept_names (is_other name) es ++ e ∷ []) name (Some e)
-put_in_leaf name es e is = record { put = put; keeps = keeps; count = count }
+-- another behind the name, anywhere among the others
+pub put_in_leaf : (name : PathName) (es front back : List DirEntry) (e : DirEntry) → front ++ back ≡ kept_names (is_other name) es → e.name ≡ name → IsChangedList es (front ++ e ∷ back) name (Some e)
+put_in_leaf name es front back e others is = record { put = put; keeps = keeps; count = count }
   where
-    Others : List DirEntry
-    Others = kept_names (is_other name) es
+    parts : (also : PathName → Bool) → all_names also (kept_names (is_other name) es) ≡ true → (all_names also front ≡ true) × (all_names also back ≡ true)
+    parts also all = all_parts also front back (ap (λ (l : List DirEntry). all_names also l) others ∙ all)
 
-    put : IsPut es name (Some e) (Others ++ e ∷ [])
-    put y = named_append y Others (e ∷ []) ∙ ap (λ (o : Option DirEntry). or_other o (cond (same_name e.name y) (Some e) None)) (kept_named (is_other name) y es) ∙ by (same_name name y) refl
+    put : IsPut es name (Some e) (front ++ e ∷ back)
+    put y = named_append y front (e ∷ back) ∙ by (same_name name y) refl
       where
-        by : (b : Bool) → same_name name y ≡ b → or_other (cond (not (same_name y name)) (named y es) None) (cond (same_name e.name y) (Some e) None) ≡ cond (same_name name y) (Some e) (named y es)
+        by : (b : Bool) → same_name name y ≡ b → or_other (named y front) (cond (same_name e.name y) (Some e) (named y back)) ≡ cond (same_name name y) (Some e) (named y es)
         by true same =
-            (λ i. or_other (cond (not ((same_name-symm y name ∙ same) i)) (named y es) None) (cond (((ap (λ (x : PathName). same_name x y) is) ∙ same) i) (Some e) None))
+            let other : is_other name y ≡ false = ap (λ (b : Bool). not b) (same_name-symm y name ∙ same) in
+            (λ i. or_other (none_named (is_other name) y front (parts (is_other name) (kept_is (is_other name) es)).0 other i) (cond (((ap (λ (x : PathName). same_name x y) is) ∙ same) i) (Some e) (named y back)))
             ∙ sym (ap (λ (b : Bool). cond b (Some e) (named y es)) same)
         by false same =
-            (λ i. or_other (cond (not ((same_name-symm y name ∙ same) i)) (named y es) None) (cond (((ap (λ (x : PathName). same_name x y) is) ∙ same) i) (Some e) None))
-            ∙ or_none (named y es) ∙ sym (ap (λ (b : Bool). cond b (Some e) (named y es)) same)
+            ap (λ (b : Bool). or_other (named y front) (cond b (Some e) (named y back))) (ap (λ (x : PathName). same_name x y) is ∙ same)
+            ∙ sym (named_append y front back) ∙ ap (λ (l : List DirEntry). named y l) others ∙ kept_named (is_other name) y es
+            ∙ ap (λ (b : Bool). cond (not b) (named y es) None) (same_name-symm y name ∙ same)
+            ∙ sym (ap (λ (b : Bool). cond b (Some e) (named y es)) same)
 
-    keeps : (also : PathName → Bool) → all_names also es ≡ true → also name ≡ true → all_names also (Others ++ e ∷ []) ≡ true
-    keeps also all this = all_both also Others (e ∷ []) (kept_all (is_other name) also es all) (λ i. (ap also is ∙ this) i && true)
+    keeps : (also : PathName → Bool) → all_names also es ≡ true → also name ≡ true → all_names also (front ++ e ∷ back) ≡ true
+    keeps also all this = let two = parts also (kept_all (is_other name) also es all) in all_both also front (e ∷ back) two.0 (λ i. (ap also is ∙ this) i && two.1 i)
 
-    count : length (Others ++ e ∷ []) + cond (is_some (named name es)) 1 0 ≤ length es + 1
-    count = let h = count_others name es in let g = length-append Others (e ∷ []) in omega (arith, h, g)
+    count : length (front ++ e ∷ back) + cond (is_some (named name es)) 1 0 ≤ length es + 1
+    count =
+        let h = count_others name es in
+        let g = length-append front (e ∷ back) in
+        let f = length-append front back in
+        let same = ap (λ (l : List DirEntry). length l) others in
+        omega (arith, h, g, f, same)
 
 -- none behind it
 pub gone_in_leaf : (name : PathName) (es : List DirEntry) → IsChangedList es (kept_names (is_other name) es) name None
@@ -59,7 +67,7 @@ gone_in_leaf name es = record {
     by y false same = (λ i. cond (not ((same_name-symm y name ∙ same) i)) (named y es) None) ∙ sym (ap (λ (b : Bool). cond b None (named y es)) same)
 
 -- the entries in two parts
-pub same_parts : (middle : ℕ) (es : List DirEntry) → IsSameList es (kept_names (is_below middle) es ++ kept_names (is_from middle) es)
+pub same_parts : (middle : PathName) (es : List DirEntry) → IsSameList es (kept_names (is_below middle) es ++ kept_names (is_from middle) es)
 same_parts middle es = record { alike = alike; keeps = keeps; count = count }
   where
     Low : List DirEntry
@@ -91,14 +99,14 @@ same_list es new is = record {
 -- ---- a branch
 
 -- a name whose hash is below the number is looked for on the low side
-pub low_named : (middle : ℕ) (y : PathName) (low high : List DirEntry) → all_names (is_from middle) high ≡ true → is_below middle y ≡ true → named y (low ++ high) ≡ named y low
+pub low_named : (middle : PathName) (y : PathName) (low high : List DirEntry) → all_names (is_from middle) high ≡ true → is_below middle y ≡ true → named y (low ++ high) ≡ named y low
 low_named middle y low high all this = named_append y low high ∙ ap (λ (o : Option DirEntry). or_other (named y low) o) (none_named (is_from middle) y high all (ap not this)) ∙ or_none (named y low)
 
 -- and any other on the high side
-pub high_named : (middle : ℕ) (y : PathName) (low high : List DirEntry) → all_names (is_below middle) low ≡ true → is_below middle y ≡ false → named y (low ++ high) ≡ named y high
+pub high_named : (middle : PathName) (y : PathName) (low high : List DirEntry) → all_names (is_below middle) low ≡ true → is_below middle y ≡ false → named y (low ++ high) ≡ named y high
 high_named middle y low high all this = named_append y low high ∙ ap (λ (o : Option DirEntry). or_other o (named y high)) (none_named (is_below middle) y low all this)
 
-module _ (middle : ℕ) (name : PathName) (low high : List DirEntry) (e : Option DirEntry) (lows : all_names (is_below middle) low ≡ true) (highs : all_names (is_from middle) high ≡ true) where
+module _ (middle : PathName) (name : PathName) (low high : List DirEntry) (e : Option DirEntry) (lows : all_names (is_below middle) low ≡ true) (highs : all_names (is_from middle) high ≡ true) where
   -- the low side is changed
   pub low_changed : (new : List DirEntry) → is_below middle name ≡ true → IsChangedList low new name e → IsChangedList (low ++ high) (new ++ high) name e
   low_changed new this c = record { put = put; keeps = keeps; count = count }
@@ -162,6 +170,7 @@ module _ (middle : ℕ) (name : PathName) (low high : List DirEntry) (e : Option
 pub leaf_gone : (name : PathName) (es all left : List DirEntry) → all ≡ es → left ≡ kept_names (is_other name) all → IsChangedList es left name None
 leaf_gone name es all left same kept = subst (λ (l : List DirEntry). IsChangedList es l name None) (sym (kept ∙ ap (λ (l : List DirEntry). kept_names (is_other name) l) same)) (gone_in_leaf name es)
 
-pub leaf_put : (name : PathName) (es all left new : List DirEntry) (e : DirEntry) → all ≡ es → left ≡ kept_names (is_other name) all → new ≡ left ++ e ∷ [] → e.name ≡ name → IsChangedList es new name (Some e)
-leaf_put name es all left new e same kept more is =
-    subst (λ (l : List DirEntry). IsChangedList es l name (Some e)) (sym (more ∙ ap (λ (l : List DirEntry). l ++ e ∷ []) (kept ∙ ap (λ (l : List DirEntry). kept_names (is_other name) l) same))) (put_in_leaf name es e is)
+pub leaf_put : (name : PathName) (es all left new : List DirEntry) (e : DirEntry) → all ≡ es → left ≡ kept_names (is_other name) all → IsAmong left e new → e.name ≡ name → IsChangedList es new name (Some e)
+leaf_put name es all left new e same kept among is =
+    subst (λ (l : List DirEntry). IsChangedList es l name (Some e)) (sym among.is)
+    (put_in_leaf name es among.front among.back e (among.parts ∙ kept ∙ ap (λ (l : List DirEntry). kept_names (is_other name) l) same) is)

@@ -1,8 +1,8 @@
 -- Entries as they lie in memory.
-use Rattle.std.proofs.Common.{◌≡◌, ◌<◌, ◌+◌, ℕ, Bool, true, false, cond, List, [], ◌∷◌, ◌++◌, take, length, get_or, refl, sym, ap, ◌∙◌, append_assoc}
+use Rattle.std.proofs.Common.{◌≡◌, ◌<◌, ◌+◌, ℕ, Bool, true, false, cond, List, [], ◌∷◌, ◌++◌, take, drop, length, get_or, refl, sym, ap, ◌∙◌, append_assoc}
 use Rattle.std.specs.List.{filter}
 use Rattle.std.specs.String.{string_bytes}
-use Rattle.std.proofs.lemmas.List.{take_more, map-append}
+use Rattle.std.proofs.lemmas.List.{take_more, map-append, take-append-drop}
 use Rattle.fsfs_base.specs.Paths.{PathName}
 use Rattle.fsfs_revision.specs.Shows.Reading.{DirEntry}
 use Rattle.fsfs_dag.specs.declared.directory.DirEntry.{DirEntry as ListedEntry}
@@ -19,6 +19,14 @@ values_kept is (e ∷ es) = value_one (is (string_bytes e.name)) e (filter (λ (
 
 pub values_push : (all : List ListedEntry) (e : ListedEntry) → entry_values (all ++ e ∷ []) ≡ entry_values all ++ entry_value e ∷ []
 values_push all e = map-append entry_value all (e ∷ [])
+
+-- the entries in two parts
+pub values_parts : (i : ℕ) (all : List ListedEntry) → entry_values (take i all) ++ entry_values (drop i all) ≡ entry_values all
+values_parts i all = sym (map-append entry_value (take i all) (drop i all)) ∙ ap (λ (t : List ListedEntry). entry_values t) (take-append-drop i all)
+
+-- and with one more between them
+pub values_insert : (i : ℕ) (all : List ListedEntry) (e : ListedEntry) → entry_values (take i all ++ e ∷ drop i all) ≡ entry_values (take i all) ++ entry_value e ∷ entry_values (drop i all)
+values_insert i all e = map-append entry_value (take i all) (e ∷ drop i all)
 
 -- a copy of the next entry
 pub copies_more : (before all more es : List ListedEntry) (i : ℕ) (x e : ListedEntry) → entry_values all ≡ entry_values before ++ entry_values (take i es) → more ≡ all ++ x ∷ [] → entry_value x ≡ entry_value e → i < length es → e ≡ get_or es i e

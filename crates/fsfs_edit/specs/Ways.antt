@@ -49,10 +49,6 @@ IsFoundIn tree p (Ok (founds.Absent depth)) = LacksAt tree p depth
 IsFoundIn tree p (Ok (founds.File depth)) = IsBlockedAt tree p depth
 IsFoundIn tree p (Err e) = IsFailure e
 
-abbrev pub Finds : Told → TxnName → Folder → Path → Result Found EditError → Type 0
-Finds told txn f p result = (look : RevisionBytes) (trees : ℕ → TreeFunction) (top base : ℕ) (tree : TreeFunction) (marks : List Mark) → Knows told top look → ShowTrees look top trees → base ≤ top → IsTree tree
-    → IsDraftAfter look trees top base txn f tree marks → IsFoundIn tree p result
-
 -- the node-revision of this id and kind stands at the path, and is the transaction's own, as all above it
 pub record IsOpenedAt (look : RevisionBytes) (trees : ℕ → TreeFunction) (top base : ℕ) (txn : TxnName) (marks : List Mark) (tree : TreeFunction) (first : Own) (p : Path) (kind : Kind) (after : Folder) (id : NodeId) : Type 0 where
   pub now : Own

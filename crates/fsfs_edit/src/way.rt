@@ -1,5 +1,5 @@
 //! The way to the directory in which an edit is asked for.
-ghost use Rattle.std.specs.Prelude.{◌≡◌, ◌≤◌, ◌++◌, ◌∷◌, [], ℕ, Some, OnOk};
+ghost use Rattle.std.specs.Prelude.{◌≡◌, ◌≤◌, [], ℕ, Some, OnOk};
 ghost use Rattle.fsfs_tree.specs.Nodes.{TreeFunction};
 ghost use Rattle.fsfs_base.specs.Paths.{Path};
 ghost use Rattle.fsfs_base.specs.declared.kind.Kind.TheVariants.{Dir};
@@ -7,7 +7,7 @@ ghost use Rattle.fsfs_revision.specs.Told.{RevisionBytes, Knows, Keeps};
 ghost use Rattle.fsfs_draft.specs.Own.{Own as Owns, OwnNode, draft_tree};
 ghost use Rattle.fsfs_draft.specs.Drafts.{IsDraft, ShowTrees};
 ghost use Rattle.fsfs_draft.specs.Walks.{IsAt, HasKind};
-ghost use Rattle.fsfs_edit.specs.Ways.{IsTarget, LooksAt, Finds, Opens};
+ghost use Rattle.fsfs_edit.specs.Ways.{IsTarget, LooksAt, Opens};
 ghost use Rattle.fsfs_draft.specs.Causes.{HasDiskCause, HasBenchCause};
 
 use crate::dag_edits::path_mutable::bubble_up;
@@ -87,22 +87,6 @@ pub(crate) fn way_to<B: Book, N: Own>(
 {
     let root = root_id(own.name());
     target_at(alloc, book, own, &root, parent, name)
-}
-
-/// What stands at a path.
-pub fn found_at<B: Book, N: Own>(
-    alloc: Global,
-    book: &mut B,
-    own: &N,
-    path: &FsPath,
-) -> Result<Found, EditError>
-    ensures finds { Finds (B.told book.old).revs (N.txn own.now) (N.folder own.now) path.now result }
-    ensures kept { Keeps (B.told book.old) (B.told book.new) }
-    ensures cause { HasDiskCause (B.faults book.old) (B.faults book.new) result }
-    ensures bench { HasBenchCause (N.faults own.now) (N.faults own.now) result }
-{
-    let root = root_id(own.name());
-    met(alloc, book, own, &root, path)
 }
 
 /// Makes all that stands on the way from the root to a path, and what stands there, the transaction's own, and answers its id.

@@ -1,6 +1,6 @@
 -- The names of a directory taken one after another, and what they lead to put before the others.
 use Rattle.std.proofs.Common.{◌≡◌, ◌∙◌, ◌≤◌, ◌+◌, ◌-◌, length, take, get_or, arith, Bool, true, false, cond, List, [], ◌∷◌, ◌++◌, map, refl, sym, ap, subst, Option, Some, None, inl, inr, ◌⊎◌}
-use Rattle.std.specs.Prelude.{option_map, if◌then◌else◌}
+use Rattle.std.specs.Prelude.{Result, Ok, Err, OnOk, IfErr, option_map, if◌then◌else◌}
 use Rattle.std.specs.List.{AllByRecursion}
 use Rattle.std.proofs.lemmas.List.{take_all, take_more}
 use Rattle.std.proofs.lemmas.Bool.{or_left, or_right, false_from_ne_true, or_from}
@@ -14,7 +14,7 @@ use Rattle.fsfs_dag.specs.Views.{entry_value, entry_values}
 use Rattle.fsfs_draft.specs.Drafts.{Kept}
 use Rattle.fsfs_draft.specs.Steps.{Files, kept_at}
 use Rattle.fsfs_final.specs.Order.Orders.{AreHeld}
-use Rattle.fsfs_final.specs.Order.Children.{IdsByName, id_named, Child, is_named, HaveNamesOnce, IsChild, IsPushed, ArePushed, IfLacking}
+use Rattle.fsfs_final.specs.Order.Children.{IdsByName, id_named, own_of, own_named, Child, is_named, HaveNamesOnce, IsChild, IsPushed, ArePushed, LacksChild, IfLacking}
 use Rattle.fsfs_final.specs.declared.order.error.OrderError.{OrderError}
 use Rattle.fsfs_final.specs.declared.order.error.OrderError.TheVariants as errors
 use Rattle.fsfs_final.proofs.OrderLists.{differ}
@@ -137,23 +137,63 @@ pub only_memory : (e : OrderError) (P : Type 0) → IfLacking e P → (P → ⊥
 only_memory errors.OutOfMemory P h never = refl
 only_memory errors.Lacking P h never = absurd (never h)
 
+pub if_lacks : (r : Result (Unit {0}) OrderError) (P Q : Type 0) → (P → Q) → IfErr r (λ e. IfLacking e P) → IfErr r (λ e. IfLacking e Q)
+if_lacks (Ok x) P Q f h = h
+if_lacks (Err e) P Q f h = lacking_as e P Q f h
+
+pub on_ok : (r : Result (Unit {0}) OrderError) (P Q : Type 0) → (P → Q) → OnOk r P → OnOk r Q
+on_ok (Ok x) P Q f h = f h
+on_ok (Err e) P Q f h = h
+
 pub no_children : (files : Files) (old : List Kept) → ArePushed files (id_named None) old old
 no_children files old = record { children = []; added = refl; each = tt; once = tt; all = λ name id h lasts. absurd (let clash : None ≡ Some id = h in cc) }
 
 -- ---- the ids of the names
 
 -- what is put last counts first
-pub put_front : (name : PathName) (e : Listed) (done : List Listed) (o : Option NodeId) → o ≡ id_named (Some (entry_values done)) name
-    → cond (same_name (entry_value e).name name) (Some e.id) o ≡ id_named (Some (entry_values (e ∷ done))) name
+pub put_front : (name : PathName) (e : Listed) (done : List Listed) (o : Option NodeId) → o ≡ own_named (entry_values done) name
+    → cond (same_name (entry_value e).name name) (own_of (Some e.id)) o ≡ own_named (entry_values (e ∷ done)) name
 put_front name e done o h = by (same_name (entry_value e).name name)
   where
-    by : (b : Bool) → cond b (Some e.id) o ≡ option_map (λ (x : DirEntry). x.id) (if b then Some (entry_value e) else named name (entry_values done))
+    by : (b : Bool) → cond b (own_of (Some e.id)) o ≡ own_of (option_map (λ (x : DirEntry). x.id) (if b then Some (entry_value e) else named name (entry_values done)))
     by true = refl
     by false = h
 
 -- when none is left all were put
-pub whole_list : (name : PathName) (all left done : List Listed) → all ≡ left ++ done → left ≡ [] → id_named (Some (entry_values done)) name ≡ id_named (Some (entry_values all)) name
-whole_list name all left done e none = ap (λ (es : List Listed). id_named (Some (entry_values es)) name) (sym (e ∙ ap (λ (l : List Listed). l ++ done) none))
+pub whole_list : (name : PathName) (all left done : List Listed) → all ≡ left ++ done → left ≡ [] → own_named (entry_values done) name ≡ own_named (entry_values all) name
+whole_list name all left done e none = ap (λ (es : List Listed). own_named (entry_values es) name) (sym (e ∙ ap (λ (l : List Listed). l ++ done) none))
+
+own_some : (o : Option NodeId) (id : NodeId) → o ≡ Some id → is_revision_id id ≡ false → own_of o ≡ Some id
+own_some o id is mine = ap own_of is ∙ ap (λ (b : Bool). cond b None (Some id)) mine
+
+own_is : (o : Option NodeId) (id : NodeId) → own_of o ≡ Some id → o ≡ Some id
+own_is None id h = h
+own_is (Some x) id h = by (is_revision_id x) h
+  where
+    by : (b : Bool) → cond b None (Some x) ≡ Some id → Some x ≡ Some id
+    by true e = absurd (let clash : None ≡ Some id = e in cc)
+    by false e = e
+
+-- those that only the names of its own lead to are all
+module _ (files : Files) (own ids : IdsByName) (same : (name : PathName) → own name ≡ own_of (ids name)) where
+  of_all : (name : PathName) (id : NodeId) → own name ≡ Some id → ids name ≡ Some id
+  of_all name id h = own_is (ids name) id (sym (same name) ∙ h)
+
+  children_of : (cs : List Child) → AllByRecursion (IsChild files own) cs → AllByRecursion (IsChild files ids) cs
+  children_of [] a = tt
+  children_of (c ∷ cs) a = ((a.0.0, of_all c.0 a.0.0 a.0.1, a.0.2, a.0.3), children_of cs a.1)
+
+  pub own_pushed : (old new : List Kept) → ArePushed files own old new → ArePushed files ids old new
+  own_pushed old new w = record {
+    children = w.children;
+    added = w.added;
+    each = children_of w.children w.each;
+    once = w.once;
+    all = λ name id h mine. w.all name id (same name ∙ own_some (ids name) id h mine) mine;
+  }
+
+  pub own_lacks : LacksChild files own → LacksChild files ids
+  own_lacks w = (w.0, w.1, of_all w.0 w.1 w.2, w.3, w.4)
 
 -- the last of those that are left
 pub last_split : (xs : List Listed) (x : Listed) → 1 ≤ length xs → x ≡ get_or xs (length xs - 1) x → xs ≡ take (length xs - 1) xs ++ x ∷ []

@@ -9,6 +9,7 @@ use Rattle.fsfs_draft.specs.Drafts.{Kept}
 use Rattle.fsfs_noderev.specs.Limits.{IsNodePast}
 use Rattle.fsfs_noderev.specs.declared.limits.limit.PathLimit.{PathLimit}
 use Rattle.fsfs_final.specs.Pieces.Naming.{FinalIds, final_entry}
+use Rattle.fsfs_final.specs.Pieces.Lists.{AreTextOf}
 use Rattle.fsfs_final.specs.Pieces.Nodes.{IsNodePut}
 use Rattle.fsfs_final.specs.Order.Orders.{path_of}
 use Rattle.fsfs_dag.specs.Entries.{ListsEntries}
@@ -28,6 +29,12 @@ AreFinalPairs ids dir (Some entries) (Some pairs) = ListsEntries (map (final_ent
 
 abbrev pub IsFinalList : FinalIds → Kept → Option Pairs → Type 0
 IsFinalList ids k list = AreFinalPairs ids (path_of k) k.entries list
+
+-- and its text
+pub record IsFinalText (ids : FinalIds) (k : Kept) (text : Option (List ℕ)) : Type 0 where
+  pub list : Option Pairs
+  pub listed : IsFinalList ids k list
+  pub texts : AreTextOf list text
 
 -- one was put behind `old`, which begins at the offset `start` of revision n, and its id noted
 pub record IsNextPut (n start : ℕ) (old new : List ℕ) (k : Kept) (ids now : FinalIds) : Type 0 where

@@ -1,35 +1,35 @@
 //! Own node-revisions, each behind its lists.
-ghost use Rattle.std.specs.Prelude.{◌≡◌, IfOk, IfErr, OnOk};
+ghost use Rattle.std.specs.Prelude.{IfOk, IfErr, OnOk, option_map};
 ghost use Rattle.fsfs_noderev.specs.Limits.{IfPast, IsNodePast};
 ghost use Rattle.fsfs_draft.specs.Views.{kept_value};
 ghost use Rattle.fsfs_final.specs.Pieces.Naming.{ids_of};
 ghost use Rattle.fsfs_final.specs.Order.Orders.{last_first};
-ghost use Rattle.fsfs_final.specs.Putting.{IsFinalList, IsNextPut, ArePut, IsOnePast, no_ids};
+ghost use Rattle.fsfs_final.specs.Putting.{IsFinalText, IsNextPut, ArePut, IsOnePast, no_ids};
 
 use crate::pieces::naming::final_entries;
 use crate::pieces::nodes::put_node;
-use fsfs_base::{FsPath, Pairs, RevNum};
-use fsfs_dag::entry_pairs;
+use fsfs_base::{FsPath, RevNum};
+use fsfs_dag::entry_dump;
 use fsfs_draft::KeptNode;
 use fsfs_noderev::{LimitError, NodeId, check_node};
 use std::alloc::{AllocError, Global};
 use std::collections::BTreeMap;
 
-// The list of a directory that has a file of its own for it, as it stands in the revision.
+// The text of the list of a directory that has a file of its own for it, as it stands in the revision.
 fn final_list(
     alloc: Global,
     kept: &KeptNode,
     ids: &BTreeMap<FsPath, NodeId>,
-) -> Result<Option<Pairs>, AllocError>
-    ensures { IfOk result (IsFinalList (ids_of ids.now) (kept_value kept.now)) }
+) -> Result<Option<Vec<u8>>, AllocError>
+    ensures { IfOk result (λ text. IsFinalText (ids_of ids.now) (kept_value kept.now) (option_map (λ v. v.items) text)) }
 {
     match &kept.entries {
         None => Ok(None),
         Some(entries) => {
             let all = entries.to_vec(alloc)?;
             let named = final_entries(alloc, ids, &kept.node.created_path, all.as_slice())?;
-            let pairs = entry_pairs(alloc, named.as_slice())?;
-            Ok(Some(pairs))
+            let text = entry_dump(alloc, named.as_slice())?;
+            Ok(Some(text))
         }
     }
 }
@@ -47,8 +47,8 @@ fn put_next(
     ensures past { IfErr result (IfPast (λ limit. IsNodePast limit kept.now.node)) }
 {
     check_node(alloc, &kept.node)?;
-    let list = final_list(alloc, kept, &*ids)?;
-    let done = put_node(alloc, out, rev, start, &kept.node, &list, &kept.props)?;
+    let text = final_list(alloc, kept, &*ids)?;
+    let done = put_node(alloc, out, rev, start, &kept.node, &text, &kept.props)?;
     let path = kept.node.created_path.clone()?;
     ids.insert(path, done.id)?;
     Ok(())

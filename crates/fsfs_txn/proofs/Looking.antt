@@ -15,8 +15,6 @@ use Rattle.fsfs_draft.specs.declared.error.EditError.{EditError}
 use Rattle.fsfs_draft.specs.declared.walk.Child.{Child}
 use Rattle.fsfs_edit.proofs.Bare.{bare_none, bare_some, bare_kind, lacks_over, blocked_over}
 use Rattle.fsfs_edit.proofs.MakingAt.{kind_some}
-use Rattle.fsfs_txn.specs.declared.opened.opening.Opening.{Opening}
-use Rattle.fsfs_txn.specs.Opened.Opening.{OpensAt}
 use Rattle.fsfs_txn.specs.declared.seeing.Seen.{Seen}
 use Rattle.fsfs_txn.specs.declared.seeing.Seen.TheVariants as seens
 use Rattle.fsfs_txn.specs.declared.edits.above.Above.{Above}
@@ -53,6 +51,3 @@ same_sees told t u f h p r txn folder sees = subst (λ (x : Folder). Sees told u
 
 pub same_from : (told : Told) (t u : TxnName) (f h : Folder) (dir : Path) (name : PathName) (seen : Seen) (r : Result Above EditError) → t ≡ u → f ≡ h → AboveFrom told t f dir name seen r → AboveFrom told u h dir name seen r
 same_from told t u f h dir name seen r txn folder from = subst (λ (x : Folder). AboveFrom told u x dir name seen r) folder (subst (λ (x : TxnName). AboveFrom told x f dir name seen r) txn from)
-
-pub same_opens : (told : Told) (t u : TxnName) (f h : Folder) (p : Path) (r : Result Opening EditError) → t ≡ u → f ≡ h → OpensAt told t f p r → OpensAt told u h p r
-same_opens told t u f h p r txn folder opens = subst (λ (x : Folder). OpensAt told u x p r) folder (subst (λ (x : TxnName). OpensAt told x f p r) txn opens)

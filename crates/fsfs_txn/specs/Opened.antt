@@ -3,7 +3,6 @@
 pub mod Knowing
 pub mod Reaching
 pub mod Reached
-pub mod Opening
 pub mod Growing
 pub mod Failing
 pub mod Leading

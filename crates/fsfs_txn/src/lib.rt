@@ -26,7 +26,7 @@ pub use getting::{Got, NodeView};
 pub use laws::items_say_marks;
 pub use opened::known::Known;
 pub use opened::laws::drafts_grow;
-pub use opened::opening::{Opening, Way};
+pub use opened::opening::Way;
 pub use opened::properties::PropertyPut;
 pub use opened::texts::{TextPut, put_text};
 pub use opening::{Opened, PathOpened};

@@ -13,11 +13,11 @@ ghost use Rattle.fsfs_txn.specs.Spending.{IsSpentAfter, StaysSpent, HasDiskCause
 ghost use Rattle.fsfs_txn.specs.Leading.{OpensLeading};
 ghost use Rattle.fsfs_txn.specs.Opening.{OpensPath, MeetsOpening, IfOpenedPath};
 
-use crate::opened::opening::open_at;
+use crate::Way;
+use crate::opened::opening::way_to;
 use crate::seeing::{Seen, seen_on};
 use crate::txn::Txn;
 use crate::txn_error::TxnError;
-use crate::{Opening, Way};
 use fsfs_base::{FsPath, Kind};
 use fsfs_draft::{EditError, Own};
 use fsfs_revision::Book;
@@ -65,16 +65,15 @@ fn open_settled<B: Book, N: Own>(
     match seen_on(alloc, book, &*own, path)? {
         Seen::Absent(depth) => Ok(PathOpened::NotFound(depth)),
         Seen::File(depth) => Ok(PathOpened::NotDir(depth)),
-        Seen::Node { child, counted } => match open_at(alloc, book, &*own, path)? {
-            Opening::NotFound(depth) => Ok(PathOpened::NotFound(depth)),
-            Opening::NotDir(depth) => Ok(PathOpened::NotDir(depth)),
-            Opening::Node(way) => Ok(PathOpened::Node(Opened {
+        Seen::Node { child, counted } => {
+            let way = way_to(alloc, book, &*own, path)?;
+            Ok(PathOpened::Node(Opened {
                 way,
                 moves,
                 kind: child.kind,
                 counted,
-            })),
-        },
+            }))
+        }
     }
 }
 

@@ -12,7 +12,7 @@ ghost use Rattle.fsfs_txn_files.specs.declared.change.How.TheVariants.{Whole, At
 
 use crate::folder_file::FolderFile;
 use fsfs_base::{Kind, Pairs};
-use fsfs_dag::{DirEntry, entry_pairs, entry_text};
+use fsfs_dag::{DirEntry, entry_dump, entry_text};
 use fsfs_layout::{NextIds as NextNumbers, add_entry, drop_entry, write_hash, write_next_ids};
 use fsfs_noderev::{ChangeItem, NodeId, NodeRev, put_item, write_noderev};
 use std::alloc::{AllocError, Global};
@@ -57,8 +57,7 @@ impl FileChange {
     ) -> Result<FileChange, AllocError>
         ensures { IfOk result (λ c. IsChange c (Children dir.now) Whole (IsWholeList (entry_values entries.now))) }
     {
-        let pairs = entry_pairs(alloc, entries)?;
-        let text = write_hash(alloc, &pairs)?;
+        let text = entry_dump(alloc, entries)?;
         Ok(FileChange {
             file: FolderFile::Children(*dir),
             how: How::Whole,

@@ -1,9 +1,11 @@
 -- Lists of entries, and what it is to change one behind a name.
-use Rattle.std.specs.Prelude.{◌≡◌, ◌≤◌, ◌+◌, ℕ, Bool, true, not, cond, nat_lt, List, length, Option, is_some, if◌then◌else◌}
+use Rattle.std.specs.Prelude.{◌≡◌, ◌≤◌, ◌+◌, Bool, true, not, cond, List, [], ◌∷◌, ◌++◌, map, length, Option, is_some, if◌then◌else◌}
 use Rattle.std.specs.List.{filter, list_all}
+use Rattle.std.specs.Ordering.{is_lt, nat_cmp}
+use Rattle.std.specs.Cmp.Lexicographic.{slice_cmp}
 use Rattle.fsfs_base.specs.Paths.{PathName, same_name}
+use Rattle.fsfs_layout.specs.Hash.Dump.{Ascending}
 use Rattle.fsfs_revision.specs.Shows.Reading.{DirEntry, named}
-use Rattle.fsfs_dag.specs.Listing.Hashes.{hash_of}
 
 -- the entries with another behind a name, or with none
 abbrev pub IsPut : List DirEntry → PathName → Option DirEntry → List DirEntry → Type 0
@@ -19,11 +21,27 @@ all_names is entries = list_all (λ (e : DirEntry). is e.name) entries
 abbrev pub is_other : PathName → PathName → Bool
 is_other name x = not (same_name x name)
 
-abbrev pub is_below : ℕ → PathName → Bool
-is_below middle x = nat_lt (hash_of x) middle
+-- in byte order
+abbrev pub is_below : PathName → PathName → Bool
+is_below middle x = is_lt (slice_cmp nat_cmp x middle)
 
-abbrev pub is_from : ℕ → PathName → Bool
-is_from middle x = not (nat_lt (hash_of x) middle)
+abbrev pub is_from : PathName → PathName → Bool
+is_from middle x = not (is_below middle x)
+
+-- the names of entries, as keys without values
+abbrev pub name_keys : List DirEntry → List (PathName × PathName)
+name_keys entries = map (λ (e : DirEntry). (e.name, [])) entries
+
+-- the entries stand in byte order of their names, each name once
+abbrev pub NamesRise : List DirEntry → Type 0
+NamesRise entries = Ascending (name_keys entries)
+
+-- with one more somewhere among them
+pub record IsAmong (old : List DirEntry) (entry : DirEntry) (new : List DirEntry) : Type 0 where
+  pub front : List DirEntry
+  pub back : List DirEntry
+  pub parts : front ++ back ≡ old
+  pub is : new ≡ front ++ entry ∷ back
 
 -- another behind the name, or none; what all names are they stay, if this one is; and so many are there at most
 pub record IsChangedList (old new : List DirEntry) (name : PathName) (entry : Option DirEntry) : Type 0 where

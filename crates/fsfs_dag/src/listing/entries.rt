@@ -9,9 +9,9 @@ ghost use Rattle.fsfs_dag.specs.Listing.Targets.{entry_of, target_entry};
 ghost use Rattle.fsfs_dag.specs.Listing.Trees.{values, is_sorted};
 
 use crate::DirEntry;
-use crate::listing::hashes::{HASHES, hash_of};
+use crate::listing::order::rises;
 use crate::listing::target::Target;
-use crate::listing::tree::Tree;
+use crate::listing::tree::{Tree, tree_over};
 use std::alloc::{AllocError, Global};
 use std::sync::Arc;
 
@@ -52,8 +52,8 @@ impl Listing {
         Ok(Listing { root, most: 0 })
     }
 
-    /// The entries of a list; of those of one name the first.
-    pub fn of(alloc: Global, entries: Vec<DirEntry>) -> Result<Listing, AllocError>
+    // The entries of a list, put one by one, the last first.
+    fn of_each(alloc: Global, entries: Vec<DirEntry>) -> Result<Listing, AllocError>
         ensures { IfOk result (λ l. (y : PathName) → named y (listed l) ≡ named y (entry_values entries.items)) }
     {
         let mut left = entries;
@@ -66,6 +66,20 @@ impl Listing {
             listing = listing.with(alloc, entry.name.as_str(), target)?;
         }
         Ok(listing)
+    }
+
+    /// The entries of a list; of those of one name the first. Where they stand in byte order of their names, as a directory's
+    /// do, the listing is made at once.
+    pub fn of(alloc: Global, entries: Vec<DirEntry>) -> Result<Listing, AllocError>
+        ensures { IfOk result (λ l. (y : PathName) → named y (listed l) ≡ named y (entry_values entries.items)) }
+    {
+        if !rises(&entries) {
+            return Listing::of_each(alloc, entries);
+        }
+        let most = entries.len();
+        let tree = tree_over(alloc, &entries)?;
+        let root = Arc::new(alloc, tree)?;
+        Ok(Listing { root, most })
     }
 
     /// The same entries. Nothing is copied.
@@ -83,7 +97,7 @@ impl Listing {
     pub fn get(&self, name: &str) -> Option<&DirEntry>
         ensures { option_map (λ e. entry_value e.now) result ≡ named name.now (listed self.now) }
     {
-        self.root.find(hash_of(name), name)
+        self.root.find(name)
     }
 
     /// A number that is no less than that of the entries.
@@ -125,10 +139,9 @@ impl Listing {
     ) -> Result<Listing, AllocError>
         ensures { IfOk result (λ l. IsPut (listed self.now) name.now (target_entry name.now target) (listed l)) }
     {
-        let hash = hash_of(name);
-        let had = self.root.find(hash, name).is_some();
+        let had = self.root.find(name).is_some();
         let most = counted(self.most, had, target.is_some())?;
-        let root = self.root.changed(alloc, 0, HASHES, hash, name, target)?;
+        let root = self.root.changed(alloc, name, target)?;
         let root = Arc::new(alloc, root)?;
         Ok(Listing { root, most })
     }

@@ -1,11 +1,11 @@
 //! The entries of a leaf of a tree.
-ghost use Rattle.std.specs.Prelude.{◌≡◌, ◌++◌, IfOk, OnOk};
+ghost use Rattle.std.specs.Prelude.{◌≡◌, ◌≤◌, ◌++◌, length, IfOk, OnOk};
 ghost use Rattle.fsfs_dag.specs.Views.{entry_value, entry_values};
-ghost use Rattle.fsfs_dag.specs.Listing.Lists.{IsChangedList, kept_names, is_other, is_below, is_from};
+ghost use Rattle.fsfs_dag.specs.Listing.Lists.{IsAmong, IsChangedList, kept_names, is_other, is_below, is_from};
 ghost use Rattle.fsfs_dag.specs.Listing.Targets.{target_entry};
 
 use crate::DirEntry;
-use crate::listing::hashes::hash_of;
+use crate::listing::order::is_below as stands_below;
 use crate::listing::target::Target;
 use std::alloc::{AllocError, Global};
 
@@ -53,25 +53,51 @@ fn others(entries: Vec<DirEntry>, name: &str) -> Vec<DirEntry>
     left
 }
 
-/// The entries whose hashes are below the number.
-pub(crate) fn below(entries: Vec<DirEntry>, middle: u64) -> Vec<DirEntry>
-    ensures { entry_values result.items ≡ kept_names (is_below middle) (entry_values entries.items) }
+/// The entries whose names are below another.
+pub(crate) fn below(entries: Vec<DirEntry>, middle: &[u8]) -> Vec<DirEntry>
+    ensures { entry_values result.items ≡ kept_names (is_below middle.now) (entry_values entries.items) }
 {
     let mut left = entries;
-    left.retain(|entry| hash_of(entry.name.as_str()) < middle);
+    left.retain(|entry| stands_below(entry.name.as_str(), middle));
     left
 }
 
 /// The others.
-pub(crate) fn from_on(entries: Vec<DirEntry>, middle: u64) -> Vec<DirEntry>
-    ensures { entry_values result.items ≡ kept_names (is_from middle) (entry_values entries.items) }
+pub(crate) fn from_on(entries: Vec<DirEntry>, middle: &[u8]) -> Vec<DirEntry>
+    ensures { entry_values result.items ≡ kept_names (is_from middle.now) (entry_values entries.items) }
 {
     let mut left = entries;
-    left.retain(|entry| !(hash_of(entry.name.as_str()) < middle));
+    left.retain(|entry| !stands_below(entry.name.as_str(), middle));
     left
 }
 
-/// A copy of the entries with this behind a name, or with nothing.
+// How many of the first entries have names below this one.
+fn place_of(entries: &[DirEntry], name: &str) -> usize
+    ensures { result ≤ length entries.now }
+{
+    let mut at = 0usize;
+    for entry in entries {
+        if !stands_below(entry.name.as_str(), name.as_bytes()) {
+            return at;
+        }
+        at += 1;
+    }
+    at
+}
+
+// The entries with one more among them, where its name has its place.
+fn put_among(entries: Vec<DirEntry>, entry: DirEntry) -> Result<Vec<DirEntry>, AllocError>
+    ensures { IfOk result (λ v. IsAmong (entry_values entries.items) (entry_value entry) (entry_values v.items)) }
+{
+    let mut all = entries;
+    let at = place_of(&all, entry.name.as_str());
+    match all.insert(at, entry) {
+        Ok(()) => Ok(all),
+        Err(_) => Err(AllocError),
+    }
+}
+
+/// A copy of the entries with this behind a name, or with nothing. Entries in byte order of their names stay so.
 pub(crate) fn changed_leaf(
     alloc: Global,
     entries: &[DirEntry],
@@ -81,17 +107,20 @@ pub(crate) fn changed_leaf(
     ensures { IfOk result (λ v. IsChangedList (entry_values entries.now) (entry_values v.items) name.now (target_entry name.now target)) }
 {
     let all = copies(alloc, entries)?;
-    let mut left = others(all, name);
+    let left = others(all, name);
     match target {
         None => Ok(left),
         Some(target) => {
             let name = String::from_str(alloc, name)?;
-            left.push(DirEntry {
-                name,
-                kind: target.kind,
-                id: target.id,
-            })?;
-            Ok(left)
+            let put = put_among(
+                left,
+                DirEntry {
+                    name,
+                    kind: target.kind,
+                    id: target.id,
+                },
+            )?;
+            Ok(put)
         }
     }
 }

@@ -1,5 +1,5 @@
 -- What stands in an own directory, of the transaction's own.
-use Rattle.std.specs.Prelude.{◌≡◌, Bool, true, false, List, [], ◌∷◌, ◌++◌, Option, Some, None, map, option_map}
+use Rattle.std.specs.Prelude.{◌≡◌, Bool, true, false, cond, List, [], ◌∷◌, ◌++◌, Option, Some, None, map, option_map}
 use Rattle.std.specs.List.{AllByRecursion, list_any}
 use Rattle.std.specs.BTreeMap.{BTreeMap, get_by_text}
 use Rattle.std.specs.declared.string.String.{String}
@@ -21,6 +21,15 @@ IdsByName = PathName → Option NodeId
 abbrev pub id_named : Option (List DirEntry) → IdsByName
 id_named None name = None
 id_named (Some entries) name = option_map (λ (e : DirEntry). e.id) (named name entries)
+
+-- an id, if it is of the transaction's own
+abbrev pub own_of : Option NodeId → Option NodeId
+own_of None = None
+own_of (Some id) = cond (is_revision_id id) None (Some id)
+
+-- the ids of the transaction's own
+abbrev pub own_named : List DirEntry → IdsByName
+own_named entries name = own_of (id_named (Some entries) name)
 
 abbrev pub ids_in : BTreeMap (String Global) NodeId → IdsByName
 ids_in ids name = get_by_text ids name

@@ -10,6 +10,25 @@ use Rattle.fsfs_revision.specs.Shows.Reading.{Pairs}
 use Rattle.fsfs_revision.specs.Rep.Frames.{framed_text}
 use Rattle.fsfs_final.specs.Laid.{IsRepAt, IsFramed}
 
+-- the dump of the pairs, each once and in the order of their keys
+pub record IsTextOf (pairs : Pairs) (text : List ℕ) : Type 0 where
+  pub text_is : text ≡ dump_text pairs
+  pub dump : IsDump text pairs
+  pub in_order : Entries text pairs
+
+-- and where there is no list there is no text
+abbrev pub AreTextOf : Option Pairs → Option (List ℕ) → Type 0
+AreTextOf None None = Unit {0}
+AreTextOf None (Some text) = ⊥
+AreTextOf (Some pairs) None = ⊥
+AreTextOf (Some pairs) (Some text) = IsTextOf pairs text
+
+-- a text was put behind `old`, which begins at the offset `start` of revision n
+pub record IsTextPut (n start : ℕ) (old new text : List ℕ) (rep : Rep) : Type 0 where
+  pub rev_is : rep.rev ≡ Some n
+  pub is : IsRepAt (start + length old) rep text
+  pub added : new ≡ old ++ framed_text text
+
 -- the list was put behind `old`, which begins at the offset `start` of revision n
 pub record IsListPut (n start : ℕ) (old new : List ℕ) (pairs : Pairs) (rep : Rep) : Type 0 where
   pub rev_is : rep.rev ≡ Some n

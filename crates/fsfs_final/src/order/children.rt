@@ -1,12 +1,12 @@
 //! What stands in an own directory, of the transaction's own.
-ghost use Rattle.std.specs.Prelude.{◌≡◌, ◌∷◌, true, false, None, Some, IfOk, IfErr, OnOk};
-ghost use Rattle.fsfs_base.specs.Paths.{PathName};
+ghost use Rattle.std.specs.Prelude.{◌≡◌, ◌∷◌, true, false, cond, None, Some, IfOk, IfErr, OnOk};
+ghost use Rattle.fsfs_base.specs.Paths.{PathName, same_name};
 ghost use Rattle.fsfs_revision.specs.Nodes.{is_revision_id};
-ghost use Rattle.fsfs_dag.specs.Views.{entry_values};
+ghost use Rattle.fsfs_dag.specs.Views.{entry_value, entry_values};
 ghost use Rattle.fsfs_draft.specs.Steps.{kept_at};
 ghost use Rattle.fsfs_draft.specs.Views.{kept_value};
 ghost use Rattle.fsfs_final.specs.Order.Orders.{last_first};
-ghost use Rattle.fsfs_final.specs.Order.Children.{id_named, ids_in, IsPushed, ArePushed, LacksChild, IfLacking};
+ghost use Rattle.fsfs_final.specs.Order.Children.{id_named, own_of, own_named, ids_in, IsPushed, ArePushed, LacksChild, IfLacking};
 
 use crate::order::error::OrderError;
 use fsfs_dag::DirEntry;
@@ -16,15 +16,31 @@ use fsfs_revision::is_revision_id;
 use std::alloc::{AllocError, Global};
 use std::collections::BTreeMap;
 
-// The id of each name; the first entry of a name counts.
-fn ids_by_name(alloc: Global, entries: &[DirEntry]) -> Result<BTreeMap<String, NodeId>, AllocError>
-    ensures { IfOk result (λ ids. (name : PathName) → ids_in ids name ≡ id_named (Some (entry_values entries.now)) name) }
+// Gives the name of an entry its id, where that is the transaction's own, and no id else.
+fn put_own_id(
+    alloc: Global,
+    ids: &mut BTreeMap<String, NodeId>,
+    entry: &DirEntry,
+) -> Result<(), AllocError>
+    ensures { OnOk result ((name : PathName) → ids_in ids.new name ≡ cond (same_name (entry_value entry.now).name name) (own_of (Some entry.now.id)) (ids_in ids.old name)) }
+{
+    if is_revision_id(&entry.id) {
+        ids.remove(entry.name.as_str());
+        return Ok(());
+    }
+    let name = String::from_str(alloc, entry.name.as_str())?;
+    ids.insert(name, entry.id)?;
+    Ok(())
+}
+
+// The id of each name that leads to what is the transaction's own; the first entry of a name counts.
+fn own_ids(alloc: Global, entries: &[DirEntry]) -> Result<BTreeMap<String, NodeId>, AllocError>
+    ensures { IfOk result (λ ids. (name : PathName) → ids_in ids name ≡ own_named (entry_values entries.now) name) }
 {
     let mut ids = BTreeMap::new(alloc);
     let mut left = entries;
     while let [before @ .., entry] = left {
-        let name = String::from_str(alloc, entry.name.as_str())?;
-        ids.insert(name, entry.id)?;
+        put_own_id(alloc, &mut ids, entry)?;
         left = before;
     }
     Ok(ids)
@@ -88,7 +104,7 @@ pub(crate) fn push_children<'a, N: Own>(
         None => Ok(()),
         Some(entries) => {
             let all = entries.to_vec(alloc)?;
-            let ids = ids_by_name(alloc, all.as_slice())?;
+            let ids = own_ids(alloc, all.as_slice())?;
             push_named(own, ids, next)
         }
     }

@@ -20,14 +20,12 @@ ghost use Rattle.fsfs_draft.specs.Views.{kept_value};
 ghost use Rattle.fsfs_edit.specs.DagEdits.Mutable.{LeadsTo};
 ghost use Rattle.fsfs_txn.specs.Opened.Knowing.{AreKnown};
 ghost use Rattle.fsfs_txn.specs.Opened.Leading.{IsAmong, IsSourceKnown, LeadsDown, Leads};
-ghost use Rattle.fsfs_txn.specs.Opened.Opening.{OpensAt, IfOpened, OpensLeading};
 ghost use Rattle.fsfs_txn.specs.Opened.Stepping.{IsDirKnown, IsNext, StillKnown, BecomesKnown};
 
 use crate::opened::known::{Known, find, known_of};
 use crate::opened::reaching::listed_known;
 use fsfs_base::FsPath;
-use fsfs_draft::{EditError, Found, KeptNode, Own, root_id};
-use fsfs_edit::found_at;
+use fsfs_draft::{EditError, KeptNode, Own, root_id};
 use fsfs_noderev::NodeId;
 use fsfs_revision::{Book, ReadError, is_revision_id};
 use std::alloc::Global;
@@ -37,16 +35,6 @@ use std::alloc::Global;
 pub struct Way {
     pub path: FsPath,
     pub known: Vec<Known>,
-}
-
-/// What became of an opening.
-#[derive(Drop)]
-pub enum Opening {
-    Node(Way),
-    /// So many names of the path lead to nothing.
-    NotFound(usize),
-    /// So many names of the path lead to a file, and more follow.
-    NotDir(usize),
 }
 
 // The node-revision of a revision that stands there, or that an own one goes on from.
@@ -184,8 +172,8 @@ fn known_to<B: Book, N: Own>(
     Ok(known)
 }
 
-// The way to a path at which something stands.
-fn way_to<B: Book, N: Own>(
+/// The way to a path at which something stands: all that a text or a property put there wants of the revisions is read.
+pub(crate) fn way_to<B: Book, N: Own>(
     alloc: Global,
     book: &mut B,
     own: &N,
@@ -203,29 +191,4 @@ fn way_to<B: Book, N: Own>(
     let known = known_to(alloc, book, own, &root, path)?;
     let path = path.clone()?;
     Ok(Way { path, known })
-}
-
-/// Opens what stands at a path of the transaction's tree: all that a text or a property put there wants of the revisions is read.
-pub fn open_at<B: Book, N: Own>(
-    alloc: Global,
-    book: &mut B,
-    own: &N,
-    path: &FsPath,
-) -> Result<Opening, EditError>
-    ensures opens { OpensAt (B.told book.old).revs (N.txn own.now) (N.folder own.now) path.now result }
-    ensures path { IfOpened result (λ way. way.path ≡ path.now) }
-    ensures known { (look : RevisionBytes) (top : ℕ) → Knows (B.told book.old).revs top look → IfOpened result (λ way. AreKnown look top way.known.items) }
-    ensures leads { OpensLeading (B.told book.old).revs (N.txn own.now) (N.folder own.now) result }
-    ensures kept { Keeps (B.told book.old) (B.told book.new) }
-    ensures cause { HasDiskCause (B.faults book.old) (B.faults book.new) result }
-    ensures bench { HasBenchCause (N.faults own.now) (N.faults own.now) result }
-{
-    match found_at(alloc, book, own, path)? {
-        Found::Absent(depth) => Ok(Opening::NotFound(depth)),
-        Found::File(depth) => Ok(Opening::NotDir(depth)),
-        Found::Node(_child) => {
-            let way = way_to(alloc, book, own, path)?;
-            Ok(Opening::Node(way))
-        }
-    }
 }

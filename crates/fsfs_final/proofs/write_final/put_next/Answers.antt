@@ -8,11 +8,11 @@ use Rattle.fsfs_final.proofs.write_final.put_next.Goals as goal
 
 pub returns-clause-put : goal.returns-clause-put
 returns-clause-put c = record {
-  list = c.in_ok-list.list;
+  list = c.in_ok-text.ensures.list;
   done = c.in_ok-done.done;
   within = c.in_ok-check_node.ensures.within;
-  listed = c.in_ok-list.ensures;
-  put = c.in_ok-done.ensures;
+  listed = c.in_ok-text.ensures.listed;
+  put = c.in_ok-done.ensures c.in_ok-text.ensures.list c.in_ok-text.ensures.texts;
   noted = λ q.
       c.in_ok-insert.ensures.updates.0 q
       ∙ ap (λ (p : Path). if is_eq (path_cmp p q) then Some c.in_ok-done.done.id else ids_of c.args.ids.now q) c.in_ok-path.ensures.cases

@@ -4,7 +4,7 @@ use Rattle.fsfs_revision.specs.Shows.Reading.{named}
 use Rattle.fsfs_dag.specs.Views.{entry_values}
 use Rattle.fsfs_dag.specs.declared.directory.DirEntry.{DirEntry}
 use Rattle.fsfs_dag.specs.Listing.Views.{listed}
-use Rattle.fsfs_dag.proofs.listing.entries.Listing.of.Given as goal
+use Rattle.fsfs_dag.proofs.listing.entries.Listing.of_each.Given as goal
 
 -- the last entries were put
 abbrev pub invariant-loop-entry : goal.invariant-loop-entry

@@ -1,13 +1,10 @@
-use Rattle.std.proofs.Common.{◌≡◌, ◌∙◌, ◌-◌, [], ◌∷◌, ◌++◌, List, Some, cond, length, take, sym, ap, append_assoc, append-nil, rules}
-use Rattle.std.specs.String.{string_bytes}
+use Rattle.std.proofs.Common.{◌∙◌, ◌-◌, [], ◌∷◌, ◌++◌, List, length, take, sym, ap, append_assoc, append-nil, rules}
 use Rattle.std.proofs.lemmas.List.{nil_from_length}
-use Rattle.std.proofs.lemmas.Map.Text.{btree_map_updates_text}
-use Rattle.fsfs_base.specs.Paths.{PathName, same_name}
 use Rattle.fsfs_dag.specs.declared.directory.DirEntry.{DirEntry}
 use Rattle.fsfs_final.specs.Order.Children.{ids_in}
 use Rattle.fsfs_final.proofs.Pushing.{put_front, whole_list, last_split}
 use Rattle.fsfs_merge.proofs.ListLemmas.{empty_map}
-use Rattle.fsfs_final.proofs.order.children.ids_by_name.Goals as goal
+use Rattle.fsfs_final.proofs.order.children.own_ids.Goals as goal
 
 pub loop-left-init : goal.loop-left-init
 loop-left-init c = ([], sym (append-nil c.args.entries.now), λ name. empty_map c.new-ids.result name c.new-ids.ensures.empty)
@@ -17,13 +14,10 @@ loop-left-preserved c =
     let so = c.loop-left.invariant in
     let left = c.loop-left.left.now in
     let entry : DirEntry = c.entry-item.result in
-    let split = last_split left entry c.in-len1-up.len_at_least c.entry-item.is in
-    let key : string_bytes c.in_ok-name.name ≡ string_bytes entry.name = c.in_ok-name.ensures.ok ∙ c.as_str.ensures.value in (
+    let split = last_split left entry c.in-len1-up.len_at_least c.entry-item.is in (
       entry ∷ so.0,
       so.1 ∙ ap (λ (t : List DirEntry). t ++ so.0) split ∙ append_assoc (take (length left - 1) left) (entry ∷ []) so.0,
-      λ name. btree_map_updates_text (string_bytes c.in_ok-name.name) c.loop-left.ids c.insert.new.self _ c.in_ok-insert.ensures.updates name
-          ∙ ap (λ (k : PathName). cond (same_name k name) (Some entry.id) (ids_in c.loop-left.ids name)) key
-          ∙ put_front name entry so.0 (ids_in c.loop-left.ids name) (so.2 name),
+      λ name. c.in_ok-put_own_id.ensures name ∙ put_front name entry so.0 (ids_in c.loop-left.ids name) (so.2 name),
     )
 
 pub returns : goal.returns

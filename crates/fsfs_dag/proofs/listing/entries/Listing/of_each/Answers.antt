@@ -6,7 +6,7 @@ use Rattle.fsfs_revision.specs.Shows.Reading.{DirEntry as EntryValue, named}
 use Rattle.fsfs_dag.specs.Views.{entry_values}
 use Rattle.fsfs_dag.specs.declared.directory.DirEntry.{DirEntry}
 use Rattle.fsfs_dag.specs.Listing.Views.{listed}
-use Rattle.fsfs_dag.proofs.listing.entries.Listing.of.Goals as goal
+use Rattle.fsfs_dag.proofs.listing.entries.Listing.of_each.Goals as goal
 
 pub loop-entry-init : goal.loop-entry-init
 loop-entry-init c = ([], sym (append-nil c.args.entries.items), λ y. ap (λ (l : List EntryValue). named y l) c.in_ok-listing.ensures)
