@@ -4,7 +4,7 @@ pub mod Stops
 pub mod ReadLemmas
 pub mod NodeLemmas
 pub mod LongLemmas
-pub mod BareLemmas
+pub mod FactLemmas
 pub mod MayLemmas
 pub mod OneText
 pub mod StandingIds

@@ -1,5 +1,5 @@
 -- What the types of this crate are, apart from where they lie in memory.
-use Rattle.std.specs.Prelude.{◌≡◌, ℕ, Bool, true, false, List, take, Option, Some, None, option_map}
+use Rattle.std.specs.Prelude.{◌≡◌, ℕ, Bool, true, false, List, Option, Some, option_map}
 use Rattle.fsfs_base.specs.declared.kind.Kind.TheVariants.{File}
 use Rattle.fsfs_base.specs.declared.action.Action.{Action}
 use Rattle.fsfs_base.specs.declared.action.Action.TheVariants.{Add, Delete, Replace, Modify}
@@ -11,7 +11,6 @@ use Rattle.fsfs_dag.specs.declared.node.PlacedNode.{PlacedNode}
 use Rattle.std.specs.declared.vec.Vec.{Vec}
 use Rattle.std.specs.declared.alloc.Global.{Global}
 use Rattle.fsfs_dump.specs.Records.{TextFacts}
-use Rattle.fsfs_dump.specs.declared.piece.Piece.{Piece}
 use Rattle.fsfs_dump.specs.declared.facts.Facts.{Facts}
 
 abbrev pub block_value : Option (Vec ℕ Global) → Option (List ℕ)
@@ -19,13 +18,6 @@ block_value block = option_map (λ b. b.items) block
 
 abbrev pub facts_value : Facts → TextFacts
 facts_value f = record { size = f.size; md5 = f.md5.bytes; sha1 = f.sha1.bytes }
-
-abbrev pub piece_bytes : Piece → List ℕ
-piece_bytes piece = take piece.count piece.buffer.items
-
--- a representation but for the SHA-1 that it names
-abbrev pub bare : Rep → Rep
-bare rep = record { rev = rep.rev; offset = rep.offset; length = rep.length; size = rep.size; md5 = rep.md5; unique = None }
 
 abbrev pub text_value : Option (Vec ℕ Global) → Option (List ℕ)
 text_value text = option_map (λ t. t.items) text

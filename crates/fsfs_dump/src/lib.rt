@@ -3,14 +3,12 @@
 #![tactic(auto)]
 
 mod again;
-mod beside;
 mod block;
 mod facts;
 mod headers;
 mod item;
 mod laws;
 mod node;
-mod piece;
 mod revision;
 mod text;
 mod whole;

@@ -158,7 +158,8 @@ fn dump_into<T: Threads, D: Disk, O: Sink, G: Gate>(
 }
 
 // Checks all revisions of an opened repository, and gives its disk back.
-fn verify_into<D: Disk, O: Sink>(
+fn verify_into<T: Threads, D: Disk, O: Sink>(
+    rt: &T,
     alloc: Global,
     disk: D,
     opened: &Opened,
@@ -177,7 +178,7 @@ fn verify_into<D: Disk, O: Sink>(
         opened.layout,
         opened.min_unpacked_rev,
     );
-    let verified = verify(alloc, &mut book, opened.youngest, out);
+    let verified = verify(rt, alloc, &mut book, opened.youngest, out);
     let disk = disk_of(book);
     match verified {
         Ok(()) => (disk, Ok(())),
@@ -238,7 +239,7 @@ fn look_into<T: Threads, D: Disk, O: Sink, G: Gate>(
         Look::Youngest => (disk, line_fault(print_revision(out, opened.youngest))),
         Look::Uuid => (disk, line_fault(print_uuid(out, &opened.uuid))),
         Look::Dump => dump_into(rt, alloc, disk, opened, out, gate),
-        Look::Verify => verify_into(alloc, disk, opened, out),
+        Look::Verify => verify_into(rt, alloc, disk, opened, out),
         Look::AtRevision(look) => look_at_revision(alloc, disk, opened, look, out),
     }
 }

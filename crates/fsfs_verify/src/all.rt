@@ -11,11 +11,13 @@ use fsfs_base::{RevNum, Sink};
 use fsfs_look::LookError;
 use fsfs_revision::StillProps;
 use std::alloc::Global;
+use std::thread::Threads;
 
 /// Checks all revisions up to the youngest, from 0 on, and writes a line of each as soon as it was verified. `Ok` comes only where
 /// they show a history no text of which is a delta. What is refused is wrong with the first revision of which no line was
 /// written, and those before it show a history.
-pub fn verify<B: StillProps, S: Sink>(
+pub fn verify<R: Threads, B: StillProps, S: Sink>(
+    rt: &R,
     alloc: Global,
     book: &mut B,
     youngest: RevNum,
@@ -34,7 +36,7 @@ pub fn verify<B: StillProps, S: Sink>(
         let Some(rev) = RevNum::new(next) else {
             unreachable!()
         };
-        let root = check_revision(alloc, book, rev, &mut parts, last.as_ref())?;
+        let root = check_revision(rt, alloc, book, rev, &mut parts, last.as_ref())?;
         last = Some(root);
         write_verified(sink, rev)?;
         next += 1;

@@ -41,6 +41,7 @@ use fsfs_history::EntriesByName;
 use fsfs_noderev::Place;
 use fsfs_revision::{Book, DamageKind, ReadError, RevOffset};
 use std::alloc::{AllocError, Global};
+use std::thread::Threads;
 
 // How many bytes of a text are read at a time.
 const PIECE: usize = 65536;
@@ -190,8 +191,9 @@ impl NewNodes {
     }
 
     // What a node-revision holds: a file's text is read, a directory is entered.
-    fn take_contents<B: Book>(
+    fn take_contents<R: Threads, B: Book>(
         &mut self,
+        rt: &R,
         alloc: Global,
         book: &mut B,
         node: PlacedNode,
@@ -210,14 +212,15 @@ impl NewNodes {
         ensures cause { HasCause (B.faults book.old) (B.faults book.new) result }
     {
         match node.node.kind {
-            Kind::File => check_text(book, &node, pred.as_ref(), &mut self.piece),
+            Kind::File => check_text(rt, alloc, book, &node, pred.as_ref(), &mut self.piece),
             Kind::Dir => self.enter(alloc, book, node, pred),
         }
     }
 
     // A node-revision that is met for the first time, by itself and with what it holds.
-    fn take_node<B: Book>(
+    fn take_node<R: Threads, B: Book>(
         &mut self,
+        rt: &R,
         alloc: Global,
         book: &mut B,
         parts: &mut Parts,
@@ -240,12 +243,13 @@ impl NewNodes {
         begin(self.rev, parts, &node, pred.as_ref())?;
         self.take_copy(alloc, book, parts, &node)?;
         check_props(alloc, book, self.rev, &node, pred.as_ref())?;
-        self.take_contents(alloc, book, node, pred)
+        self.take_contents(rt, alloc, book, node, pred)
     }
 
     // An entry of this revision of the last directory above.
-    fn take_new<B: Book>(
+    fn take_new<R: Threads, B: Book>(
         &mut self,
+        rt: &R,
         alloc: Global,
         book: &mut B,
         parts: &mut Parts,
@@ -281,14 +285,15 @@ impl NewNodes {
         )?;
         let dir = above.dir.place().offset;
         if self.links.put(node.place().offset, dir, next.entry.name)? {
-            return self.take_node(alloc, book, parts, node, pred);
+            return self.take_node(rt, alloc, book, parts, node, pred);
         }
         Ok(())
     }
 
     // The next entry.
-    fn take<B: Book>(
+    fn take<R: Threads, B: Book>(
         &mut self,
+        rt: &R,
         alloc: Global,
         book: &mut B,
         parts: &mut Parts,
@@ -309,7 +314,7 @@ impl NewNodes {
         // The root stays: all entries stand below it.
         self.above.truncate(next.level.max(1));
         if !(entry_rev(&next.entry) < self.rev) {
-            return self.take_new(alloc, book, parts, next);
+            return self.take_new(rt, alloc, book, parts, next);
         }
         let Some(above) = self.above.last() else {
             unreachable!()
@@ -349,7 +354,8 @@ impl NewNodes {
 }
 
 /// The root of a revision. All node-revisions that the revision wrote are checked; `last` is the root of the one before.
-pub(crate) fn check_tree<B: Book>(
+pub(crate) fn check_tree<R: Threads, B: Book>(
+    rt: &R,
     alloc: Global,
     book: &mut B,
     rev: RevNum,
@@ -367,9 +373,9 @@ pub(crate) fn check_tree<B: Book>(
     check_root(alloc, book, &root, last)?;
     let place = root.place().offset;
     let mut nodes = NewNodes::new(alloc, rev)?;
-    nodes.take_node(alloc, book, parts, root, pred)?;
+    nodes.take_node(rt, alloc, book, parts, root, pred)?;
     'entries: while let Some(next) = nodes.walk.pop() {
-        nodes.take(alloc, book, parts, next)?;
+        nodes.take(rt, alloc, book, parts, next)?;
     }
     nodes.check_copies(place)?;
     match nodes.into_root() {

@@ -18,10 +18,12 @@ use fsfs_base::RevNum;
 use fsfs_dag::PlacedNode;
 use fsfs_revision::{ReadError, StillProps};
 use std::alloc::Global;
+use std::thread::Threads;
 
 /// All that a revision wrote: its tree, its changed paths and its property file. Answers its root; `last` is the root of the one
 /// before.
-pub(crate) fn check_revision<B: StillProps>(
+pub(crate) fn check_revision<R: Threads, B: StillProps>(
+    rt: &R,
     alloc: Global,
     book: &mut B,
     rev: RevNum,
@@ -33,7 +35,7 @@ pub(crate) fn check_revision<B: StillProps>(
     ensures kept { Keeps (B.told book.old) (B.told book.new) }
     ensures cause { HasCause (B.faults book.old) (B.faults book.new) result }
 {
-    let root = check_tree(alloc, book, rev, parts, last)?;
+    let root = check_tree(rt, alloc, book, rev, parts, last)?;
     check_items(alloc, book, rev, &root)?;
     check_rev_props(alloc, book, rev)?;
     parts.end_revision();

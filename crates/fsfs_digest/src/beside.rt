@@ -1,5 +1,5 @@
 //! A large text, whose SHA-1 a thread takes while the text is read and its MD5 is taken.
-ghost use Rattle.std.specs.Prelude.{◌≡◌, ◌<◌, ◌+◌, ◌-◌, ℕ, List, ◌++◌, Some, Ok, Err, IsSome, OnOk, IfErr, MatchResult, take, drop};
+ghost use Rattle.std.specs.Prelude.{◌≡◌, ◌≤◌, ◌<◌, ◌+◌, ◌-◌, ℕ, true, false, List, ◌++◌, Some, Ok, Err, IsSome, OnOk, IfErr, MatchResult, take, drop};
 ghost use Rattle.sha1.specs.Sha1.{Holds, sha1};
 ghost use Rattle.fsfs_revision.specs.declared.wrong.Refusal.{Refusal};
 ghost use Rattle.fsfs_revision.specs.Damage.Causes.{HasCause};
@@ -7,7 +7,7 @@ ghost use Rattle.fsfs_revision.specs.Told.{Keeps};
 ghost use Rattle.fsfs_revision.specs.Rep.Faults.{IsRefusedFor};
 ghost use Rattle.fsfs_revision.specs.Rep.Frames.{rev_of, text_of, IsWhole, IsFaultOf};
 ghost use Rattle.fsfs_revision.specs.Rep.Reading.{IsReading};
-ghost use Rattle.fsfs_dump.specs.Views.{piece_bytes};
+ghost use Rattle.fsfs_digest.specs.Views.{piece_bytes};
 
 use crate::piece::{PIECE_LEN, Piece};
 use fsfs_base::HexDigest;
@@ -19,7 +19,10 @@ use std::mem;
 use std::thread::{Threads, join_mut};
 
 /// Whether a text is worth threads: it is longer than a piece.
-pub(crate) fn is_large(rep: &Rep) -> bool {
+pub fn is_large(rep: &Rep) -> bool
+    ensures yes { result ≡ true → PIECE_LEN < rep.now.length }
+    ensures no { result ≡ false → rep.now.length ≤ PIECE_LEN }
+{
     rep.length > PIECE_LEN as u64
 }
 

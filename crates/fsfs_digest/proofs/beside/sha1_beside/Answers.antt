@@ -6,9 +6,9 @@ use Rattle.std.proofs.lemmas.List.{take_all, length-take}
 use Rattle.fsfs_revision.specs.Rep.Frames.{text_of}
 use Rattle.fsfs_revision.proofs.Keeping.{keeps_trans}
 use Rattle.fsfs_revision.proofs.WholeLemmas.{told_later, fault_for, whole_for, bytes_more}
-use Rattle.fsfs_dump.specs.declared.piece.Piece.{Piece}
-use Rattle.fsfs_dump.specs.Views.{piece_bytes}
-use Rattle.fsfs_dump.proofs.beside.sha1_beside.Goals as goal
+use Rattle.fsfs_digest.specs.declared.piece.Piece.{Piece}
+use Rattle.fsfs_digest.specs.Views.{piece_bytes}
+use Rattle.fsfs_digest.proofs.beside.sha1_beside.Goals as goal
 
 pub returns-in_err-fill_beside-clause-bytes : goal.returns-in_err-fill_beside-clause-bytes
 returns-in_err-fill_beside-clause-bytes g c = λ bytes e.

@@ -1,9 +1,6 @@
 -- A representation that is read as one that names no SHA-1, and that is compared then.
-use Rattle.std.proofs.Common.{◌≡◌, ℕ, ◌+◌, List, [], ◌∷◌, ◌++◌, length, drop, Some, ap, ◌∙◌, inl, inr, arith}
-use Rattle.std.specs.Prelude.{Result, codes}
-use Rattle.std.proofs.lemmas.List.{length-take, length-drop}
-use Rattle.md5.specs.Md5.{md5}
-use Rattle.sha1.specs.Sha1.{sha1}
+use Rattle.std.proofs.Common.{◌≡◌, ℕ, List, [], ◌∷◌, ◌++◌, Some, ap, ◌∙◌, inl, inr}
+use Rattle.std.specs.Prelude.{Result}
 use Rattle.fsfs_revision.specs.declared.wrong.Refusal.{Refusal}
 use Rattle.fsfs_revision.specs.declared.wrong.Wrong.{Wrong}
 use Rattle.fsfs_revision.specs.declared.wrong.ReadError.{ReadError}
@@ -12,12 +9,9 @@ use Rattle.fsfs_revision.specs.Damage.Checks.{Check, FirstFails}
 use Rattle.fsfs_revision.specs.Damage.Readings.{IfWrong}
 use Rattle.fsfs_revision.specs.Told.{Told}
 use Rattle.fsfs_revision.specs.Rep.Frames.{rev_of, text_of, HasSha1, IsFramed, IsWhole, IsFaultOf, sha1_checks, rep_checks}
-use Rattle.fsfs_revision.specs.declared.rep.frame.TheConstants.{PLAIN_LEN}
 use Rattle.fsfs_revision.proofs.FaultLemmas.{fault_of}
-use Rattle.fsfs_revision.proofs.HeaderLemmas.{stands_fits}
 use Rattle.fsfs_noderev.specs.declared.rep.Rep.{Rep}
-use Rattle.fsfs_dump.specs.Records.{TextFacts, facts_of}
-use Rattle.fsfs_dump.specs.Views.{bare}
+use Rattle.fsfs_digest.specs.Views.{bare}
 
 pub bare_told : (told : Told) (named rep : Rep) (read : Result (List ℕ) Refusal) → named ≡ bare rep → told (rev_of rep) ≡ Some read → told (rev_of named) ≡ Some read
 bare_told told named rep read same e = ap (λ (r : Rep). told (rev_of r)) same ∙ e
@@ -45,16 +39,3 @@ module _ (rep : Rep) (bytes : List ℕ) where
     sha1_fault (errors.Wrong w) f = fault_of rep bytes (errors.Wrong w) framed (inr (whole.agrees.size, inr (whole.agrees.md5, f)))
     sha1_fault errors.OutOfMemory f = tt
     sha1_fault errors.DiskFault f = tt
-
-module _ (rep : Rep) (bytes : List ℕ) (whole : IsWhole rep bytes) where
-  text_length : rep.length ≡ length (text_of rep bytes)
-  text_length =
-      let fits = stands_fits (codes "ENDREP\n") (rep.offset + PLAIN_LEN + rep.length) bytes (omega arith) whole.framed.trailer in
-      omega (arith, fits, length-take rep.length (drop (rep.offset + PLAIN_LEN) bytes), length-drop (rep.offset + PLAIN_LEN) bytes)
-
-  -- what stands in front of the text, where its SHA-1 was found
-  pub facts_named : (found : List ℕ) → found ≡ sha1 (text_of rep bytes) → (let f : TextFacts = record { size = rep.length; md5 = rep.md5.bytes; sha1 = found } in f) ≡ facts_of (text_of rep bytes)
-  facts_named found is =
-      ap (λ (n : ℕ). let f : TextFacts = record { size = n; md5 = rep.md5.bytes; sha1 = found } in f) text_length
-      ∙ ap (λ (d : List ℕ). let f : TextFacts = record { size = length (text_of rep bytes); md5 = d; sha1 = found } in f) whole.agrees.md5
-      ∙ ap (λ (d : List ℕ). let f : TextFacts = record { size = length (text_of rep bytes); md5 = md5 (text_of rep bytes); sha1 = d } in f) is

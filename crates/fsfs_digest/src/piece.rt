@@ -23,7 +23,7 @@ pub(crate) struct Piece {
 }
 
 impl Piece {
-    ghost use Rattle.fsfs_dump.specs.Views.{piece_bytes};
+    ghost use Rattle.fsfs_digest.specs.Views.{piece_bytes};
 
     /// No bytes yet.
     pub(crate) fn new(alloc: Global) -> Result<Piece, AllocError>

@@ -6,7 +6,7 @@ use Rattle.std.proofs.lemmas.List.{take_all, length-take}
 use Rattle.fsfs_revision.specs.Rep.Frames.{text_of}
 use Rattle.fsfs_revision.proofs.Keeping.{keeps_trans}
 use Rattle.fsfs_revision.proofs.WholeLemmas.{told_later, fault_for, whole_for, bytes_more}
-use Rattle.fsfs_dump.proofs.facts.sha1_read.Goals as goal
+use Rattle.fsfs_digest.proofs.text.sha1_read.Goals as goal
 
 pub returns-in_err-count-clause-bytes : goal.returns-in_err-count-clause-bytes
 returns-in_err-count-clause-bytes g c = λ bytes e.
