@@ -70,7 +70,7 @@ less_known : (txns : List Txn) (s : Step) (o : Outcome) (m u : View) → Turned 
 less_known txns s o m u t = record {
   world = t.world;
   kept = t.kept;
-  sees = (let e = t.sees in record { pass = e.pass; seen = e.seen; section = e.section; up = e.up; sure = e.sure; whole = e.whole; given = e.given; opened = e.opened; shown = e.shown; names = record { full = λ full. e.names.full refl; drawing = e.names.drawing } });
+  sees = (let e = t.sees in record { pass = e.pass; seen = e.seen; section = e.section; up = e.up; sure = e.sure; whole = e.whole; given = e.given; opened = e.opened; shown = e.shown; firm = e.firm; names = record { full = λ full. e.names.full refl; drawing = e.names.drawing } });
   did = t.did;
   happens = t.happens;
   answers = t.answers;
@@ -147,7 +147,7 @@ module _ (young : ℕ) (v m k : View) (l : Looked young v m) (r : ReadOnly m k) 
   -- the bench was made then
   pub made_among : (u : View) → IsMade k u → IsMadeAmong v u
   made_among u made = record {
-    is = whole ∙ (λ i. record v { pass = record v.pass { seen = length u.seen; least = sym least_is i; faults = sym faults_are i; floor = sym floor_is i }; seen = u.seen; sure = unsure i });
+    is = whole ∙ (λ i. record v { pass = record v.pass { seen = length u.seen; least = sym least_is i; faults = sym faults_are i; floor = sym floor_is i }; seen = u.seen; sure = unsure i; firm = sym firm_is i });
     least = omega (arith, least_is, l.least);
     all = let e : k.pass.least ≡ young = ap {A = View} (λ z. z.pass.least) r.is ∙ ap {A = View} (λ z. z.pass.least) l.is in omega (arith, least_is, e, made.all);
     doubtless = λ few. same_faults k u (ap {A = View} (λ z. z.pass.faults) made.is) (read_moved.doubtless few);
@@ -155,9 +155,9 @@ module _ (young : ℕ) (v m k : View) (l : Looked young v m) (r : ReadOnly m k) 
     steps = steps_on v k u read_moved.steps made.steps;
   }
     where
-      whole : u ≡ record v { pass = record v.pass { seen = length u.seen; least = young; faults = k.pass.faults; floor = k.pass.floor }; seen = u.seen; sure = is_held v.section }
+      whole : u ≡ record v { pass = record v.pass { seen = length u.seen; least = young; faults = k.pass.faults; floor = k.pass.floor }; seen = u.seen; sure = is_held v.section; firm = k.firm }
       whole = made.is ∙ ap {A = View} (λ z. record z { pass = record z.pass { seen = length u.seen }; seen = u.seen })
-          (r.is ∙ ap {A = View} (λ z. record z { pass = record z.pass { seen = k.pass.seen; faults = k.pass.faults; floor = k.pass.floor }; seen = k.seen }) l.is)
+          (r.is ∙ ap {A = View} (λ z. record z { pass = record z.pass { seen = k.pass.seen; faults = k.pass.faults; floor = k.pass.floor }; seen = k.seen; firm = k.firm }) l.is)
 
       least_is : u.pass.least ≡ young
       least_is = ap {A = View} (λ z. z.pass.least) whole
@@ -167,6 +167,9 @@ module _ (young : ℕ) (v m k : View) (l : Looked young v m) (r : ReadOnly m k) 
 
       floor_is : u.pass.floor ≡ k.pass.floor
       floor_is = ap {A = View} (λ z. z.pass.floor) whole
+
+      firm_is : u.firm ≡ k.firm
+      firm_is = ap {A = View} (λ z. z.firm) whole
 
       unsure : is_held v.section ≡ false
       unsure = ap is_held none
@@ -188,9 +191,9 @@ module _ (young : ℕ) (v m k : View) (l : Looked young v m) (r : ReadOnly m k) 
 module _ (young : ℕ) (v a b : View) (number : ℕ) (l : Looked young v a) (h : HasName number a b) where
   begun_among : (name : TxnName) (root : NodeRev) (held : Option Files) (u : View) → name.number.number ≡ number → name.base ≤ young → IsMadeAmong b u → IsBegunOn (bytes_of b.seen) name root → HasBegunAmong name root held v u
   begun_among name root held u same le made on = record {
-    is = made.is ∙ ap {A = View} (λ z. record z { pass = record z.pass { seen = length u.seen; least = u.pass.least; faults = u.pass.faults; floor = u.pass.floor }; seen = u.seen; sure = false })
-        (h.is ∙ ap {A = View} (λ z. record z { pass = record z.pass { seen = length b.seen }; seen = b.seen; section = None; sure = false; given = number ∷ z.given }) l.is)
-        ∙ ap (λ (n : ℕ). record v { pass = record v.pass { seen = length u.seen; least = u.pass.least; faults = u.pass.faults; floor = u.pass.floor }; seen = u.seen; section = None; sure = false; given = n ∷ v.given }) (sym same);
+    is = made.is ∙ ap {A = View} (λ z. record z { pass = record z.pass { seen = length u.seen; least = u.pass.least; faults = u.pass.faults; floor = u.pass.floor }; seen = u.seen; sure = false; firm = u.firm })
+        (h.is ∙ ap {A = View} (λ z. record z { pass = record z.pass { seen = length b.seen }; seen = b.seen; section = None; sure = false; firm = b.firm; given = number ∷ z.given }) l.is)
+        ∙ ap (λ (n : ℕ). record v { pass = record v.pass { seen = length u.seen; least = u.pass.least; faults = u.pass.faults; floor = u.pass.floor }; seen = u.seen; section = None; sure = false; firm = u.firm; given = n ∷ v.given }) (sym same);
     least = omega (arith, l.least, least_is, named_least, made.least);
     all = made.all;
     base = longer b.seen u.seen name.base made.grows within;

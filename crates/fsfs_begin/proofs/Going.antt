@@ -1,7 +1,7 @@
 -- Calls of a begin's section, one after another.
 use Rattle.std.proofs.Common.{◌≡◌, ◌<◌, ℕ, List, [], ◌∷◌, ◌++◌, length, Bool, true, false, cond, refl, sym, ap, subst, ◌∙◌, arith, length-append}
 use Rattle.std.proofs.lemmas.Option.{same_Some}
-use Rattle.std.specs.Prelude.{Some, Result, Ok, Err}
+use Rattle.std.specs.Prelude.{Option, Some, Result, Ok, Err}
 use Rattle.fsfs_base.specs.declared.places.place.BeginPlace.{BeginPlace}
 use Rattle.fsfs_base.specs.declared.places.place.BeginPlace.TheVariants as place
 use Rattle.fsfs_base.specs.declared.places.place.DiskPlace.TheVariants.{Begin}
@@ -16,7 +16,8 @@ use Rattle.fsfs_machine.specs.declared.machine.Step.TheVariants as step
 use Rattle.fsfs_machine.specs.declared.machine.Went.{Went}
 use Rattle.fsfs_machine.specs.declared.machine.Went.TheVariants.{Fine, Before, After, Torn}
 use Rattle.fsfs_machine.specs.Machine.{World, is_fine_in, answer, after, spoiled}
-use Rattle.fsfs_turn.specs.Views.{View, Turned, with_txns, Called, called_view, given_by}
+use Rattle.fsfs_layout.specs.Layouts.{shard_size}
+use Rattle.fsfs_turn.specs.Views.{View, Turned, with_txns, Called, called_view, given_by, firm_by}
 use Rattle.fsfs_machine.specs.Kept.{AllBelow}
 use Rattle.fsfs_turn.specs.Learning.{TurnedFrom, CounterRead, drawn_of}
 use Rattle.fsfs_base.specs.declared.fields.txn_name.TxnName.{TxnName}
@@ -43,21 +44,26 @@ module _ (at : BeginPlace) (v : View) (s : Section) (inside : v.section ≡ Some
   abbrev view_by : Bool → List Recorded → List ℕ → View
   view_by b h given = record v { pass = record v.pass { seen = length h; faults = cond b v.pass.faults (v.pass.faults ++ Begin at ∷ []) }; seen = h; section = Some (cond b (after s) (spoiled s)); given = given }
 
-  called_is : (went : Went) (u : View) → Called (Begin at) went v u → u ≡ view_by (is_fine_in went) u.seen (given_by s went v.given)
-  called_is went u c =
+  -- it leaves the firm floor that is known
+  abbrev KeepsFirm : Type 0
+  KeepsFirm = (went : Went) (size : ℕ) (firm : Option ℕ) → firm_by s went size firm ≡ firm
+
+  called_is : KeepsFirm → (went : Went) (u : View) → Called (Begin at) went v u → u ≡ view_by (is_fine_in went) u.seen (given_by s went v.given)
+  called_is firms went u c =
       let same : c.inside ≡ s = same_Some c.inside s (sym c.was ∙ inside) in
       c.is ∙ ap (λ r. called_view u.seen (Begin at) went r v) same
+      ∙ ap {A = Option ℕ} (λ o. record (view_by (is_fine_in went) u.seen (given_by s went v.given)) { firm = o }) (firms went (shard_size v.layout) v.firm)
 
-  pub reached : ((went : Went) (given : List ℕ) → given_by s went given ≡ given) → (went : Went) (u : View) → is_fine_in went ≡ true → Called (Begin at) went v u → Reached (after s) v u
-  reached names went u fine c = record {
-    is = called_is went u c ∙ ap (λ g. view_by (is_fine_in went) u.seen g) (names went v.given) ∙ ap (λ b. view_by b u.seen v.given) fine;
+  pub reached : ((went : Went) (given : List ℕ) → given_by s went given ≡ given) → KeepsFirm → (went : Went) (u : View) → is_fine_in went ≡ true → Called (Begin at) went v u → Reached (after s) v u
+  reached names firms went u fine c = record {
+    is = called_is firms went u c ∙ ap (λ g. view_by (is_fine_in went) u.seen g) (names went v.given) ∙ ap (λ b. view_by b u.seen v.given) fine;
     grows = c.grows;
     steps = one_turn [] (step.Call v.number (Begin at) went) (answer went) v u c.turned;
   }
 
-  pub stopped : ((went : Went) → is_fine_in went ≡ false → given_by s went v.given ≡ v.given) → spoiled s ≡ Over → (went : Went) (u : View) → is_fine_in went ≡ false → Called (Begin at) went v u → Stopped at v u
-  stopped names over went u ill c = record {
-    is = called_is went u c ∙ ap (λ g. view_by (is_fine_in went) u.seen g) (names went ill) ∙ ap (λ b. view_by b u.seen v.given) ill
+  pub stopped : ((went : Went) → is_fine_in went ≡ false → given_by s went v.given ≡ v.given) → KeepsFirm → spoiled s ≡ Over → (went : Went) (u : View) → is_fine_in went ≡ false → Called (Begin at) went v u → Stopped at v u
+  stopped names firms over went u ill c = record {
+    is = called_is firms went u c ∙ ap (λ g. view_by (is_fine_in went) u.seen g) (names went ill) ∙ ap (λ b. view_by b u.seen v.given) ill
         ∙ ap (λ r. record v { pass = record v.pass { seen = length u.seen; faults = v.pass.faults ++ Begin at ∷ [] }; seen = u.seen; section = Some r }) over;
     grows = c.grows;
     steps = one_turn [] (step.Call v.number (Begin at) went) (answer went) v u c.turned;
@@ -79,7 +85,7 @@ module _ (v : View) (x : Drawn) (inside : v.section ≡ Some (CountRenamed x)) w
 
   pub given : (went : Went) (u : View) → is_fine_in went ≡ true → Called (Begin place.Firm) went v u → IsGiven x.name v u
   given went u fine c = record {
-    is = called_is place.Firm v (CountRenamed x) inside went u c ∙ ap (λ g. view_by place.Firm v (CountRenamed x) inside (is_fine_in went) u.seen g) (given_fine went fine)
+    is = called_is place.Firm v (CountRenamed x) inside (λ w size firm. refl) went u c ∙ ap (λ g. view_by place.Firm v (CountRenamed x) inside (is_fine_in went) u.seen g) (given_fine went fine)
         ∙ ap (λ b. view_by place.Firm v (CountRenamed x) inside b u.seen (x.name ∷ v.given)) fine;
     grows = c.grows;
     steps = one_turn [] (step.Call v.number (Begin place.Firm) went) (answer went) v u c.turned;
@@ -123,22 +129,22 @@ raises_on k s x (Err at) v m r w = (w.0, w.1, stopped_on s at v m w.0 r w.2)
 
 module _ (k : View → Type 0) (x : Drawn) (v : View) where
   pub put_reached : (at : v.section ≡ Some (CountRead x)) (w : (u : View) × (went : Went) × k u × (is_fine_in went ≡ true) × Called (Begin place.Put) went v u) → Reached (CountPut x) v w.0
-  put_reached at w = reached place.Put v (CountRead x) at (λ went given. refl) w.1 w.0 w.3 w.4
+  put_reached at w = reached place.Put v (CountRead x) at (λ went given. refl) (λ went size firm. refl) w.1 w.0 w.3 w.4
 
   pub put_stopped : v.section ≡ Some (CountRead x) → (u : View) × (went : Went) × k u × (is_fine_in went ≡ false) × Called (Begin place.Put) went v u → Raises k x (Err place.Put) v
-  put_stopped at w = (w.0, w.2, stopped place.Put v (CountRead x) at (λ went ill. refl) refl w.1 w.0 w.3 w.4)
+  put_stopped at w = (w.0, w.2, stopped place.Put v (CountRead x) at (λ went ill. refl) (λ went size firm. refl) refl w.1 w.0 w.3 w.4)
 
   pub rename_reached : (at : v.section ≡ Some (CountPut x)) (w : (u : View) × (went : Went) × k u × (is_fine_in went ≡ true) × Called (Begin place.Rename) went v u) → Reached (CountRenamed x) v w.0
-  rename_reached at w = reached place.Rename v (CountPut x) at (λ went given. refl) w.1 w.0 w.3 w.4
+  rename_reached at w = reached place.Rename v (CountPut x) at (λ went given. refl) (λ went size firm. refl) w.1 w.0 w.3 w.4
 
   pub rename_stopped : v.section ≡ Some (CountPut x) → (u : View) × (went : Went) × k u × (is_fine_in went ≡ false) × Called (Begin place.Rename) went v u → Raises k x (Err place.Rename) v
-  rename_stopped at w = (w.0, w.2, stopped place.Rename v (CountPut x) at (λ went ill. refl) refl w.1 w.0 w.3 w.4)
+  rename_stopped at w = (w.0, w.2, stopped place.Rename v (CountPut x) at (λ went ill. refl) (λ went size firm. refl) refl w.1 w.0 w.3 w.4)
 
   pub firm_given : v.section ≡ Some (CountRenamed x) → (u : View) × (went : Went) × k u × (is_fine_in went ≡ true) × Called (Begin place.Firm) went v u → Raises k x (Ok tt) v
   firm_given at w = (w.0, w.2, given v x at w.1 w.0 w.3 w.4)
 
   pub firm_stopped : v.section ≡ Some (CountRenamed x) → (u : View) × (went : Went) × k u × (is_fine_in went ≡ false) × Called (Begin place.Firm) went v u → Raises k x (Err place.Firm) v
-  firm_stopped at w = (w.0, w.2, stopped place.Firm v (CountRenamed x) at (given_ill v x at) refl w.1 w.0 w.3 w.4)
+  firm_stopped at w = (w.0, w.2, stopped place.Firm v (CountRenamed x) at (given_ill v x at) (λ went size firm. refl) refl w.1 w.0 w.3 w.4)
 
 -- ---- with the lock held
 

@@ -1,6 +1,6 @@
 -- What a begin leaves, from its parts.
 use Rattle.std.proofs.Common.{◌≡◌, ◌≤◌, ◌<◌, ℕ, zero, suc, List, [], ◌∷◌, ◌++◌, length, Bool, true, false, cond, refl, sym, ap, subst, ◌∙◌, arith, append_assoc, append-nil, length-append}
-use Rattle.std.specs.Prelude.{Some, None, is_some, slice_get}
+use Rattle.std.specs.Prelude.{Option, Some, None, is_some, slice_get}
 use Rattle.fsfs_begin.specs.declared.name_fault.NameFault.{NameFault}
 use Rattle.fsfs_begin.specs.declared.name_fault.NameFault.TheVariants as names
 use Rattle.fsfs_base.specs.declared.places.place.DiskPlace.{DiskPlace}
@@ -13,7 +13,7 @@ use Rattle.fsfs_machine.specs.declared.machine.Step.TheVariants as step
 use Rattle.fsfs_machine.specs.declared.machine.Went.{Went}
 use Rattle.fsfs_machine.specs.Machine.{is_fine_in, answer}
 use Rattle.fsfs_machine.specs.Kept.{AllBelow, IsIn}
-use Rattle.fsfs_turn.specs.Alone.{BringsNoDoubt, are_harmless, brings_doubt}
+use Rattle.fsfs_turn.specs.Alone.{BringsNoDoubt, are_harmless, leaves_stuck}
 use Rattle.fsfs_turn.specs.Bytes.{bytes_beside, bytes_of}
 use Rattle.fsfs_turn.specs.Views.{View, Begins, Looked, LockTaken, FoundStuck, LockGiven, MayGive, left_by, outside}
 use Rattle.fsfs_turn.specs.Learning.{BenchMade, SpentPurged, MayMake, drawn_of, with_named, with_spent}
@@ -155,7 +155,8 @@ module _ (v m k u : View) (t : LockTaken v m) (g : LockGiven (step.GiveLock k.nu
   pub has_name : (name : ℕ) → IsGiven name m k → m.pass.least < length k.seen → AllBelow name m.given → HasName name v u
   has_name name d all above = record {
     is = g.is ∙ ap {A = View} (λ z. outside z) (d.is ∙ ap {A = View} (λ z. record z { pass = record z.pass { seen = length k.seen }; seen = k.seen; section = Some Over; given = name ∷ z.given }) t.is)
-        ∙ ap {A = List Recorded} (λ l. record v { pass = record v.pass { seen = length l }; seen = l; section = None; sure = false; given = name ∷ v.given }) (sym (given_seen k u g));
+        ∙ ap {A = List Recorded} (λ l. record v { pass = record v.pass { seen = length l }; seen = l; section = None; sure = false; firm = None; given = name ∷ v.given }) (sym (given_seen k u g))
+        ∙ ap {A = Option ℕ} (λ o. record v { pass = record v.pass { seen = length u.seen }; seen = u.seen; section = None; sure = false; firm = o; given = name ∷ v.given }) (sym (ap {A = View} (λ z. z.firm) g.is ∙ ap {A = View} (λ z. z.firm) d.is ∙ ap {A = View} (λ z. z.firm) t.is));
     all = let e : m.pass.least ≡ v.pass.least = ap {A = View} (λ z. z.pass.least) t.is in let f : length u.seen ≡ length k.seen = ap length (given_seen k u g) in omega (arith, all, e, f);
     above = subst (λ (l : List ℕ). AllBelow name l) (ap {A = View} (λ z. z.given) t.is) above;
     grows = grew;
@@ -205,11 +206,11 @@ undrawn base v m k u names.Memory t w g = (
 abbrev pub Tells : DiskPlace → Bool → View → View → Type 0
 Tells at fine v u = u ≡ record v { pass = record v.pass { seen = length u.seen; faults = cond fine v.pass.faults (v.pass.faults ++ at ∷ []) }; seen = u.seen }
 
-told_harmless : (at : DiskPlace) (fine : Bool) (places : List DiskPlace) → brings_doubt at ≡ false → are_harmless places ≡ true → are_harmless (cond fine places (places ++ at ∷ [])) ≡ true
+told_harmless : (at : DiskPlace) (fine : Bool) (places : List DiskPlace) → leaves_stuck at ≡ false → are_harmless places ≡ true → are_harmless (cond fine places (places ++ at ∷ [])) ≡ true
 told_harmless at true places none few = few
 told_harmless at false places none few = harmless_more places at few none
 
-pub told_moved : (at : DiskPlace) (fine : Bool) (v u : View) → brings_doubt at ≡ false → v.section ≡ None → Tells at fine v u → Begins u.seen v.seen → Steps v u → Moved v u
+pub told_moved : (at : DiskPlace) (fine : Bool) (v u : View) → leaves_stuck at ≡ false → v.section ≡ None → Tells at fine v u → Begins u.seen v.seen → Steps v u → Moved v u
 told_moved at fine v u harmless none is grows steps = record {
   number = ap {A = View} (λ z. z.number) is;
   layout = ap {A = View} (λ z. z.layout) is;

@@ -60,8 +60,9 @@ module _ (young : ℕ) (v a b : View) (number : ℕ) (l : Looked young v a) (h :
 
   pub has_begun : (name : TxnName) (root : NodeRev) (held : Option Files) (u : View) → name.number.number ≡ number → name.base ≤ young → IsMade b u → IsBegunOn (bytes_of b.seen) name root → HasBegun name root held v u
   has_begun name root held u same le made on = record {
-    is = whole ∙ ap (λ (k : ℕ). record v { pass = record v.pass { seen = length u.seen; least = k }; seen = u.seen; section = None; sure = false; given = number ∷ v.given }) (sym young_is)
-        ∙ ap (λ (n : ℕ). record v { pass = record v.pass { seen = length u.seen; least = u.pass.least }; seen = u.seen; section = None; sure = false; given = n ∷ v.given }) (sym same);
+    is = whole ∙ ap (λ (k : ℕ). record v { pass = record v.pass { seen = length u.seen; least = k }; seen = u.seen; section = None; sure = false; firm = b.firm; given = number ∷ v.given }) (sym young_is)
+        ∙ ap (λ (n : ℕ). record v { pass = record v.pass { seen = length u.seen; least = u.pass.least }; seen = u.seen; section = None; sure = false; firm = b.firm; given = n ∷ v.given }) (sym same)
+        ∙ ap {A = Option ℕ} (λ o. record v { pass = record v.pass { seen = length u.seen; least = u.pass.least }; seen = u.seen; section = None; sure = false; firm = o; given = name.number.number ∷ v.given }) (sym (ap {A = View} (λ z. z.firm) made.is));
     least = omega (arith, young_is, l.least);
     all = omega (arith, young_is, least_is, h.all, longer b.seen u.seen a.pass.least made.grows h.all);
     base = longer b.seen u.seen name.base made.grows within;
@@ -78,9 +79,9 @@ module _ (young : ℕ) (v a b : View) (number : ℕ) (l : Looked young v a) (h :
       begun : IsBegunOn (bytes_of u.seen) name root
       begun = begun_same name root (bytes_of b.seen) (bytes_of u.seen) (bytes_stay b.seen u.seen name.base made.grows within) on
 
-      whole : u ≡ record v { pass = record v.pass { seen = length u.seen; least = young }; seen = u.seen; section = None; sure = false; given = number ∷ v.given }
+      whole : u ≡ record v { pass = record v.pass { seen = length u.seen; least = young }; seen = u.seen; section = None; sure = false; firm = b.firm; given = number ∷ v.given }
       whole = made.is ∙ ap {A = View} (λ z. record z { pass = record z.pass { seen = length u.seen }; seen = u.seen })
-          (h.is ∙ ap {A = View} (λ z. record z { pass = record z.pass { seen = length b.seen }; seen = b.seen; section = None; sure = false; given = number ∷ z.given }) l.is)
+          (h.is ∙ ap {A = View} (λ z. record z { pass = record z.pass { seen = length b.seen }; seen = b.seen; section = None; sure = false; firm = b.firm; given = number ∷ z.given }) l.is)
 
       young_is : u.pass.least ≡ young
       young_is = ap {A = View} (λ z. z.pass.least) whole

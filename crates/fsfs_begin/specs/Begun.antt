@@ -40,7 +40,7 @@ pub record IsMade (v u : View) : Type 0 where
 
 -- the same, where it was told the youngest revision first, and read: so it may have been told a younger one, and faults of reads may have come
 pub record IsMadeAmong (v u : View) : Type 0 where
-  pub is : u ≡ record v { pass = record v.pass { seen = length u.seen; least = u.pass.least; faults = u.pass.faults; floor = u.pass.floor }; seen = u.seen; sure = false }
+  pub is : u ≡ record v { pass = record v.pass { seen = length u.seen; least = u.pass.least; faults = u.pass.faults; floor = u.pass.floor }; seen = u.seen; sure = false; firm = u.firm }
   pub least : v.pass.least ≤ u.pass.least
   pub all : u.pass.least < length u.seen
   pub doubtless : BringsNoDoubt v u
@@ -50,7 +50,7 @@ pub record IsMadeAmong (v u : View) : Type 0 where
 -- BEGUN: the name is known to be given, its base is a revision that the pass has seen, and the root goes on from that revision's. The
 -- pass is in no section.
 pub record HasBegun (name : TxnName) (node : NodeRev) (held : Option Files) (v u : View) : Type 0 where
-  pub is : u ≡ record v { pass = record v.pass { seen = length u.seen; least = u.pass.least }; seen = u.seen; section = None; sure = false; given = name.number.number ∷ v.given }
+  pub is : u ≡ record v { pass = record v.pass { seen = length u.seen; least = u.pass.least }; seen = u.seen; section = None; sure = false; firm = u.firm; given = name.number.number ∷ v.given }
   -- it was told a revision as young as before or younger, and has seen that
   pub least : v.pass.least ≤ u.pass.least
   pub all : u.pass.least < length u.seen
@@ -66,7 +66,7 @@ pub record HasBegun (name : TxnName) (node : NodeRev) (held : Option Files) (v u
 -- The same of a pass beside others: it may have read more of the history, and faults of reads may have come, none of which leaves a revision
 -- in doubt.
 pub record HasBegunAmong (name : TxnName) (node : NodeRev) (held : Option Files) (v u : View) : Type 0 where
-  pub is : u ≡ record v { pass = record v.pass { seen = length u.seen; least = u.pass.least; faults = u.pass.faults; floor = u.pass.floor }; seen = u.seen; section = None; sure = false; given = name.number.number ∷ v.given }
+  pub is : u ≡ record v { pass = record v.pass { seen = length u.seen; least = u.pass.least; faults = u.pass.faults; floor = u.pass.floor }; seen = u.seen; section = None; sure = false; firm = u.firm; given = name.number.number ∷ v.given }
   pub least : v.pass.least ≤ u.pass.least
   pub all : u.pass.least < length u.seen
   pub base : name.base < length u.seen

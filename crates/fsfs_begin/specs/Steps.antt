@@ -48,7 +48,7 @@ pub record IsGiven (name : ℕ) (v u : View) : Type 0 where
 
 -- a name was drawn by a section of its own; the pass has seen the youngest revision that it was told of
 pub record HasName (name : ℕ) (v u : View) : Type 0 where
-  pub is : u ≡ record v { pass = record v.pass { seen = length u.seen }; seen = u.seen; section = None; sure = false; given = name ∷ v.given }
+  pub is : u ≡ record v { pass = record v.pass { seen = length u.seen }; seen = u.seen; section = None; sure = false; firm = u.firm; given = name ∷ v.given }
   pub all : v.pass.least < length u.seen
   -- each name that the pass knew to be given is below it
   pub above : AllBelow name v.given

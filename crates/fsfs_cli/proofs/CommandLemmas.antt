@@ -5,7 +5,7 @@ use Rattle.clap.specs.Words.{App, Rule, app_of, rule_of, with_rule}
 use Rattle.clap.specs.declared.builder.arg.Arg.{Arg}
 use Rattle.clap.specs.declared.builder.command.Command.{Command}
 use Rattle.fsfs_cli.specs.Chains.{Fits, NeedsValue, IsChain, HasValue}
-use Rattle.fsfs_cli.proofs.ChainLemmas.{chain_more, all_apart, all_none, all_more, IsOwn, fits_chain, has_value, own_repos, own_path, own_shard, own_workers, own_txns, own_revision, own_show_ids}
+use Rattle.fsfs_cli.proofs.ChainLemmas.{chain_more, all_apart, all_none, all_more, IsOwn, fits_chain, has_value, own_repos, own_path, own_shard, own_workers, own_check, own_txns, own_revision, own_show_ids}
 
 -- what clap is told, an argument more
 pub told_more : (c d : Command) (a : Arg) (app : App) (rule : Rule) → AddsArg c a d → a.global ≡ false → app_of c ≡ app → rule_of a ≡ rule → app_of d ≡ with_rule app rule
@@ -27,8 +27,18 @@ more_repos c d repos more name own other r f chain added =
 pub create_repos : (c d : Command) (repos shard : Arg) → NeedsValue (codes "REPOS") repos → Fits (codes "shard") shard → IsChain (repos ∷ []) c → AddsArg c shard d → HasValue (codes "REPOS") d
 create_repos c d repos shard = more_repos c d repos shard (codes "shard") own_shard refl
 
-pub jobs_repos : (c d : Command) (repos workers : Arg) → NeedsValue (codes "REPOS") repos → Fits (codes "workers") workers → IsChain (repos ∷ []) c → AddsArg c workers d → HasValue (codes "REPOS") d
-jobs_repos c d repos workers = more_repos c d repos workers (codes "workers") own_workers refl
+-- with two more
+three_chain : (c1 c2 c3 : Command) (repos second third : Arg) → IsChain (repos ∷ []) c1 → AddsArg c1 second c2 → AddsArg c2 third c3 → IsChain (repos ∷ second ∷ third ∷ []) c3
+three_chain c1 c2 c3 repos second third chain a b = chain_more c2 c3 (repos ∷ second ∷ []) third (chain_more c1 c2 (repos ∷ []) second chain a) b
+
+pub jobs_repos : (c1 c2 c3 : Command) (repos workers check : Arg) → NeedsValue (codes "REPOS") repos → Fits (codes "workers") workers → Fits (codes "check") check
+    → IsChain (repos ∷ []) c1 → AddsArg c1 workers c2 → AddsArg c2 check c3 → HasValue (codes "REPOS") c3
+jobs_repos c1 c2 c3 repos workers check r w k chain a b =
+    let apart : all_apart (map (λ (a : Arg). a.id.now) (repos ∷ workers ∷ check ∷ [])) ≡ true = rw (r.fits.id, w.id, k.id) refl in
+    has_value c3 (repos ∷ workers ∷ check ∷ []) 0 repos (codes "REPOS") (three_chain c1 c2 c3 repos workers check chain a b)
+    (all_more FitsChain repos (workers ∷ check ∷ []) (fits_chain (codes "REPOS") repos own_repos r.fits)
+    (all_more FitsChain workers (check ∷ []) (fits_chain (codes "workers") workers own_workers w)
+    (all_more FitsChain check [] (fits_chain (codes "check") check own_check k) (all_none FitsChain)))) apart (omega arith) r.value r.fits.id
 
 pub rmtxns_repos : (c d : Command) (repos txns : Arg) → NeedsValue (codes "REPOS") repos → Fits (codes "TXN") txns → IsChain (repos ∷ []) c → AddsArg c txns d → HasValue (codes "REPOS") d
 rmtxns_repos c d repos txns = more_repos c d repos txns (codes "TXN") own_txns refl
@@ -48,14 +58,11 @@ tree_repos c1 c2 c3 c4 repos path revision ids r p v i chain a b c =
     (all_more FitsChain revision (ids ∷ []) (fits_chain (codes "revision") revision own_revision v)
     (all_more FitsChain ids [] (fits_chain (codes "show-ids") ids own_show_ids i) (all_none FitsChain))))) apart (omega arith) r.value r.fits.id
 
-cat_chain : (c1 c2 c3 : Command) (repos path revision : Arg) → IsChain (repos ∷ []) c1 → AddsArg c1 path c2 → AddsArg c2 revision c3 → IsChain (repos ∷ path ∷ revision ∷ []) c3
-cat_chain c1 c2 c3 repos path revision chain a b = chain_more c2 c3 (repos ∷ path ∷ []) revision (chain_more c1 c2 (repos ∷ []) path chain a) b
-
 pub history_repos : (c1 c2 c3 : Command) (repos path revision : Arg) → NeedsValue (codes "REPOS") repos → Fits (codes "PATH") path → Fits (codes "revision") revision
     → IsChain (repos ∷ []) c1 → AddsArg c1 path c2 → AddsArg c2 revision c3 → HasValue (codes "REPOS") c3
 history_repos c1 c2 c3 repos path revision r p v chain a b =
     let apart : all_apart (map (λ (a : Arg). a.id.now) (repos ∷ path ∷ revision ∷ [])) ≡ true = rw (r.fits.id, p.id, v.id) refl in
-    has_value c3 (repos ∷ path ∷ revision ∷ []) 0 repos (codes "REPOS") (cat_chain c1 c2 c3 repos path revision chain a b)
+    has_value c3 (repos ∷ path ∷ revision ∷ []) 0 repos (codes "REPOS") (three_chain c1 c2 c3 repos path revision chain a b)
     (all_more FitsChain repos (path ∷ revision ∷ []) (fits_chain (codes "REPOS") repos own_repos r.fits)
     (all_more FitsChain path (revision ∷ []) (fits_chain (codes "PATH") path own_path p)
     (all_more FitsChain revision [] (fits_chain (codes "revision") revision own_revision v) (all_none FitsChain)))) apart (omega arith) r.value r.fits.id
@@ -66,7 +73,7 @@ cat_apart repos path revision r p v = rw (r.fits.id, p.fits.id, v.id) refl
 pub cat_repos : (c1 c2 c3 : Command) (repos path revision : Arg) → NeedsValue (codes "REPOS") repos → NeedsValue (codes "PATH") path → Fits (codes "revision") revision
     → IsChain (repos ∷ []) c1 → AddsArg c1 path c2 → AddsArg c2 revision c3 → HasValue (codes "REPOS") c3
 cat_repos c1 c2 c3 repos path revision r p v chain a b =
-    has_value c3 (repos ∷ path ∷ revision ∷ []) 0 repos (codes "REPOS") (cat_chain c1 c2 c3 repos path revision chain a b)
+    has_value c3 (repos ∷ path ∷ revision ∷ []) 0 repos (codes "REPOS") (three_chain c1 c2 c3 repos path revision chain a b)
     (all_more FitsChain repos (path ∷ revision ∷ []) (fits_chain (codes "REPOS") repos own_repos r.fits)
     (all_more FitsChain path (revision ∷ []) (fits_chain (codes "PATH") path own_path p.fits)
     (all_more FitsChain revision [] (fits_chain (codes "revision") revision own_revision v) (all_none FitsChain)))) (cat_apart repos path revision r p v) (omega arith) r.value r.fits.id
@@ -74,7 +81,7 @@ cat_repos c1 c2 c3 repos path revision r p v chain a b =
 pub cat_path : (c1 c2 c3 : Command) (repos path revision : Arg) → NeedsValue (codes "REPOS") repos → NeedsValue (codes "PATH") path → Fits (codes "revision") revision
     → IsChain (repos ∷ []) c1 → AddsArg c1 path c2 → AddsArg c2 revision c3 → HasValue (codes "PATH") c3
 cat_path c1 c2 c3 repos path revision r p v chain a b =
-    has_value c3 (repos ∷ path ∷ revision ∷ []) 1 path (codes "PATH") (cat_chain c1 c2 c3 repos path revision chain a b)
+    has_value c3 (repos ∷ path ∷ revision ∷ []) 1 path (codes "PATH") (three_chain c1 c2 c3 repos path revision chain a b)
     (all_more FitsChain repos (path ∷ revision ∷ []) (fits_chain (codes "REPOS") repos own_repos r.fits)
     (all_more FitsChain path (revision ∷ []) (fits_chain (codes "PATH") path own_path p.fits)
     (all_more FitsChain revision [] (fits_chain (codes "revision") revision own_revision v) (all_none FitsChain)))) (cat_apart repos path revision r p v) (omega arith) p.value p.fits.id

@@ -5,17 +5,17 @@ use Rattle.std.specs.Prelude.{Option, Some, None, option_map, unwrap_or, codes, 
 use Rattle.std.specs.Str.{bytes_eq}
 use Rattle.clap.specs.Words.{Row, first_of}
 use Rattle.fsfs_base.specs.Paths.{Path}
-use Rattle.fsfs_cli.specs.Commands.{create_app, jobs_app, lstxns_app, rmtxns_app, dump_app, verify_app, youngest_app, uuid_app, revision_app, tree_app, history_app, cat_app, revision_verb, verb_named}
+use Rattle.fsfs_cli.specs.Commands.{create_app, jobs_app, lstxns_app, rmtxns_app, dump_app, verify_app, pack_app, youngest_app, uuid_app, revision_app, tree_app, history_app, cat_app, revision_verb, verb_named}
 use Rattle.fsfs_cli.specs.Grammars.{shard_of, workers_of}
 use Rattle.fsfs_cli.specs.Readings.{Asks}
-use Rattle.fsfs_cli.specs.Words.{Asked, asked, asked_by, asked_by_command, asked_by_jobs, taken, number_of, shard_in, workers_in, run_by, run_in, txns_in, revision_in, pathless, create_in, jobs_in, rmtxns_in, tree_in, cat_in, history_in, printed_in, create_asked, jobs_asked, rmtxns_asked, tree_asked, cat_asked, history_asked, printed_asked, printed_by}
+use Rattle.fsfs_cli.specs.Words.{Asked, asked, asked_by, asked_by_command, asked_by_jobs, taken, number_of, shard_in, workers_in, flag_in, run_by, run_in, txns_in, revision_in, pathless, create_in, jobs_in, rmtxns_in, tree_in, cat_in, history_in, printed_in, create_asked, jobs_asked, rmtxns_asked, tree_asked, cat_asked, history_asked, printed_asked, printed_by}
 use Rattle.fsfs_cli.specs.declared.request.JobRun.{JobRun}
 use Rattle.fsfs_cli.specs.declared.request.Look.{Look as LookAt}
 use Rattle.fsfs_cli.specs.declared.request.Look.TheVariants.{Youngest, Uuid, Dump, Verify, AtRevision}
 use Rattle.fsfs_cli.specs.declared.request.Printed.{Printed}
 use Rattle.fsfs_cli.specs.declared.request.Printed.TheVariants.{Author, Date, Log, Info, Changed}
 use Rattle.fsfs_cli.specs.declared.request.Task.{Task}
-use Rattle.fsfs_cli.specs.declared.request.Task.TheVariants.{Create, ListTxns, RemoveTxns, Look, RunJobs}
+use Rattle.fsfs_cli.specs.declared.request.Task.TheVariants.{Create, ListTxns, RemoveTxns, Pack, Look, RunJobs}
 use Rattle.fsfs_cli.specs.declared.tool.Tool.{Tool}
 use Rattle.fsfs_cli.specs.declared.tool.Tool.TheVariants as tools
 use Rattle.fsfs_cli.specs.declared.verb.Verb.{Verb}
@@ -41,6 +41,7 @@ abbrev pub IsTaskOf : Tool → Task → Type 0
 IsTaskOf tool (Create shard) = (tool ≡ tools.Admin) × IsShardSize shard
 IsTaskOf tool ListTxns = tool ≡ tools.Admin
 IsTaskOf tool (RemoveTxns txns) = tool ≡ tools.Admin
+IsTaskOf tool Pack = tool ≡ tools.Admin
 IsTaskOf tool (Look look) = tool ≡ tool_of_look look
 IsTaskOf tool (RunJobs run) = (tool ≡ tools.Jobs) × AreWorkers run.workers
 
@@ -80,6 +81,7 @@ tool_of verb.ListTxns = tools.Admin
 tool_of verb.RemoveTxns = tools.Admin
 tool_of verb.Dump = tools.Admin
 tool_of verb.Verify = tools.Admin
+tool_of verb.Pack = tools.Admin
 tool_of verb.Youngest = tools.Look
 tool_of verb.Uuid = tools.Look
 tool_of verb.Tree = tools.Look
@@ -102,6 +104,7 @@ by_verb verb.ListTxns words a path e = subst (λ (x : Asked). IsTaskOf tools.Adm
 by_verb verb.RemoveTxns words a path e = option_and_then_some rmtxns_asked (taken rmtxns_app words) a e (λ rows found is. subst (λ (x : Asked). IsTaskOf tools.Admin (x.task path)) (mapped (rmtxns_in rows) (txns_in rows) a is).2 refl)
 by_verb verb.Dump words a path e = subst (λ (x : Asked). IsTaskOf tools.Admin (x.task path)) (mapped (λ rows. pathless rows (Look Dump)) (taken dump_app words) a e).2 refl
 by_verb verb.Verify words a path e = subst (λ (x : Asked). IsTaskOf tools.Admin (x.task path)) (mapped (λ rows. pathless rows (Look Verify)) (taken verify_app words) a e).2 refl
+by_verb verb.Pack words a path e = subst (λ (x : Asked). IsTaskOf tools.Admin (x.task path)) (mapped (λ rows. pathless rows Pack) (taken pack_app words) a e).2 refl
 by_verb verb.Youngest words a path e = subst (λ (x : Asked). IsTaskOf tools.Look (x.task path)) (mapped (λ rows. pathless rows (Look Youngest)) (taken youngest_app words) a e).2 refl
 by_verb verb.Uuid words a path e = subst (λ (x : Asked). IsTaskOf tools.Look (x.task path)) (mapped (λ rows. pathless rows (Look Uuid)) (taken uuid_app words) a e).2 refl
 by_verb verb.Tree words a path e = option_and_then_some tree_asked (taken tree_app words) a e (λ rows found is. subst (λ (x : Asked). IsTaskOf tools.Look (x.task path)) (mapped (tree_in rows) (revision_in rows) a is).2 refl)
@@ -115,13 +118,15 @@ by_verb verb.History words a path e = option_and_then_some history_asked (taken 
 
 -- ---- the word that names a command
 
-admin_named : (a b c d e : Bool) (v : Verb) → (if a then Some verb.Create else if b then Some verb.ListTxns else if c then Some verb.RemoveTxns else if d then Some verb.Dump else if e then Some verb.Verify else None) ≡ Some v → tools.Admin ≡ tool_of v
-admin_named true b c d e v is = ap tool_of (same_Some verb.Create v is)
-admin_named false true c d e v is = ap tool_of (same_Some verb.ListTxns v is)
-admin_named false false true d e v is = ap tool_of (same_Some verb.RemoveTxns v is)
-admin_named false false false true e v is = ap tool_of (same_Some verb.Dump v is)
-admin_named false false false false true v is = ap tool_of (same_Some verb.Verify v is)
-admin_named false false false false false v is = absurd cc
+admin_named : (a b c d e f : Bool) (v : Verb)
+    → (if a then Some verb.Create else if b then Some verb.ListTxns else if c then Some verb.RemoveTxns else if d then Some verb.Dump else if e then Some verb.Verify else if f then Some verb.Pack else None) ≡ Some v → tools.Admin ≡ tool_of v
+admin_named true b c d e f v is = ap tool_of (same_Some verb.Create v is)
+admin_named false true c d e f v is = ap tool_of (same_Some verb.ListTxns v is)
+admin_named false false true d e f v is = ap tool_of (same_Some verb.RemoveTxns v is)
+admin_named false false false true e f v is = ap tool_of (same_Some verb.Dump v is)
+admin_named false false false false true f v is = ap tool_of (same_Some verb.Verify v is)
+admin_named false false false false false true v is = ap tool_of (same_Some verb.Pack v is)
+admin_named false false false false false false v is = absurd cc
 
 revision_named : (a b c d e : Bool) (v : Verb) → (if a then Some verb.Author else if b then Some verb.Date else if c then Some verb.Log else if d then Some verb.Info else if e then Some verb.Changed else None) ≡ Some v → tools.Look ≡ tool_of v
 revision_named true b c d e v is = ap tool_of (same_Some verb.Author v is)
@@ -143,7 +148,7 @@ look_named word false false false false true v is = ap tool_of (same_Some verb.H
 look_named word false false false false false v is = revision_word word v is
 
 tool_named : (tool : Tool) (word : List ℕ) (v : Verb) → verb_named tool word ≡ Some v → tool ≡ tool_of v
-tool_named tools.Admin word v e = admin_named (bytes_eq word (codes "create")) (bytes_eq word (codes "lstxns")) (bytes_eq word (codes "rmtxns")) (bytes_eq word (codes "dump")) (bytes_eq word (codes "verify")) v e
+tool_named tools.Admin word v e = admin_named (bytes_eq word (codes "create")) (bytes_eq word (codes "lstxns")) (bytes_eq word (codes "rmtxns")) (bytes_eq word (codes "dump")) (bytes_eq word (codes "verify")) (bytes_eq word (codes "pack")) v e
 tool_named tools.Look word v e = look_named word (bytes_eq word (codes "youngest")) (bytes_eq word (codes "uuid")) (bytes_eq word (codes "tree")) (bytes_eq word (codes "cat")) (bytes_eq word (codes "history")) v e
 tool_named tools.Jobs word v e = absurd cc
 
@@ -154,7 +159,7 @@ by_command tool (word ∷ words) a path e = option_and_then_some (λ v. asked_by
 
 run_workers : (rows : List Row) (run : JobRun) → run_in rows ≡ Some run → AreWorkers run.workers
 run_workers rows run e =
-    let n = mapped run_by (workers_in rows) run e in
+    let n = mapped (run_by (flag_in (codes "check") rows)) (workers_in rows) run e in
     subst AreWorkers (ap (λ (r : JobRun). r.workers) n.2) (given_workers (first_of (codes "workers") rows) n.0 n.1)
 
 by_jobs : (words : List (List ℕ)) (a : Asked) (path : Path) → asked_by_jobs words ≡ Some a → IsTaskOf tools.Jobs (a.task path)

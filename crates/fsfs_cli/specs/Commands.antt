@@ -6,7 +6,7 @@ use Rattle.clap.specs.declared.builder.action.ArgAction.TheVariants.{Set, Append
 use Rattle.fsfs_cli.specs.declared.tool.Tool.{Tool}
 use Rattle.fsfs_cli.specs.declared.tool.Tool.TheVariants.{Admin, Look, Jobs}
 use Rattle.fsfs_cli.specs.declared.verb.Verb.{Verb}
-use Rattle.fsfs_cli.specs.declared.verb.Verb.TheVariants.{Create, ListTxns, RemoveTxns, Dump, Verify, Youngest, Uuid, Tree, Cat, Author, Date, Log, Info, Changed, History}
+use Rattle.fsfs_cli.specs.declared.verb.Verb.TheVariants.{Create, ListTxns, RemoveTxns, Dump, Verify, Pack, Youngest, Uuid, Tree, Cat, Author, Date, Log, Info, Changed, History}
 
 abbrev pub tool_name : Tool → List ℕ
 tool_name Admin = codes "svnadmin"
@@ -40,6 +40,7 @@ admin_verb word =
     else if bytes_eq word (codes "rmtxns") then Some RemoveTxns
     else if bytes_eq word (codes "dump") then Some Dump
     else if bytes_eq word (codes "verify") then Some Verify
+    else if bytes_eq word (codes "pack") then Some Pack
     else None
 
 abbrev pub verb_named : Tool → List ℕ → Option Verb
@@ -60,6 +61,10 @@ shard_rule = record (new_rule (codes "shard")) { long = Some (codes "shard") }
 -- [-j N]
 abbrev pub workers_rule : Rule
 workers_rule = record (new_rule (codes "workers")) { short = Some 106 }
+
+-- [--check]
+abbrev pub check_rule : Rule
+check_rule = record (new_rule (codes "check")) { long = Some (codes "check"); action = Some SetTrue }
 
 -- TXN.., one or more
 abbrev pub txns_rule : Rule
@@ -107,9 +112,13 @@ dump_app = with_rule (bare (codes "dump")) repos_rule
 abbrev pub verify_app : App
 verify_app = with_rule (bare (codes "verify")) repos_rule
 
--- svnjobs REPOS [-j N], which has no word of its own
+-- pack REPOS
+abbrev pub pack_app : App
+pack_app = with_rule (bare (codes "pack")) repos_rule
+
+-- svnjobs REPOS [-j N] [--check], which has no word of its own
 abbrev pub jobs_app : App
-jobs_app = with_rule (with_rule (bare (codes "svnjobs")) repos_rule) workers_rule
+jobs_app = with_rule (with_rule (with_rule (bare (codes "svnjobs")) repos_rule) workers_rule) check_rule
 
 -- youngest REPOS
 abbrev pub youngest_app : App

@@ -4,12 +4,12 @@ use Rattle.std.specs.Option.{option_map_or}
 use Rattle.std.specs.Str.{bytes_eq}
 use Rattle.clap.specs.Words.{App, Row, all_of, fault_of, first_of, matches_of}
 use Rattle.clap.specs.Walk.{is_empty}
-use Rattle.fsfs_cli.specs.Commands.{verb_named, create_app, jobs_app, lstxns_app, rmtxns_app, dump_app, verify_app, youngest_app, uuid_app, revision_app, tree_app, history_app, cat_app}
+use Rattle.fsfs_cli.specs.Commands.{verb_named, create_app, jobs_app, lstxns_app, rmtxns_app, dump_app, verify_app, pack_app, youngest_app, uuid_app, revision_app, tree_app, history_app, cat_app}
 use Rattle.fsfs_cli.specs.Grammars.{revision_of, shard_of, workers_of, txns_named}
 use Rattle.fsfs_base.specs.Paths.{Path}
 use Rattle.fsfs_cli.specs.declared.request.JobRun.{JobRun}
 use Rattle.fsfs_cli.specs.declared.request.Task.{Task}
-use Rattle.fsfs_cli.specs.declared.request.Task.TheVariants.{Create, ListTxns, RemoveTxns, Look, RunJobs}
+use Rattle.fsfs_cli.specs.declared.request.Task.TheVariants.{Create, ListTxns, RemoveTxns, Pack, Look, RunJobs}
 use Rattle.fsfs_cli.specs.declared.request.Look.TheVariants.{Youngest, Uuid, Dump, Verify, AtRevision}
 use Rattle.fsfs_cli.specs.declared.request.Printed.{Printed}
 use Rattle.fsfs_cli.specs.declared.request.Printed.TheVariants.{Tree, Text, Author, Date, Log, Info, Changed, History}
@@ -48,12 +48,16 @@ shard_in rows = option_map (λ n. unwrap_or n 1000) (number_of shard_of (first_o
 abbrev pub workers_in : List Row → Option ℕ
 workers_in rows = option_map (λ n. unwrap_or n 1) (number_of workers_of (first_of (codes "workers") rows))
 
+-- an option without a value is among them
+abbrev pub flag_in : List ℕ → List Row → Bool
+flag_in name rows = option_map_or (λ word. bytes_eq word (codes "true")) (first_of name rows) false
+
 -- what a run of jobs is asked for
-abbrev pub run_by : ℕ → JobRun
-run_by workers = record { workers = workers }
+abbrev pub run_by : Bool → ℕ → JobRun
+run_by check workers = record { workers = workers; check = check }
 
 abbrev pub run_in : List Row → Option JobRun
-run_in rows = option_map run_by (workers_in rows)
+run_in rows = option_map (run_by (flag_in (codes "check") rows)) (workers_in rows)
 
 -- TXN..
 abbrev pub txns_in : List Row → Option (List (ℕ × ℕ))
@@ -61,7 +65,7 @@ txns_in rows = txns_named (unwrap_or (all_of (codes "TXN") rows) [])
 
 -- [--show-ids]
 abbrev pub shows_ids : List Row → Bool
-shows_ids rows = option_map_or (λ word. bytes_eq word (codes "true")) (first_of (codes "show-ids") rows) false
+shows_ids rows = flag_in (codes "show-ids") rows
 
 -- ---- what the matches of each command ask for
 
@@ -139,6 +143,7 @@ asked_by verb.ListTxns words = option_map (λ rows. pathless rows ListTxns) (tak
 asked_by verb.RemoveTxns words = option_and_then rmtxns_asked (taken rmtxns_app words)
 asked_by verb.Dump words = option_map (λ rows. pathless rows (Look Dump)) (taken dump_app words)
 asked_by verb.Verify words = option_map (λ rows. pathless rows (Look Verify)) (taken verify_app words)
+asked_by verb.Pack words = option_map (λ rows. pathless rows Pack) (taken pack_app words)
 asked_by verb.Youngest words = option_map (λ rows. pathless rows (Look Youngest)) (taken youngest_app words)
 asked_by verb.Uuid words = option_map (λ rows. pathless rows (Look Uuid)) (taken uuid_app words)
 asked_by verb.Tree words = option_and_then tree_asked (taken tree_app words)

@@ -2,7 +2,7 @@
 ghost use Rattle.std.specs.Prelude.{◌≡◌, ◌==◌, ℕ, List, map, string_bytes, true, is_some, option_map, IfOk};
 ghost use Rattle.clap.specs.Words.{app_of, found_of, is_simple_and_free, rows_of, first_of, IsParsedFrom};
 ghost use Rattle.fsfs_cli.specs.Commands.{revision_app};
-ghost use Rattle.fsfs_cli.specs.Words.{taken, asked, asked_by, asked_by_command, asked_by_jobs, printed_by, revision_in, shard_in, workers_in, run_in, txns_in, shows_ids, path_in, required_in};
+ghost use Rattle.fsfs_cli.specs.Words.{taken, asked, asked_by, asked_by_command, asked_by_jobs, printed_by, revision_in, shard_in, workers_in, run_in, txns_in, flag_in, path_in, required_in};
 ghost use Rattle.fsfs_cli.specs.Readings.{Reads, Finds, GivesPath};
 
 use crate::commands::{
@@ -98,12 +98,23 @@ fn workers_given(matches: &ArgMatches<'_>) -> Result<u32, WordsFault>
     }
 }
 
+// [--check], [--show-ids]: an option without a value.
+fn flag_given(matches: &ArgMatches<'_>, id: &str) -> bool
+    ensures { result ≡ flag_in id.now (rows_of (found_of matches.now)) }
+{
+    match word_of(matches, id) {
+        None => false,
+        Some(word) => word == "true",
+    }
+}
+
 // What a run of jobs is asked for.
 fn run_given(matches: &ArgMatches<'_>) -> Result<JobRun, WordsFault>
     ensures { Finds (run_in (rows_of (found_of matches.now))) (λ run. run) result }
 {
     let workers = workers_given(matches)?;
-    Ok(JobRun { workers })
+    let check = flag_given(matches, "check");
+    Ok(JobRun { workers, check })
 }
 
 // TXN..
@@ -113,16 +124,6 @@ fn txns_given(alloc: Global, matches: &ArgMatches<'_>) -> Result<TxnNames, Words
     match matches.get_strs("TXN") {
         Some(words) => read_txns(alloc, words),
         None => read_txns(alloc, &[]),
-    }
-}
-
-// [--show-ids]
-fn shows_ids_given(matches: &ArgMatches<'_>) -> bool
-    ensures { result ≡ shows_ids (rows_of (found_of matches.now)) }
-{
-    match word_of(matches, "show-ids") {
-        None => false,
-        Some(word) => word == "true",
     }
 }
 
@@ -193,6 +194,15 @@ fn read_verify<'a>(alloc: Global, words: &'a [String]) -> Result<Request<'a>, Wo
     Ok(Request { repos, task })
 }
 
+fn read_pack<'a>(alloc: Global, words: &'a [String]) -> Result<Request<'a>, WordsFault>
+    ensures { Reads (asked_by Verb.Pack (map string_bytes words.entry.now)) result }
+{
+    let matches = matches_of(look_command(alloc, "pack")?, words)?;
+    let repos = required(&matches, "REPOS");
+    let task = Task::Pack;
+    Ok(Request { repos, task })
+}
+
 fn read_youngest<'a>(alloc: Global, words: &'a [String]) -> Result<Request<'a>, WordsFault>
     ensures { Reads (asked_by Verb.Youngest (map string_bytes words.entry.now)) result }
 {
@@ -217,7 +227,7 @@ fn read_tree<'a>(alloc: Global, words: &'a [String]) -> Result<Request<'a>, Word
     let matches = matches_of(tree_command(alloc)?, words)?;
     let repos = required(&matches, "REPOS");
     let revision = revision_given(&matches)?;
-    let show_ids = shows_ids_given(&matches);
+    let show_ids = flag_given(&matches, "show-ids");
     let path = path_given(alloc, &matches)?;
     let printed = Printed::Tree { show_ids, path };
     let task = Task::Look(Look::AtRevision(RevisionLook { revision, printed }));
@@ -283,6 +293,7 @@ fn read_command<'a>(
         Some(Verb::RemoveTxns) => read_rmtxns(alloc, words),
         Some(Verb::Dump) => read_dump(alloc, words),
         Some(Verb::Verify) => read_verify(alloc, words),
+        Some(Verb::Pack) => read_pack(alloc, words),
         Some(Verb::Youngest) => read_youngest(alloc, words),
         Some(Verb::Uuid) => read_uuid(alloc, words),
         Some(Verb::Tree) => read_tree(alloc, words),

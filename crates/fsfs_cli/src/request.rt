@@ -27,6 +27,8 @@ pub enum Task {
     RemoveTxns {
         names: TxnNames,
     },
+    /// `svnadmin pack`: each full shard that isn't packed becomes one file.
+    Pack,
     /// A command of `svnlook`, or `svnadmin dump` or `verify`: it reads and prints.
     Look(Look),
     /// `svnjobs`: the jobs of the script in the input are done.
@@ -38,6 +40,8 @@ pub enum Task {
 pub struct JobRun {
     /// How many workers do the jobs: 1 or 2.
     pub workers: u32,
+    /// Whether all revisions are checked behind the jobs.
+    pub check: bool,
 }
 
 /// What is looked at.

@@ -17,6 +17,8 @@ pub enum Verb {
     Dump,
     /// `svnadmin verify`.
     Verify,
+    /// `svnadmin pack`.
+    Pack,
     /// `svnlook youngest`.
     Youngest,
     /// `svnlook uuid`.
@@ -63,6 +65,8 @@ fn admin_verb(word: &str) -> Option<Verb>
         Some(Verb::Dump)
     } else if word == "verify" {
         Some(Verb::Verify)
+    } else if word == "pack" {
+        Some(Verb::Pack)
     } else {
         None
     }

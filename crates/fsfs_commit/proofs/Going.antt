@@ -1,9 +1,10 @@
 -- Calls of a section, one after another.
 use Rattle.std.proofs.Common.{◌≡◌, ◌≤◌, ℕ, List, [], ◌∷◌, ◌++◌, length, Bool, true, false, cond, refl, sym, ap, subst, ◌∙◌, arith}
 use Rattle.std.proofs.lemmas.Option.{same_Some}
-use Rattle.std.specs.Prelude.{Some, None, Result, Ok, Err, OnOk, OnErr}
+use Rattle.std.specs.Prelude.{Option, Some, None, Result, Ok, Err, OnOk, OnErr}
 use Rattle.fsfs_base.specs.Failures.{HasCause, Rose}
 use Rattle.fsfs_tree.specs.Revisions.{Revision}
+use Rattle.fsfs_layout.specs.Layouts.{shard_size}
 use Rattle.fsfs_layout.specs.Small.{IsRevLine}
 use Rattle.fsfs_layout.specs.Hash.Dump.{IsDump}
 use Rattle.fsfs_disk.specs.Trace.{Put}
@@ -13,16 +14,21 @@ use Rattle.fsfs_base.specs.declared.places.place.DiskPlace.TheVariants.{Commit}
 use Rattle.fsfs_base.specs.declared.places.place.CommitPlace.{CommitPlace}
 use Rattle.fsfs_base.specs.declared.places.place.CommitPlace.TheVariants.{PutRev, PutProps}
 use Rattle.fsfs_machine.specs.declared.machine.Section.{Section}
-use Rattle.fsfs_machine.specs.declared.machine.Section.TheVariants.{RevPut, Doubtful, Over, CurrentFirm}
+use Rattle.fsfs_machine.specs.declared.machine.Section.TheVariants.{RevPut, Doubtful, FloorRenamed, Over, CurrentFirm}
 use Rattle.fsfs_machine.specs.declared.machine.Outcome.TheVariants as outcome
 use Rattle.fsfs_machine.specs.declared.machine.Went.{Went}
 use Rattle.fsfs_machine.specs.declared.machine.Step.TheVariants as step
 use Rattle.fsfs_machine.specs.Machine.{is_fine_in, answer, after, spoiled, reveals, with_next}
 use Rattle.fsfs_machine.specs.Kept.{coming_in}
-use Rattle.fsfs_turn.specs.Views.{View, IsDue, props_name, coming_at, given_by, called_view, Called, Adopted, coming_of, LockGiven, outside, Revealed, MayGive}
+use Rattle.fsfs_turn.specs.Views.{View, IsDue, props_name, coming_at, firm_by, given_by, called_view, Called, Adopted, coming_of, LockGiven, outside, Revealed, MayGive}
 use Rattle.fsfs_turn.specs.Courses.{Course, End, More}
 use Rattle.fsfs_turn.proofs.Reading.{course_on}
 use Rattle.fsfs_commit.specs.Courses.{IsMade, Reached, Failed, leaves_doubt, spoilt, Goes, Ended, Published, StoppedAt, ends_at}
+
+-- with a revision to come no call tells another floor
+firm_stays : (s : Section) (x : Coming) → coming_in s ≡ Some x → (went : Went) (size : ℕ) (firm : Option ℕ) → firm_by s went size firm ≡ firm
+firm_stays FloorRenamed x next went size firm = absurd cc
+firm_stays s x next went size firm = refl
 
 -- a call of a section with a revision to come, and what it did
 module _ (place : CommitPlace) (v : View) (s : Section) (x : Coming) (at : v.section ≡ Some s) (next : coming_in s ≡ Some x) (names : (went : Went) (given : List ℕ) → given_by s went given ≡ given) where
@@ -38,11 +44,15 @@ module _ (place : CommitPlace) (v : View) (s : Section) (x : Coming) (at : v.sec
   abbrev view_by : Bool → List ℕ → View
   view_by b given = record v { pass = record v.pass { seen = length v.seen; faults = cond b v.pass.faults (v.pass.faults ++ Commit place ∷ []) }; section = Some (cond b (after s) (spoiled s)); given = given }
 
+  -- nor does it tell another firm floor
+  plainly : (went : Went) (u : View) → Called (Commit place) went v u → u ≡ view_by (is_fine_in went) (given_by s went v.given)
+  plainly went u c = plain went u c ∙ ap {A = Option ℕ} (λ o. record (view_by (is_fine_in went) (given_by s went v.given)) { firm = o }) (firm_stays s x next went (shard_size v.layout) v.firm)
+
   pub reached : (went : Went) (u : View) → is_fine_in went ≡ true → Called (Commit place) went v u → Reached (after s) v u
-  reached went u fine c = record { is = plain went u c ∙ ap (λ g. view_by (is_fine_in went) g) (names went v.given) ∙ ap (λ b. view_by b v.given) fine; course = course went u c }
+  reached went u fine c = record { is = plainly went u c ∙ ap (λ g. view_by (is_fine_in went) g) (names went v.given) ∙ ap (λ b. view_by b v.given) fine; course = course went u c }
 
   pub failed : (went : Went) (u : View) → is_fine_in went ≡ false → Called (Commit place) went v u → Failed place (spoiled s) v u
-  failed went u ill c = record { is = plain went u c ∙ ap (λ g. view_by (is_fine_in went) g) (names went v.given) ∙ ap (λ b. view_by b v.given) ill; course = course went u c }
+  failed went u ill c = record { is = plainly went u c ∙ ap (λ g. view_by (is_fine_in went) g) (names went v.given) ∙ ap (λ b. view_by b v.given) ill; course = course went u c }
 
   pub goes_done : (known : View → Type 0) → (u : View) × (went : Went) × known u × (is_fine_in went ≡ true) × Called (Commit place) went v u → Goes known (Ok tt) x (after s) v
   goes_done known c = record { done = (c.0, c.2, reached c.1 c.0 c.3 c.4); failed = tt }

@@ -49,8 +49,9 @@ use Rattle.fsfs_commit.proofs.Landing.{part_long, part_last, landed, landed_mean
 
 pub reads_once : (r : ℕ) (x : Recorded) (went : Went) (v u : View) → PropsRead r x went v u → ReadOnly v u
 reads_once r x went v u t = record {
-  is = t.is ∙ (λ i. record v { pass = record v.pass { seen = ap {A = View} (λ z. z.pass.seen) (sym t.is) i; faults = ap {A = View} (λ z. z.pass.faults) (sym t.is) i; floor = ap {A = View} (λ z. z.pass.floor) (sym t.is) i }; seen = u.seen });
+  is = t.is ∙ (λ i. record v { pass = record v.pass { seen = ap {A = View} (λ z. z.pass.seen) (sym t.is) i; faults = ap {A = View} (λ z. z.pass.faults) (sym t.is) i; floor = ap {A = View} (λ z. z.pass.floor) (sym t.is) i }; seen = u.seen; firm = ap {A = View} (λ z. z.firm) (sym t.is) i });
   grows = t.grows;
+  firm = λ f e. ap {A = View} (λ z. z.firm) t.is ∙ e;
   doubtless = read_doubtless r x went v u t;
   shown = t.shown;
   within = λ sure le. t.within sure;

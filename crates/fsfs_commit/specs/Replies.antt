@@ -1,14 +1,15 @@
 -- The answers of a commit, and their causes.
-use Rattle.std.specs.Prelude.{◌≡◌, ◌⊎◌, ◌<◌, ◌≤◌, ◌+◌, ℕ, List, [], ◌∷◌, ◌++◌, length, take, true, false, Option, Some, None, is_some}
+use Rattle.std.specs.Prelude.{◌≡◌, ◌⊎◌, ◌<◌, ◌≤◌, ◌+◌, ℕ, List, [], ◌∷◌, ◌++◌, length, take, Bool, true, false, Option, Some, None, is_some}
 use Rattle.fsfs_tree.specs.Revisions.{Revision}
 use Rattle.fsfs_tree.specs.Histories.{IsHistory}
 use Rattle.fsfs_model.specs.Flat.Transactions.{IsNext}
 use Rattle.fsfs_machine.specs.declared.machine.Recorded.{Recorded}
 use Rattle.fsfs_machine.specs.declared.machine.Coming.{Coming}
 use Rattle.fsfs_machine.specs.declared.machine.Txn.{Txn}
+use Rattle.fsfs_base.specs.declared.places.place.DiskPlace.{DiskPlace}
 use Rattle.fsfs_base.specs.declared.places.place.DiskPlace.TheVariants.{Commit}
 use Rattle.fsfs_machine.specs.Machine.{revisions, entry_of}
-use Rattle.fsfs_turn.specs.Alone.{BringsNoDoubt, brings_doubt}
+use Rattle.fsfs_turn.specs.Alone.{BringsNoDoubt}
 use Rattle.fsfs_turn.specs.Bytes.{BytesShow}
 use Rattle.fsfs_machine.specs.declared.machine.Step.TheVariants.{GiveLock}
 use Rattle.fsfs_turn.specs.Views.{View, Begins, is_held, LockGiven}
@@ -17,7 +18,7 @@ use Rattle.fsfs_commit.specs.declared.made.Made.{Made}
 use Rattle.fsfs_commit.specs.declared.committing.Ready.{Ready}
 use Rattle.fsfs_commit.specs.declared.committing.CommitFault.{CommitFault}
 use Rattle.fsfs_commit.specs.declared.committing.CommitFault.TheVariants.{RevsFull, Stuck, Refused as Refuses, DiskFault}
-use Rattle.fsfs_commit.specs.Courses.{IsMade, StoppedAt}
+use Rattle.fsfs_commit.specs.Courses.{IsMade, StoppedAt, leaves_doubt}
 use Rattle.fsfs_commit.specs.Works.{CanCommit, Landings}
 
 -- the pass added nothing: it saw more, was told more, and faults came
@@ -137,6 +138,11 @@ Cause Says RevsFull v u y = 2147483647 ≤ u.pass.least
 Cause Says (Stuck place) v u y = u.pass.stuck ≡ Some place
 Cause Says (Refuses refusal) v u y = (u.pass.least < 2147483647) × Says refusal u.pass.least u.seen y
 Cause Says (DiskFault place) v u y = (m : View) × Drifted v m × (x : Coming) × StoppedAt place x m u
+
+-- a fault there leaves the revision that a commit was to add in doubt
+abbrev pub brings_doubt : DiskPlace → Bool
+brings_doubt (Commit place) = leaves_doubt place
+brings_doubt place = false
 
 -- a fact, unless the call failed at a place that leaves the revision in doubt
 abbrev pub UnlessDoubt : {E : Type 0} → CommitFault E → Type 0 → Type 0

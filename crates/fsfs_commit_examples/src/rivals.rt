@@ -1,13 +1,15 @@
 // Turns of a test: others commit before the lock is taken.
-ghost use Rattle.std.specs.Prelude.{◌≡◌, ℕ, refl, false, None, OnErr, IfOk, MatchOption};
+ghost use Rattle.std.specs.Prelude.{◌≡◌, ℕ, refl, true, false, None, OnErr, IfOk, MatchOption};
 ghost use Rattle.fsfs_base.specs.Failures.{HasCause};
-ghost use Rattle.fsfs_disk.specs.Labels.{Txn as TxnLabel, label_of, without_label};
+ghost use Rattle.fsfs_base.specs.declared.places.place.DiskPlace.TheVariants.{Remove};
+ghost use Rattle.fsfs_disk.specs.Labels.{Txn as TxnLabel, Pack as PackLabel, label_of, without_label};
 ghost use Rattle.fsfs_machine.specs.declared.machine.Txn.{Txn};
 ghost use Rattle.fsfs_machine.specs.declared.machine.Went.{Went};
 ghost use Rattle.fsfs_machine.specs.Kept.{IsIn};
-ghost use Rattle.fsfs_turn.specs.Views.{View, Answers};
+ghost use Rattle.fsfs_turn.specs.Views.{View, Answers, is_held};
 ghost use Rattle.fsfs_turn.specs.Labels.{MayRelabel, Drops};
 ghost use Rattle.fsfs_turn.specs.Mountings.{RoseBy};
+ghost use Rattle.fsfs_turn.specs.Packing.{DoneBeside};
 ghost use Rattle.fsfs_turn.specs.Learning.{MayPurge, Purged, SpentPurged};
 
 use fsfs_base::{DiskPlace, Failed, Name, Note, RevNum};
@@ -144,6 +146,24 @@ impl Turns<()> for Rivals {
         self.inner.adopt_file(rt, bench, file, to, about)
     }
 
+    fn adopt_part(
+        &mut self,
+        rt: &(),
+        bench: &mut <MemDisk as Disk>::Bench,
+        file: &Name,
+        to: &Name,
+    ) -> Result<(), Failed> {
+        self.inner.adopt_part(rt, bench, file, to)
+    }
+
+    fn remove(&mut self, rt: &(), name: &Name) -> Result<bool, Failed> {
+        self.inner.remove(rt, name)
+    }
+
+    fn drop_folder(&mut self, rt: &(), name: &Name) -> Result<(), Failed> {
+        self.inner.drop_folder(rt, name)
+    }
+
     fn read(
         &mut self,
         rt: &(),
@@ -180,6 +200,7 @@ impl Turns<()> for Rivals {
             → (u : View) × (went : Went) × ⊥ × Answers result went × Purged txn went v u }
         ensures spent { (v : View) (name base : ℕ) → ⊥ → v.section ≡ None → IsIn name v.given → label_of label.now ≡ TxnLabel base name
             → (u : View) × (went : Went) × ⊥ × Answers result went × SpentPurged name went v u }
+        ensures beside { (v : View) (k : ℕ) → ⊥ → is_held v.section ≡ true → label_of label.now ≡ PackLabel k → (u : View) × (went : Went) × ⊥ × Answers result went × DoneBeside Remove went v u }
         ensures mounted { (⟦<Owned<MemDisk> as Turns<()>>⟧.mounting self.new.inner).mount ≡ (⟦<Owned<MemDisk> as Turns<()>>⟧.mounting self.old.inner).mount }
         ensures duty { false ≡ false }
         ensures dropped { IfOk result (λ there. Drops false (label_of label.now) there (⟦<Owned<MemDisk> as Turns<()>>⟧.labels self.old.inner) (⟦<Owned<MemDisk> as Turns<()>>⟧.labels self.new.inner)) }
@@ -192,6 +213,10 @@ impl Turns<()> for Rivals {
 
     fn make_folder(&mut self, rt: &(), name: &Name) -> Result<(), Failed> {
         self.inner.make_folder(rt, name)
+    }
+
+    fn make_pack_folder(&mut self, rt: &(), name: &Name) -> Result<(), Failed> {
+        self.inner.make_pack_folder(rt, name)
     }
 
     ghost sole = { λ s v u bound known other. absurd known };

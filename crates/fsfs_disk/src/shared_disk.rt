@@ -4,7 +4,7 @@ ghost use Rattle.std.specs.FinMap.{empty};
 ghost use Rattle.fsfs_base.specs.Failures.{HasCause, Rose, added_count};
 ghost use Rattle.fsfs_disk.specs.Labels.{label_of, has_label, IsListing};
 ghost use Rattle.fsfs_disk.specs.Benches.{removed, bytes_on, IsFirmFile, HasShortFiles};
-ghost use Rattle.fsfs_disk.specs.Trace.{Put, Adopt, Rename, FirmNames, KeepLabel, DropLabel, file_at, files_now, labels_now, Performs, FailsAt, FailsToPut, FailsToAdopt, IsRead, IsSize, PerformsIfThere};
+ghost use Rattle.fsfs_disk.specs.Trace.{Put, Adopt, Rename, Remove, FirmNames, KeepLabel, DropLabel, file_at, files_now, labels_now, Performs, FailsAt, FailsToPut, FailsToAdopt, IsRead, IsSize, IsThere, PerformsIfThere};
 
 use crate::{Disk, Label, ListFault};
 use fsfs_base::{Failed, Name};
@@ -214,6 +214,34 @@ impl<D: Disk> SharedDisk<D> {
         ensures cause { HasCause self.old.faults self.new.faults result }
     {
         let answer = self.disk.adopt(bench, file, to);
+        self.failed = answer.is_err();
+        answer
+    }
+
+    /// Takes a file away. `false`: there is no such file.
+    pub fn remove(&mut self, name: &Name) -> Result<bool, Failed>
+        ensures there { IfSome self.old.trace (λ t. IfOk result (IsThere (file_at t name.now))) }
+        ensures ok { IfOk result (λ there. PerformsIfThere there (Remove name.now) self.old.trace self.new.trace) }
+        ensures err { OnErr result (FailsAt (Remove name.now) self.old.trace self.new.trace) }
+        ensures mounted { self.new.mount_path ≡ self.old.mount_path }
+        ensures benches { self.new.bench_faults ≡ self.old.bench_faults }
+        ensures flag { self.new.failed ≡ is_err result }
+        ensures cause { HasCause self.old.faults self.new.faults result }
+    {
+        let answer = self.disk.remove(name);
+        self.failed = answer.is_err();
+        answer
+    }
+
+    /// Drops a folder that is empty. No file changes by it.
+    pub fn drop_folder(&mut self, name: &Name) -> Result<(), Failed>
+        ensures same { self.new.trace ≡ self.old.trace }
+        ensures mounted { self.new.mount_path ≡ self.old.mount_path }
+        ensures benches { self.new.bench_faults ≡ self.old.bench_faults }
+        ensures flag { self.new.failed ≡ is_err result }
+        ensures cause { HasCause self.old.faults self.new.faults result }
+    {
+        let answer = self.disk.drop_folder(name);
         self.failed = answer.is_err();
         answer
     }

@@ -7,7 +7,7 @@ use Rattle.fsfs_disk.specs.Crash.{AllImages}
 use Rattle.fsfs_disk.proofs.CrashLemmas.{files_are_image}
 use Rattle.fsfs_stands.proofs.OneHistory.{one_stood_for}
 use Rattle.fsfs_create.specs.NewStore.{IsNewStore}
-use Rattle.fsfs_top.specs.Scripts.{HasHistory}
+use Rattle.fsfs_example_calls.specs.Scripts.{HasHistory}
 use Rattle.fsfs_examples.specs.KnownRuns.{IsMade, StandsForNew}
 
 -- ---- a creation

@@ -1,5 +1,5 @@
 -- What a run of svnjobs does over a repository that was just made.
-use Rattle.std.specs.Prelude.{◌≡◌, ℕ, List, length, true, Option, IfSome, Result}
+use Rattle.std.specs.Prelude.{◌≡◌, ℕ, List, length, true, Option, IfSome}
 use Rattle.fsfs_base.specs.Fields.Dates.{IsDateAt}
 use Rattle.fsfs_tree.specs.Revisions.{Revision}
 use Rattle.fsfs_tree.specs.Answers.{new_history}
@@ -9,13 +9,12 @@ use Rattle.fsfs_stands.specs.Files.{StandsFor}
 use Rattle.fsfs_stands.specs.Same.{AreSameRevisions}
 use Rattle.fsfs_create.specs.NewStore.{IsNewStore}
 use Rattle.fsfs_cli.specs.Readings.{Asks}
-use Rattle.fsfs_cli.specs.declared.faults.fault.Fault.{Fault}
 use Rattle.fsfs_cli.specs.declared.request.JobRun.{JobRun}
 use Rattle.fsfs_cli.specs.declared.request.Task.TheVariants.{RunJobs}
 use Rattle.fsfs_cli.specs.declared.tool.Tool.TheVariants.{Jobs}
-use Rattle.fsfs_top.specs.Command.{Tells}
-use Rattle.fsfs_top.specs.Scenes.{HostScene, Scene, SinkScene, SourceScene}
-use Rattle.fsfs_top.specs.Scripts.{DidJobs, ended_fault, ended_status}
+use Rattle.fsfs_example_calls.specs.Scenes.{HostScene, Scene, SinkScene, SourceScene}
+use Rattle.fsfs_example_calls.specs.JobsEnd.{JobsEnd}
+use Rattle.fsfs_example_calls.specs.Scripts.{DidJobs, TellsEnd, status_at}
 
 -- A repository was made on the disk, at a moment that the clock gave: what a crash now may leave is the new store. Or the disk tells nothing.
 abbrev pub IsMade : Option ℕ → Option Trace → Type 0
@@ -41,8 +40,8 @@ pub record RanOverNew (words : List (List ℕ)) (clock : Option ℕ) (out err : 
   -- what the clock gave next, if it tells
   pub next : Option ℕ
   -- what became of the script, told as over a disk that is known to have a history
-  pub ended : Result ℕ Fault
-  pub did : DidJobs words true next (record { host = begun; out = out; input = input }) after ended
-  -- to which belong the status and the line about a fault
-  pub status_is : status ≡ ended_status ended
-  pub line_is : Tells Jobs err err_after (ended_fault ended)
+  pub end : JobsEnd
+  pub did : DidJobs words true next (record { host = begun; out = out; input = input }) after end
+  -- to which belong the status and a line about each fault
+  pub status_is : status ≡ status_at end
+  pub lines_are : TellsEnd Jobs err err_after end

@@ -13,9 +13,9 @@ use Rattle.fsfs_machine.specs.declared.machine.Txn.{Txn}
 use Rattle.fsfs_machine.specs.Kept.{IsIn}
 use Rattle.fsfs_machine.specs.Machine.{revisions}
 use Rattle.fsfs_machine.proofs.Growing.{revisions_length}
-use Rattle.fsfs_turn.specs.Alone.{BringsNoDoubt, brings_doubt}
+use Rattle.fsfs_turn.specs.Alone.{BringsNoDoubt}
 use Rattle.fsfs_turn.specs.Views.{View, IsTxnOver}
-use Rattle.fsfs_repo.specs.Replies.{Committed, LeavesDoubt, Moved, Wrote}
+use Rattle.fsfs_repo.specs.Replies.{Committed, LeavesDoubt, Moved, Wrote, brings_doubt}
 use Rattle.fsfs_repo.specs.Works.{Landings}
 use Rattle.fsfs_repo.specs.Dating.{IsDatedAt}
 use Rattle.fsfs_repo.specs.Txns.Commits.{Bars, IfFailed, IsDropped, Meets}

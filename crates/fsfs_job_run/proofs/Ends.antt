@@ -15,7 +15,7 @@ use Rattle.fsfs_machine.specs.declared.machine.Step.{Step}
 use Rattle.fsfs_machine.specs.declared.machine.Step.TheVariants.{PurgeSpent}
 use Rattle.fsfs_machine.specs.declared.machine.Txn.{Txn}
 use Rattle.fsfs_machine.specs.Machine.{World, revisions}
-use Rattle.fsfs_turn.specs.Alone.{BringsNoDoubt, brings_doubt}
+use Rattle.fsfs_turn.specs.Alone.{BringsNoDoubt, leaves_stuck}
 use Rattle.fsfs_turn.specs.Learning.{with_spent}
 use Rattle.fsfs_turn.specs.Views.{View, Begins}
 use Rattle.fsfs_turn.proofs.Alone.{same_by_length, no_shorter}
@@ -57,13 +57,13 @@ module _ (knows : View → Type 0) (lone : IsLone knows) where
   purged_known : (lay : World → World) (step : Step) (v u : View) → IsCounted v → v.section ≡ None → knows u → HasPurged lay step v u → StaysKnown knows v
   purged_known lay step v u all none known p = (u, known, purge_stays lay step v u p all (lone.all u known) none, same_faults v u (ap {A = View} (λ z. z.pass.faults) p.is), ap {A = View} (λ z. z.pass.stuck) p.is, ap {A = View} (λ z. z.left) p.is)
 
-  not_purged_known : (place : DiskPlace) (lay : World → World) (step : Step) (v u : View) → brings_doubt place ≡ false → IsCounted v → v.section ≡ None → knows u → HasNotPurged place lay step v u → StaysKnown knows v
+  not_purged_known : (place : DiskPlace) (lay : World → World) (step : Step) (v u : View) → leaves_stuck place ≡ false → IsCounted v → v.section ≡ None → knows u → HasNotPurged place lay step v u → StaysKnown knows v
   not_purged_known place lay step v u harmless all none known p =
       (u, known, no_purge_stays place lay step v u p all (lone.all u known) none, fault_more place v u (ap {A = View} (λ z. z.pass.faults) p.is) harmless, ap {A = View} (λ z. z.pass.stuck) p.is, ap {A = View} (λ z. z.left) p.is)
 
   pub purges_stay : (lay : World → World) (step : Went → Step) (result : Result (Unit {0}) PurgeFault) (v : View) → IsCounted v → v.section ≡ None → Purges knows lay step result v → StaysKnown knows v
   purges_stay lay step (Ok done) v all none p = purged_known lay (step Fine) v p.0 all none p.1 p.2
-  purges_stay lay step (Err (DiskFault place)) v all none p = not_purged_known place lay (step p.2) v p.1 (ap brings_doubt p.0) all none p.3 p.5
+  purges_stay lay step (Err (DiskFault place)) v all none p = not_purged_known place lay (step p.2) v p.1 (ap leaves_stuck p.0) all none p.3 p.5
 
   dropped_stays : (gone : Bool) (name : ℕ) (m : View) → IsCounted m → m.section ≡ None → IsDropped knows gone name m → StaysKnown knows m
   dropped_stays true name m all none d = purged_known (with_spent name) (PurgeSpent m.number 0 Fine) m d.0 all none d.1 d.2

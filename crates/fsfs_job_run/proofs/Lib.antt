@@ -33,3 +33,7 @@ pub mod Full
 pub mod Unopened
 pub mod Bytes
 pub mod RunLemmas
+pub mod Unprinted
+pub use Rattle.fsfs_repo.proofs.Noted
+pub use Rattle.fsfs_repo.proofs.Pinning
+pub use Rattle.fsfs_repo.proofs.Shown

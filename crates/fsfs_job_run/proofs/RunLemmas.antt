@@ -162,7 +162,7 @@ held_all moment js was layout None u opened begins had none hist left leaves = t
 held_all moment js was layout (Some t) u opened begins had none hist left leaves = (holds, refl, doubt_left moment js u.seen leaves.doubt u.left (leaves.left none) hist leaves.follows left)
   where
     says : SaysFormat (small_texts u.since.files) (Known layout)
-    says = (were_own layout u.since.files (files_now t) (leaves.own (files_now t) (image_now u.since.operations t.first t.operations (files_now t) (files_are_image t.first t.operations)))).format
+    says = (were_own layout u.since (files_now t) (leaves.own (files_now t) (image_now u.since.operations t.first t.operations (files_now t) (files_are_image t.first t.operations)))).format
 
     long : length (revisions was) ≡ length was
     long = length-map was (λ (x : Recorded). x.revision)

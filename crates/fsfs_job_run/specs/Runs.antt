@@ -1,5 +1,5 @@
 -- What a run of a script does to a disk, its input and its output.
-use Rattle.std.specs.Prelude.{◌≡◌, ◌⊎◌, ◌≤◌, ◌<◌, ◌+◌, ◌++◌, ◌∷◌, [], ℕ, zero, suc, List, length, true, Option, Some, IfSome, option_map, Result, Ok, Err, slice_get}
+use Rattle.std.specs.Prelude.{◌≡◌, ◌⊎◌, ◌≤◌, ◌<◌, ◌+◌, ◌++◌, ◌∷◌, [], ℕ, zero, suc, List, length, Bool, true, false, Option, Some, IfSome, option_map, Result, Ok, Err, slice_get}
 use Rattle.fsfs_base.specs.Failures.{Rose}
 use Rattle.fsfs_base.specs.Files.{Files}
 use Rattle.fsfs_layout.specs.declared.layout.Layout.{Layout}
@@ -31,7 +31,7 @@ use Rattle.fsfs_cli.specs.CommandFaults.{fault_from_open, fault_from_script}
 use Rattle.fsfs_cli.specs.declared.faults.fault.Fault.{Fault}
 use Rattle.fsfs_cli.specs.declared.faults.fault.Fault.TheVariants.{Outside, Memory}
 use Rattle.fsfs_cli.specs.declared.faults.outside_fault.OutsideFault.TheVariants.{Write}
-use Rattle.fsfs_jobs.specs.Lines.{greatest_status, run_text}
+use Rattle.fsfs_jobs.specs.Lines.{checked_text, greatest_status}
 use Rattle.fsfs_jobs.specs.declared.answer.JobAnswer.{JobAnswer}
 use Rattle.fsfs_job_run.specs.Serial.Jobs.{StuckBehindDoubt, TellNoDoubt, bench_faults_in, tell_full}
 use Rattle.fsfs_job_run.specs.Serial.Listed.{LeavesListed}
@@ -72,7 +72,7 @@ pub record HoldsAll (since : Since) (t : Trace) (h now : List Revision) : Type 0
   pub layout : Layout
   pub laid : SaysFormat (small_texts since.files) (Known layout)
   -- that file and the others that say what a repository is are as they were then: so are its format, its identifier and its floor
-  pub lasting : (m : Files) → ImageSince since.operations t.first t.operations m → AreLasting since.files m
+  pub lasting : (m : Files) → ImageSince since.operations t.first t.operations m → AreLasting since m
   -- each revision that there was has the bytes that it had, packed or not
   pub bytes : (m : Files) → ImageSince since.operations t.first t.operations m → (r : ℕ) → r < length h → rev_bytes layout m r ≡ rev_bytes layout since.files r
   pub seen : List Recorded
@@ -118,11 +118,15 @@ pub record IsUntouched (a b : RunScene) : Type 0 where
   pub output : b.written ≡ a.written
   pub output_faults : b.write_faults ≡ a.write_faults
 
--- the lines of the jobs and the youngest revision were printed, and the status is the greatest that a line asks for; or the output failed, and a first
--- part was
+-- The lines of the jobs were printed, that of a check behind them where it found nothing wrong (`sound`), and the youngest revision; and the status is
+-- the greatest that a job's line asks for. Or the output failed, and a first part was.
+abbrev pub PrintsChecked : List JobAnswer → Bool → ℕ → Option (List ℕ) → Option (List ℕ) → ℕ → ℕ → Result ℕ Fault → Type 0
+PrintsChecked answers sound youngest old new before now (Ok status) = (status ≡ greatest_status answers) × Adds old new (checked_text answers sound youngest)
+PrintsChecked answers sound youngest old new before now (Err fault) = (fault ≡ Outside Write) × Rose before now × AddsFront old new (checked_text answers sound youngest)
+
+-- the same where there was no check: the lines of the jobs, and the youngest revision
 abbrev pub PrintsRun : List JobAnswer → ℕ → Option (List ℕ) → Option (List ℕ) → ℕ → ℕ → Result ℕ Fault → Type 0
-PrintsRun answers youngest old new before now (Ok status) = (status ≡ greatest_status answers) × Adds old new (run_text answers youngest)
-PrintsRun answers youngest old new before now (Err fault) = (fault ≡ Outside Write) × Rose before now × AddsFront old new (run_text answers youngest)
+PrintsRun answers youngest old new before now ended = PrintsChecked answers false youngest old new before now ended
 
 -- This number stands in `txn-current`, where the files stand for a history as `RanOver` has it. Of number 0 nothing is asked.
 abbrev pub IsNextName : Option Trace → ℕ → Type 0

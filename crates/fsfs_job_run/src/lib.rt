@@ -19,11 +19,15 @@ mod worker_laws;
 pub use bases::numbered;
 pub use begin_faults::of_begin;
 pub use ending::{barred, stopped};
+pub use fsfs_repo::{
+    CommitAnswer, HeldNodes, OpenedShared, SharedRepo, Standing, Txn, begin_txn, commit_txn,
+    purge_txn,
+};
 pub use job::do_job;
 pub use reads::jobs::read_job;
 pub use reads::text::read_text;
 pub use run::run_jobs;
-pub use running::{JobsDone, run_script, tell};
+pub use running::{JobsDone, do_script, run_script, tell, tell_if};
 pub use serial::job_gate::JobGate;
 pub use serial::laws::{
     edited_trees_are_maps, landed_clashes_are_clashes, listed_were_listed, runs_are_serial,

@@ -1,5 +1,5 @@
 //! A script is run.
-ghost use Rattle.std.specs.Prelude.{◌≡◌, ◌⊎◌, ◌≤◌, ℕ, length, true, None, option_map, IfOk, OnErr, IsTrue};
+ghost use Rattle.std.specs.Prelude.{◌≡◌, ◌⊎◌, ◌≤◌, ℕ, length, true, None, Err, option_map, IfOk, OnErr, IsTrue, MatchResult};
 ghost use Rattle.fsfs_base.specs.Failures.{Rose};
 ghost use Rattle.fsfs_disk.specs.Trace.{labels_now};
 ghost use Rattle.fsfs_machine.specs.Machine.{revisions};
@@ -11,7 +11,10 @@ ghost use Rattle.fsfs_job_run.specs.Serial.Jobs.{bench_faults_in};
 ghost use Rattle.fsfs_job_run.specs.Serial.Listed.{LeavesListed};
 ghost use Rattle.fsfs_job_run.specs.Workers.Lines.{disk_faults_in};
 ghost use Rattle.fsfs_job_run.specs.Running.{HasGiven};
-ghost use Rattle.fsfs_job_run.specs.Runs.{run_scene, PrintsRun, Ran, RunsScript};
+ghost use Rattle.fsfs_layout.specs.declared.opened.Opened.{Opened};
+ghost use Rattle.fsfs_job_run.specs.Openings.{OpensAs};
+ghost use Rattle.fsfs_job_run.specs.Runs.{run_scene, PrintsChecked, PrintsRun, Ran, RunsScript};
+ghost use Rattle.fsfs_job_run.specs.Unprinted.{WorksAlone};
 
 use crate::run_jobs;
 use crate::serial::output::print_run;
@@ -20,22 +23,25 @@ use fsfs_base::{Gate, RevNum, Sink, Source};
 use fsfs_cli::{Fault, OutsideFault};
 use fsfs_disk::Disk;
 use fsfs_jobs::JobAnswer;
+use fsfs_layout::Layout;
 use fsfs_repo::{OpenedRepo, Repo};
 use fsfs_script::{Job, read_script};
 use fsfs_turn::{Owned, Turns};
 use std::alloc::{AllocError, Global};
 
-/// What became of jobs, and the youngest revision behind them.
+/// What became of jobs, and the youngest revision behind them, in a repository of this layout.
 #[derive(Drop)]
 pub struct JobsDone {
     pub answers: Vec<JobAnswer>,
     pub youngest: RevNum,
+    pub layout: Layout,
 }
 
-// Does jobs in a repository, and gives its disk back. An `Err` is for want of memory, and then no job was done.
+// Does jobs in a repository of this layout, and gives its disk back. An `Err` is for want of memory, and then no job was done.
 fn do_jobs<D: Disk, G: Gate>(
     alloc: Global,
     repo: Repo<D>,
+    layout: Layout,
     jobs: &[Job],
     micros: u64,
     gate: &G,
@@ -45,6 +51,7 @@ fn do_jobs<D: Disk, G: Gate>(
     ensures does { (v : View) → ⟦<Owned<D> as Turns<()>>⟧.knows repo.turns v → v.section ≡ None → v.opened ≡ length v.seen → HoldBytes v.since.files v.seen → v.left ≡ None → are_harmless v.pass.faults ≡ true
         → IfOk result.1 (λ done. Ran micros v.since jobs.now done.answers.items done.youngest (revisions v.seen) (D.trace result.0)) }
     ensures each { IfOk result.1 (λ done. length done.answers.items ≡ length jobs.now) }
+    ensures laid { IfOk result.1 (λ done. done.layout ≡ layout) }
     ensures none { OnErr result.1 (D.trace result.0 ≡ D.trace repo.turns.disk) }
     // No transaction of theirs stays listed, unless a call of the disk failed.
     ensures listed { (least : ℕ) → HasGiven (⟦<Owned<D> as Turns<()>>⟧.knows repo.turns) least → LeavesListed least (length jobs.now) (option_map labels_now (D.trace repo.turns.disk)) (option_map labels_now (D.trace result.0)) ⊎ Rose (D.faults repo.turns.disk) (D.faults result.0) }
@@ -58,18 +65,70 @@ fn do_jobs<D: Disk, G: Gate>(
     let youngest = repo.youngest();
     let disk = repo.close();
     match answers {
-        Ok(answers) => (disk, Ok(JobsDone { answers, youngest })),
+        Ok(answers) => {
+            let done = JobsDone {
+                answers,
+                youngest,
+                layout,
+            };
+            (disk, Ok(done))
+        }
         Err(error) => (disk, Err(error)),
     }
 }
 
-/// Prints what became of jobs, and gives the greatest status that a line asks for.
-pub fn tell<O: Sink>(out: &mut O, done: &JobsDone) -> Result<u8, Fault>
-    ensures printed { PrintsRun done.now.answers.items done.now.youngest (O.written out.old) (O.written out.new) (O.faults out.old) (O.faults out.new) result }
+/// Prints what became of jobs, and that a check behind them found nothing wrong, where one did (`sound`); and gives the greatest status
+/// that a job's line asks for.
+pub fn tell<O: Sink>(out: &mut O, done: &JobsDone, sound: bool) -> Result<u8, Fault>
+    ensures printed { PrintsChecked done.now.answers.items sound done.now.youngest (O.written out.old) (O.written out.new) (O.faults out.old) (O.faults out.new) result }
 {
-    match print_run(out, &done.answers, done.youngest) {
+    match print_run(out, &done.answers, sound, done.youngest) {
         Ok(()) => Ok(greatest_status(&done.answers)),
         Err(_) => Err(Fault::Outside(OutsideFault::Write)),
+    }
+}
+
+/// Prints what became of jobs, where there are lines to print; and gives the greatest status that a job's line asks for.
+pub fn tell_if<O: Sink>(out: &mut O, done: Result<JobsDone, Fault>) -> Result<u8, Fault>
+    ensures { MatchResult done (λ d. PrintsRun d.answers.items d.youngest (O.written out.old) (O.written out.new) (O.faults out.old) (O.faults out.new) result)
+        (λ fault. (result ≡ Err fault) × (O.written out.new ≡ O.written out.old) × (O.faults out.new ≡ O.faults out.old)) }
+{
+    match done {
+        Ok(done) => tell(out, &done, false),
+        Err(fault) => Err(fault),
+    }
+}
+
+/// Opens the repository on a disk, reads a script to its end, and does its jobs one after another. A revision that a job adds has as its
+/// date the moment, in microseconds after 1970-01-01T00:00:00 UTC. Where the repository isn't opened or the script isn't read, no
+/// job is done.
+pub fn do_script<D: Disk, I: Source, G: Gate>(
+    alloc: Global,
+    disk: D,
+    input: &mut I,
+    micros: u64,
+    gate: &G,
+) -> (D, Result<JobsDone, Fault>)
+    requires right { IsTrue (D.may_write disk) }
+    requires moment { micros ≤ 4102444799999999 }
+    ensures works { WorksAlone micros (D.faults disk) (D.faults result.0) (λ n. RoseBy n 0 (D.bench_faults result.0)) (D.trace disk) (D.trace result.0) (I.remaining input.old) (I.remaining input.new) (I.faults input.old) (I.faults input.new) result.1 }
+    // The layout is the one that the opening read.
+    ensures laid { IfOk result.1 (λ done. (o : Opened) × OpensAs (D.trace disk) o × (done.layout ≡ o.layout)) }
+    ensures mounted { D.mount_path result.0 ≡ D.mount_path disk }
+    ensures later { D.faults disk ≤ D.faults result.0 }
+{
+    let OpenedRepo { repo, said } = match Repo::open(alloc, disk) {
+        Ok(opened) => opened,
+        Err(unopened) => return (unopened.disk, Err(Fault::from(unopened.why))),
+    };
+    let jobs = match read_script(alloc, input) {
+        Ok(jobs) => jobs,
+        Err(error) => return (repo.close(), Err(Fault::from(error))),
+    };
+    let (disk, done) = do_jobs(alloc, repo, said.layout, jobs.as_slice(), micros, gate);
+    match done {
+        Ok(done) => (disk, Ok(done)),
+        Err(_) => (disk, Err(Fault::Memory)),
     }
 }
 
@@ -92,17 +151,6 @@ pub fn run_script<D: Disk, I: Source, O: Sink, G: Gate>(
     ensures mounted { D.mount_path result.0 ≡ D.mount_path disk }
     ensures later { D.faults disk ≤ D.faults result.0 }
 {
-    let repo = match Repo::open(alloc, disk) {
-        Ok(OpenedRepo { repo, .. }) => repo,
-        Err(unopened) => return (unopened.disk, Err(Fault::from(unopened.why))),
-    };
-    let jobs = match read_script(alloc, input) {
-        Ok(jobs) => jobs,
-        Err(error) => return (repo.close(), Err(Fault::from(error))),
-    };
-    let (disk, done) = do_jobs(alloc, repo, jobs.as_slice(), micros, gate);
-    match done {
-        Ok(done) => (disk, tell(out, &done)),
-        Err(_) => (disk, Err(Fault::Memory)),
-    }
+    let (disk, done) = do_script(alloc, disk, input, micros, gate);
+    (disk, tell_if(out, done))
 }

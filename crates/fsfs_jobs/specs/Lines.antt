@@ -1,5 +1,5 @@
 -- The line of each job, and the status.
-use Rattle.std.specs.Prelude.{ℕ, ◌+◌, max, List, [], ◌∷◌, ◌++◌, codes, decimal}
+use Rattle.std.specs.Prelude.{ℕ, ◌+◌, max, Bool, true, false, List, [], ◌∷◌, ◌++◌, codes, decimal}
 use Rattle.hex.specs.Hex.{encode_lower}
 use Rattle.fsfs_base.specs.Paths.{path_text}
 use Rattle.fsfs_cli.specs.Lines.{fault_words, status_of}
@@ -59,6 +59,19 @@ job_lines number (answer ∷ answers) = job_line number answer ++ job_lines (num
 abbrev pub youngest_line : ℕ → List ℕ
 youngest_line rev = codes "youngest " ++ decimal rev ++ codes "\n"
 
+-- what is told of a check behind the jobs: that it found nothing wrong up to the youngest revision; or nothing
+abbrev pub sound_text : Bool → ℕ → List ℕ
+sound_text true rev = codes "sound r" ++ decimal rev ++ codes "\n"
+sound_text false rev = []
+
 -- all that a run prints
 abbrev pub run_text : List JobAnswer → ℕ → List ℕ
 run_text answers youngest = job_lines 1 answers ++ youngest_line youngest
+
+-- what a run with a check tells behind the lines of its jobs
+abbrev pub ending_text : Bool → ℕ → List ℕ
+ending_text sound youngest = sound_text sound youngest ++ youngest_line youngest
+
+-- all that it prints
+abbrev pub checked_text : List JobAnswer → Bool → ℕ → List ℕ
+checked_text answers sound youngest = job_lines 1 answers ++ ending_text sound youngest

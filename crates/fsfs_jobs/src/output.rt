@@ -1,7 +1,7 @@
 //! Printing the line of a job. It takes no memory.
-ghost use Rattle.std.specs.Prelude.{◌≡◌};
+ghost use Rattle.std.specs.Prelude.{◌≡◌, true};
 ghost use Rattle.fsfs_base.specs.Output.{Prints};
-ghost use Rattle.fsfs_jobs.specs.Lines.{stop_words, job_line, youngest_line};
+ghost use Rattle.fsfs_jobs.specs.Lines.{stop_words, job_line, sound_text, youngest_line};
 ghost use Rattle.fsfs_jobs.specs.Pieces.{answer_back};
 
 use crate::answer::JobAnswer;
@@ -44,6 +44,27 @@ pub fn print_job_line<S: Sink>(sink: &mut S, number: u64, answer: &JobAnswer) ->
     print(sink, line_front(number, answer).as_str().as_bytes())?;
     print_back(sink, answer)?;
     print(sink, b"\n")
+}
+
+fn sound_line(rev: RevNum) -> ArrayString<32>
+    ensures { result.bytes ≡ sound_text true rev }
+{
+    let mut text = ArrayString::new();
+    text.push_str("sound r");
+    text.push_str(Buffer::new().format(rev.get() as u64));
+    text.push_str("\n");
+    text
+}
+
+/// Writes the line of a check that found nothing wrong up to this revision; nothing of another.
+pub fn print_sound<S: Sink>(sink: &mut S, sound: bool, rev: RevNum) -> Result<(), Failed>
+    ensures printed { Prints (S.written sink.old) (S.written sink.new) (sound_text sound rev) (S.faults sink.old) (S.faults sink.new) result }
+{
+    if sound {
+        print(sink, sound_line(rev).as_str().as_bytes())
+    } else {
+        Ok(())
+    }
 }
 
 fn youngest_text(rev: RevNum) -> ArrayString<32>

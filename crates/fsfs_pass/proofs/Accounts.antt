@@ -8,7 +8,7 @@ use lib.ListN.{get_elem?}
 use Rattle.atomic_table.proofs.Lists.{at_set, set_else}
 use Rattle.fsfs_base.specs.declared.places.place.DiskPlace.{DiskPlace}
 use Rattle.fsfs_machine.specs.declared.machine.Coming.{Coming}
-use Rattle.fsfs_turn.specs.Alone.{are_harmless, brings_doubt, is_doubtful_at}
+use Rattle.fsfs_turn.specs.Alone.{are_harmless, leaves_stuck, is_doubtful_at}
 use Rattle.fsfs_turn.specs.Views.{is_held}
 use Rattle.fsfs_pass.specs.declared.seats.seat_view.SeatView.{SeatView}
 use Rattle.fsfs_pass.specs.Seats.{is_left}
@@ -20,7 +20,7 @@ use Rattle.fsfs_pass.proofs.Kinships.{set_there}
 -- those of two are harmless where both are
 pub harmless_both : (a b : List DiskPlace) → are_harmless (a ++ b) ≡ true → (are_harmless a ≡ true) × (are_harmless b ≡ true)
 harmless_both [] b e = (refl, e)
-harmless_both (x ∷ a) b e = by_test (brings_doubt x) e (harmless_both a b)
+harmless_both (x ∷ a) b e = by_test (leaves_stuck x) e (harmless_both a b)
   where
     by_test : (c : Bool) → cond c false (are_harmless (a ++ b)) ≡ true → (are_harmless (a ++ b) ≡ true → (are_harmless a ≡ true) × (are_harmless b ≡ true)) → (cond c false (are_harmless a) ≡ true) × (are_harmless b ≡ true)
     by_test true e rest = absurd cc

@@ -1,9 +1,9 @@
 -- A commit's first call, as the disk goes back.
-use Rattle.std.proofs.Common.{◌≡◌, ◌⊎◌, ◌<◌, ℕ, List, [], ◌∷◌, length, true, false, ⊎_elim, inl, inr, refl, sym, ap, subst, ◌∙◌, arith, ◌≤◌}
-use Rattle.std.specs.Prelude.{Option, Some, Bool, OnErr}
+use Rattle.std.proofs.Common.{◌≡◌, ◌<◌, ℕ, List, [], ◌∷◌, length, true, ⊎_elim, inl, refl, sym, ap, subst, ◌∙◌, arith, ◌≤◌}
+use Rattle.std.specs.Prelude.{Option, Some}
 use mathlib.Core.Option.{none}
 use Rattle.atomic_table.specs.Table.{step, Allows}
-use Rattle.fsfs_disk.specs.Trace.{Trace, Performs, StaysAt}
+use Rattle.fsfs_disk.specs.Trace.{Trace, files_now}
 use Rattle.fsfs_disk.specs.Trace as real
 use Rattle.fsfs_machine.specs.declared.machine.Went.{Went}
 use Rattle.fsfs_machine.specs.Machine.{stuck_place}
@@ -20,17 +20,11 @@ use Rattle.fsfs_pass.specs.Tells.{Sat}
 use Rattle.fsfs_turn.specs.declared.adoption.Adoption.{Adoption}
 use Rattle.fsfs_pass.specs.SeatCalls.Made.{Made, carried, failed_of, once}
 use Rattle.fsfs_pass.specs.SeatCalls.Tells.{MayAdoptIt, AdoptedBy, IsPutOf, adopted_back}
-use Rattle.fsfs_pass.proofs.Lasting.{IsPassingChange, HasPassingName, rev_passes}
+use Rattle.fsfs_pass.proofs.Lasting.{IsPassingChange, HasPassingName, rev_passes, lasts_rises}
 use Rattle.fsfs_pass.proofs.FilesLast.{made_lasts, made_own}
 use Rattle.fsfs_pass.proofs.LabelsStay.{IsByNames, made_stay}
 use Rattle.fsfs_pass.proofs.Going.{IsShort, StaysSure, after_more, Turn, gives_so}
-use Rattle.fsfs_pass.proofs.SectionCalls.{result_of, ended_so, made_well, put_ill, made_told, adopted_stays}
-
--- a bench's file that wasn't given its name, or was though the call failed
-file_ill : (failed : Bool) (name bytes : List ℕ) (old new : Option Trace) → Made failed (real.Adopt name bytes) old new
-    → OnErr (result_of failed) ((StaysAt (real.Adopt name bytes) old new × Unit {0}) ⊎ (Performs (real.Adopt name bytes) old new × Unit {0}))
-file_ill false name bytes old new m = tt
-file_ill true name bytes old new m = ⊎_elim (λ same. inl (inl same, tt)) (λ more. ⊎_elim (λ tried. inl (inr tried, tt)) (λ done. inr (done, tt)) more) m
+use Rattle.fsfs_pass.proofs.SectionCalls.{result_of, ended_so, made_well, put_ill, file_ill, made_told, adopted_stays}
 
 pub adopted_turn : (me : SeatView) (d : DiskSeen) (t : Option Trace) (a : Adoption) (bytes name : List ℕ) (change : real.NameChange) → MayAdoptIt (view_of me) a bytes → name ≡ rev_name (view_of me) (length me.seen) → IsPutOf name bytes change → Made d.failed change t d.trace
     → Turn me d t (AdoptedBy a bytes d.failed (view_of me))
@@ -41,9 +35,9 @@ adopted_turn me d t a bytes name change may named put made told old is young w s
       c.2,
       after_more me.layout me.low young (stuck_place w.lock) c.0 w v (λ u. Adopted a.txn a.properties a.next bytes c.1 v u) (λ u. StaysSure w.given v u × AdoptedBy a bytes d.failed v u)
           (λ u _ k. (adopted_stays a.txn a.properties a.next bytes c.1 w.given v u k, (c.1, ended_so d.failed c.1 c.3, k))) c.4,
-      made_lasts me.layout (length w.history) old c.0 d.failed change (passes put (all c.4)) (subst (λ o. Made d.failed change (Some old) o) c.2 here),
+      made_lasts me.layout (length w.history) old c.0 d.failed change (passes put (all c.4)) (lasts_rises me.layout me.low young (stuck_place w.lock) old c.0 w v (λ u. Adopted a.txn a.properties a.next bytes c.1 v u) store c.4) (subst (λ o. Made d.failed change (Some old) o) c.2 here),
       made_own me.layout me.since old c.0 d.failed change spares (subst (λ o. Made d.failed change (Some old) o) c.2 here),
-      made_stay me.given old c.0 d.failed change by_names (subst (λ o. Made d.failed change (Some old) o) c.2 here),
+      made_stay me.since.packs me.given old c.0 d.failed change by_names (subst (λ o. Made d.failed change (Some old) o) c.2 here),
     )
   where
     v : View
@@ -57,18 +51,18 @@ adopted_turn me d t a bytes name change may named put made told old is young w s
     all k = let e : length v.seen ≡ length w.history = sym (ap (λ (x : View). length x.seen) k.turned.is) ∙ ap length k.all in omega (arith, e)
 
     -- its name is that of a revision to come
-    passes : IsPutOf name bytes change → length w.history ≤ length v.seen → IsPassingChange me.layout (length w.history) change
-    passes put le = let rev : HasPassingName me.layout (length w.history) name = subst (λ n. HasPassingName me.layout (length w.history) n) (sym named) (rev_passes (length w.history) v may.fits le) in
-        ⊎_elim (λ same. subst (λ k. IsPassingChange me.layout (length w.history) k) (sym same) rev) (λ same. subst (λ k. IsPassingChange me.layout (length w.history) k) (sym same) rev) put
+    passes : IsPutOf name bytes change → length w.history ≤ length v.seen → IsPassingChange me.layout (length w.history) (files_now old) change
+    passes put le = let rev : HasPassingName me.layout (length w.history) (files_now old) name = subst (λ n. HasPassingName me.layout (length w.history) (files_now old) n) (sym named) (rev_passes (length w.history) (files_now old) v may.fits le) in
+        ⊎_elim (λ same. subst (λ k. IsPassingChange me.layout (length w.history) (files_now old) k) (sym same) rev) (λ same. subst (λ k. IsPassingChange me.layout (length w.history) (files_now old) k) (sym same) rev) put
 
     -- and none of those that no turn touches
-    spares : SparesOwn change
-    spares = let apart : IsNotOwn name = adopt_spares v a.txn a.properties a.next bytes may name named in
-        ⊎_elim (λ same. subst (λ k. SparesOwn k) (sym same) apart) (λ same. subst (λ k. SparesOwn k) (sym same) apart) put
+    spares : SparesOwn me.since.packs change
+    spares = let apart : IsNotOwn me.since.packs name = adopt_spares v a.txn a.properties a.next bytes may name named in
+        ⊎_elim (λ same. subst (λ k. SparesOwn me.since.packs k) (sym same) apart) (λ same. subst (λ k. SparesOwn me.since.packs k) (sym same) apart) put
 
     -- nor a label
-    by_names : IsByNames me.given change
-    by_names = ⊎_elim (λ same. subst (λ k. IsByNames me.given k) (sym same) tt) (λ same. subst (λ k. IsByNames me.given k) (sym same) tt) put
+    by_names : IsByNames me.since.packs me.given change
+    by_names = ⊎_elim (λ same. subst (λ k. IsByNames me.since.packs me.given k) (sym same) tt) (λ same. subst (λ k. IsByNames me.since.packs me.given k) (sym same) tt) put
 
     comes : IsPutOf name bytes change → Comes me.layout me.low young (stuck_place w.lock) d.trace w v (result_of d.failed) (λ went u. Adopted a.txn a.properties a.next bytes went v u)
     comes put = ⊎_elim

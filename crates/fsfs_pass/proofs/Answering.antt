@@ -1,5 +1,5 @@
 -- What a call tells, by its answer.
-use Rattle.std.proofs.Common.{◌≡◌, ◌≤◌, ◌+◌, ◌-◌, ◌^◌, ℕ, List, true, false, ⊎_elim, inl, inr, refl, sym, ap, subst, ◌∙◌, arith}
+use Rattle.std.proofs.Common.{◌≡◌, ◌≢◌, ◌≤◌, ◌+◌, ◌-◌, ◌^◌, ℕ, List, true, false, ⊎_elim, inl, inr, refl, sym, ap, subst, ◌∙◌, arith}
 use Rattle.std.specs.Prelude.{is_some, Option, Some, None, Bool, Result, Ok, Err, OnOk, OnErr, IfOk, is_err, min, MatchOption, unwrap_or, option_map}
 use Rattle.std.proofs.Math.Nat.{min-le_left}
 use Rattle.fsfs_base.specs.Files.{Files}
@@ -13,7 +13,9 @@ use Rattle.fsfs_machine.specs.declared.machine.Drawn.{Drawn}
 use Rattle.fsfs_machine.specs.declared.machine.Txn.{Txn}
 use Rattle.fsfs_machine.specs.declared.machine.Went.{Went}
 use Rattle.fsfs_machine.specs.Kept.{IsIn}
-use Rattle.fsfs_turn.specs.Views.{View, IsDue, Answers, Called}
+use Rattle.fsfs_base.specs.declared.places.place.DiskPlace.TheVariants.{MakeBench, Remove}
+use Rattle.fsfs_turn.specs.Packing.{DoneBeside, MayBenchPack, MayRemove, Removal}
+use Rattle.fsfs_turn.specs.Views.{View, IsDue, Answers, Called, is_held, rev_name}
 use Rattle.fsfs_turn.specs.declared.adoption.Adoption.{Adoption}
 use Rattle.fsfs_turn.specs.Learning.{MayMake, BenchMade, MayPurge, Purged, SpentPurged}
 use Rattle.fsfs_disk.specs.Seen.{DiskSeen, IsLater}
@@ -22,7 +24,7 @@ use Rattle.fsfs_pass.specs.declared.seats.seat_view.SeatView.{SeatView}
 use Rattle.fsfs_pass.specs.Seats.{view_of}
 use Rattle.fsfs_pass.specs.Met.{seat_store}
 use Rattle.fsfs_pass.specs.SeatCalls.Made.{Made, Dropped, Ended, once, risen, went_of}
-use Rattle.fsfs_pass.specs.SeatCalls.Tells.{IsBack, CalledBy, AdoptedBy, AdoptedAs, BenchedBy, PurgedBy}
+use Rattle.fsfs_pass.specs.SeatCalls.Tells.{IsBack, CalledBy, AdoptedBy, AdoptedAs, BenchedBy, PurgedBy, BesideBy, RemovedBy}
 
 -- ---- the disk behind the call
 
@@ -75,6 +77,19 @@ made_adopt failed name bytes old new without held left (Ok x) is ok err = subst 
 made_adopt failed name bytes old new without held left (Err e) is ok err = subst (λ f. Made f (real.Adopt name bytes) old new) (sym is)
     (⊎_elim (λ stays. ⊎_elim (λ same. inl same) (λ tried. inr (inl tried)) stays.0) (λ gone. inr (inr gone.0)) err)
 
+-- the answer says that a file was there, or that the call failed
+pub was_there : {E : Type 0} (result : Result Bool E) (b : Bool) → result ≡ Ok b → b ≡ true → result ≢ Ok false
+was_there result b is there gone = cc
+
+pub was_failed : {E : Type 0} (result : Result Bool E) (e : E) → result ≡ Err e → result ≢ Ok false
+was_failed result e is gone = cc
+
+-- a file that was there was taken away, or the call failed
+pub made_remove : {E : Type 0} (failed : Bool) (name : List ℕ) (old new : Option Trace) (result : Result Bool E) → result ≢ Ok false → failed ≡ is_err result → IfOk result (λ there. PerformsIfThere there (real.Remove name) old new) → OnErr result (FailsAt (real.Remove name) old new) → Made failed (real.Remove name) old new
+made_remove failed name old new (Ok true) there is ok err = subst (λ f. Made f (real.Remove name) old new) (sym is) ok
+made_remove failed name old new (Ok false) there is ok err = absurd (there refl)
+made_remove failed name old new (Err e) there is ok err = subst (λ f. Made f (real.Remove name) old new) (sym is) err
+
 pub made_drop : {E : Type 0} (failed : Bool) (l : Label) (old new : Option Trace) (result : Result Bool E) → failed ≡ is_err result → IfOk result (λ there. PerformsIfThere there (DropLabel l) old new) → OnErr result (FailsAt (DropLabel l) old new) → Dropped failed l old new
 made_drop failed l old new (Ok there) is ok err = subst (λ f. Dropped f l old new) (sym is) (there, ok)
 made_drop failed l old new (Err e) is ok err = subst (λ f. Dropped f l old new) (sym is) err
@@ -125,10 +140,27 @@ pub adopted_so : {X E : Type 0} (failed : Bool) (v u : View) (a : Adoption) (byt
 adopted_so failed v u a bytes result is k = (k.0, answers_so failed result k.0 is k.1, k.2)
 
 pub benched_so : {X E : Type 0} (failed : Bool) (v u : View) (x : Drawn) (result : Result X E) → failed ≡ is_err result → BenchedBy failed v u → MayMake v x → (went : Went) × Answers result went × BenchMade x went v u
-benched_so failed v u x result is benched may = let k = benched x may in (k.0, answers_so failed result k.0 is k.1, k.2)
+benched_so failed v u x result is benched may = let k = benched.made x may in (k.0, answers_so failed result k.0 is k.1, k.2)
 
 pub purged_so : {X E : Type 0} (failed : Bool) (v u : View) (txn : Txn) (result : Result X E) → failed ≡ is_err result → PurgedBy failed v u → MayPurge v txn → (went : Went) × Answers result went × Purged txn went v u
 purged_so failed v u txn result is purged may = let k = purged.under_way txn may in (k.0, answers_so failed result k.0 is k.1, k.2)
 
 pub spent_so : {X E : Type 0} (failed : Bool) (v u : View) (name : ℕ) (result : Result X E) → failed ≡ is_err result → PurgedBy failed v u → v.section ≡ None → IsIn name v.given → (went : Went) × Answers result went × SpentPurged name went v u
 spent_so failed v u name result is purged outside given = let k = purged.no_more name outside given in (k.0, answers_so failed result k.0 is k.1, k.2)
+
+pub benched_pack_so : {X E : Type 0} (failed : Bool) (v u : View) (k : ℕ) (result : Result X E) → failed ≡ is_err result → BenchedBy failed v u → MayBenchPack v k → (went : Went) × Answers result went × DoneBeside MakeBench went v u
+benched_pack_so failed v u k result is benched may = let b = benched.beside k may in (b.0, answers_so failed result b.0 is b.1, b.2)
+
+pub dropped_pack_so : {X E : Type 0} (failed : Bool) (v u : View) (result : Result X E) → failed ≡ is_err result → PurgedBy failed v u → is_held v.section ≡ true → (went : Went) × Answers result went × DoneBeside Remove went v u
+dropped_pack_so failed v u result is purged held = let b = purged.beside held in (b.0, answers_so failed result b.0 is b.1, b.2)
+
+-- ---- what goes by a pack
+
+pub beside_so : {X E : Type 0} (failed : Bool) (v u : View) (result : Result X E) → failed ≡ is_err result → BesideBy failed v u → (went : Went) × Answers result went × DoneBeside Remove went v u
+beside_so failed v u result is k = (k.0, answers_so failed result k.0 is k.1, k.2)
+
+-- where a file was there, or the call failed
+pub removed_so : {E : Type 0} (failed : Bool) (v u : View) (name : List ℕ) (r : ℕ) (result : Result Bool E) → result ≢ Ok false → failed ≡ is_err result → RemovedBy name failed v u → MayRemove v r → name ≡ rev_name v r → (went : Went) × Answers result went × Removal result r went v u
+removed_so failed v u name r (Ok true) there is removed may named = let k = removed r may named in (k.0, subst (λ f. Ended f k.0) is k.1, k.2)
+removed_so failed v u name r (Ok false) there is removed may named = absurd (there refl)
+removed_so failed v u name r (Err e) there is removed may named = let k = removed r may named in (k.0, subst (λ f. Ended f k.0) is k.1, k.2)

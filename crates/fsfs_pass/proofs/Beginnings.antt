@@ -66,7 +66,7 @@ one_seat P first p (suc j) v e = absurd (some-ne-none v (sym e))
 
 -- of no names everything is known
 nameless_sees : (w : World) (v : View) → Sees w v → Sees w (record v { given = [] })
-nameless_sees w v e = record { pass = e.pass; seen = e.seen; section = e.section; up = e.up; sure = e.sure; whole = e.whole; given = λ j i. absurd i; opened = e.opened; shown = e.shown; names = e.names }
+nameless_sees w v e = record { pass = e.pass; seen = e.seen; section = e.section; up = e.up; sure = e.sure; whole = e.whole; given = λ j i. absurd i; opened = e.opened; shown = e.shown; firm = e.firm; names = e.names }
 
 pub nameless_first : (layout : Layout) (low young : ℕ) (told : Option Trace) (v : SeatView) → IsFirst layout low young told v → IsFirst layout low young told (nameless_view v)
 nameless_first layout low young None v k = k
@@ -154,6 +154,6 @@ begins layout low young d first fits short k = record {
   met = λ j v e is_there. one_seat (λ j v. is_some v.met ≡ is_some d.trace) (nameless_view first) (first_is_met layout low young d.trace first k) j v e;
   alone = λ j v e sits all. one_seat (λ j v. v.met ≡ d.trace) (nameless_view first) (first_met layout low young d.trace first k) j v e;
   names = one_seat (λ j v. AreAbove first.given v.given) (nameless_view first) (λ k i. absurd i);
-  labels = keeps_itself first.given d.trace;
+  labels = keeps_itself first.since.packs first.given d.trace;
   store = λ t is. store_first layout low young t first (subst (λ o. IfSome o (λ z. HasShortFiles (files_now z))) is short) (subst (λ o. IsFirst layout low young o first) is k);
 }

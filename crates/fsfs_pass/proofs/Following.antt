@@ -1,12 +1,11 @@
 -- What a seat tells one who reads: what it has seen stands in the files that it met last, and files that it meets later follow these.
-use Rattle.std.proofs.Common.{◌≡◌, ◌<◌, ◌≤◌, ◌+◌, ◌-◌, ◌^◌, ℕ, suc, zero, List, [], ◌∷◌, ◌++◌, length, Bool, true, false, cond, inl, refl, sym, ap, subst, ◌∙◌, arith, append_assoc, length-append}
-use Rattle.std.specs.Prelude.{Option, Some, None, Ok, Result, if◌then◌else◌, nat_lt, unwrap_or, slice_get, option_map}
+use Rattle.std.proofs.Common.{◌≡◌, ◌⊎◌, ◌<◌, ◌≤◌, ◌+◌, ◌-◌, ◌^◌, ℕ, suc, zero, List, [], ◌∷◌, ◌++◌, length, Bool, true, false, inl, inr, ⊎_elim, refl, sym, ap, subst, ◌∙◌, arith, append_assoc, length-append}
+use Rattle.std.specs.Prelude.{Option, Some, None, Ok, Err, Result, if◌then◌else◌, nat_lt, slice_get, option_map}
 use Rattle.std.proofs.lemmas.Option.{slice_get_within}
 use Rattle.fsfs_base.specs.Files.{Files}
-use Rattle.fsfs_layout.specs.Layouts.{shard_of, place_in_shard}
 use Rattle.fsfs_layout.specs.declared.layout.Layout.{Layout}
-use Rattle.fsfs_revision.specs.declared.wrong.Refusal.{Refusal}
-use Rattle.fsfs_revision.specs.RevBytes.{rev_bytes, rev_file, by_floor, packed_bytes, or_missing, manifest_of, section_of, cut_from, floor_in}
+use Rattle.fsfs_base.specs.declared.small_fault.SmallFault.{SmallFault}
+use Rattle.fsfs_revision.specs.RevBytes.{rev_bytes, rev_file, floor_in}
 use Rattle.fsfs_revision.proofs.Roots.{is_less}
 use Rattle.fsfs_fetch.specs.Views.{Grows, is_below, is_packed, Follows, FilesLater, Later}
 use Rattle.fsfs_disk.specs.Trace.{Trace, files_now}
@@ -24,14 +23,30 @@ use Rattle.fsfs_pass.specs.Seats.{view_of}
 use Rattle.fsfs_pass.specs.Met.{Lasts, Met, known_last, seat_store, ground_of}
 
 pub lasts_same : (layout : Layout) (n : ℕ) (m : Files) → Lasts layout n m m
-lasts_same layout n m = record { own = λ r less fits. refl; floor = refl; manifest = λ r fits. refl; pack = λ r fits. refl }
+lasts_same layout n m = record { own = λ r less fits. inl refl; floor = λ f is. (f, is, omega arith); manifest = λ r fits packed. refl; pack = λ r fits packed. refl }
+
+-- what is below a floor is below a greater one
+below_on : (r : ℕ) (old new : Result ℕ SmallFault) → ((f : ℕ) → old ≡ Ok f → (g : ℕ) × (new ≡ Ok g) × (f ≤ g)) → is_below r old ≡ true → is_below r new ≡ true
+below_on r (Err fault) new rises below = absurd cc
+below_on r (Ok f) new rises below =
+    let g = rises f refl in
+    let less : r < f = is_less r f below in
+    let so : nat_lt r g.0 ≡ true = grind (arith, less, g.2) in
+    ap (λ o. is_below r o) g.1 ∙ so
+
+packed_on : (layout : Layout) (a b : Files) (r : ℕ) → ((f : ℕ) → floor_in layout a ≡ Ok f → (g : ℕ) × (floor_in layout b ≡ Ok g) × (f ≤ g)) → is_packed layout a r ≡ true → is_packed layout b r ≡ true
+unfolding is_packed
+packed_on layout a b r rises packed = below_on r (floor_in layout a) (floor_in layout b) rises packed
+
+own_on : (a b c : Option (List ℕ)) → (b ≡ a) ⊎ (b ≡ None) → (c ≡ b) ⊎ (c ≡ None) → (c ≡ a) ⊎ (c ≡ None)
+own_on a b c first second = ⊎_elim (λ same. ⊎_elim (λ before. inl (same ∙ before)) (λ gone. inr (same ∙ gone)) first) (λ gone. inr gone) second
 
 pub lasts_then : (layout : Layout) (n k : ℕ) (a b c : Files) → n ≤ k → Lasts layout n a b → Lasts layout k b c → Lasts layout n a c
 lasts_then layout n k a b c le x y = record {
-  own = λ r less fits. y.own r (omega (arith, less, le)) fits ∙ x.own r less fits;
-  floor = y.floor ∙ x.floor;
-  manifest = λ r fits. y.manifest r fits ∙ x.manifest r fits;
-  pack = λ r fits. y.pack r fits ∙ x.pack r fits;
+  own = λ r less fits. own_on (rev_file layout a r) (rev_file layout b r) (rev_file layout c r) (x.own r less fits) (y.own r (omega (arith, less, le)) fits);
+  floor = λ f is. let g = x.floor f is in let h = y.floor g.0 g.1 in (h.0, h.1, omega (arith, g.2, h.2));
+  manifest = λ r fits packed. y.manifest r fits (packed_on layout a b r x.floor packed) ∙ x.manifest r fits packed;
+  pack = λ r fits packed. y.pack r fits (packed_on layout a b r x.floor packed) ∙ x.pack r fits packed;
 }
 
 -- ---- as the table goes on
@@ -40,7 +55,7 @@ lasts_then layout n k a b c le x y = record {
 pub met_now : (layout : Layout) (low young : ℕ) (stuck : Option DiskPlace) (t : Trace) (w : World) (v : SeatView) → IsStore layout low young stuck t w → length v.seen ≤ length w.history → v.pass.least < length w.history → Met layout w t v t
 met_now layout low young stuck t w v s seen least = record {
   world = w;
-  store = record { trace = s.trace; size = s.size; whole = s.whole; kept = s.kept; shown = s.shown; coming = s.coming; low_is = refl; floor_is = s.floor_is ∙ sym s.low_is; level = s.level; young_is = refl; stuck_is = refl };
+  store = record { trace = s.trace; size = s.size; whole = s.whole; kept = s.kept; shown = s.shown; coming = s.coming; low_is = refl; young_is = refl; stuck_is = refl };
   low = refl;
   grown = begins_itself w.history;
   seen = seen;
@@ -69,12 +84,23 @@ met_after layout p w after now new t v u spares lasts seen least m = record {
 
 -- ---- what is read
 
+-- what stands in a line stands in one that goes on
+slice_get_front : (a b : List Recorded) (r : ℕ) (x : Recorded) → slice_get a r ≡ Some x → slice_get (a ++ b) r ≡ Some x
+slice_get_front [] b r x e = absurd cc
+slice_get_front (y ∷ ys) b zero x e = e
+slice_get_front (y ∷ ys) b (suc r) x e = slice_get_front ys b r x e
+
+there_within : (a : List Recorded) (r : ℕ) → r < length a → (x : Recorded) × (slice_get a r ≡ Some x)
+there_within [] r less = absurd (omega (arith, less))
+there_within (y ∷ ys) zero less = (y, refl)
+there_within (y ∷ ys) (suc r) less = there_within ys r (omega (arith, less))
+
 first_part : (a b : List Recorded) (r : ℕ) (x : Recorded) → r < length a → slice_get (a ++ b) r ≡ Some x → slice_get a r ≡ Some x
 first_part [] b r x less e = absurd (omega (arith, less))
 first_part (y ∷ ys) b zero x less e = e
 first_part (y ∷ ys) b (suc r) x less e = first_part ys b r x (omega (arith, less)) e
 
-module _ (layout : Layout) (w : World) (now t : Trace) (v : SeatView) (m : Met layout w now v t) where
+module _ (layout : Layout) (low young : ℕ) (stuck : Option DiskPlace) (w : World) (now t : Trace) (v : SeatView) (s : IsStore layout low young stuck now w) (m : Met layout w now v t) where
   fits : (r : ℕ) → r < length m.world.history → r < 2 ^ 32
   fits r less = all_fit layout m.world.low m.world.young (stuck_place m.world.lock) t m.world m.store r less
 
@@ -95,31 +121,26 @@ module _ (layout : Layout) (w : World) (now t : Trace) (v : SeatView) (m : Met l
       let most : shows.floor ≤ length m.world.history = shows.most in
       omega (arith, less, most)
 
-  abbrev part_by : ℕ → Option (List ℕ) → Option (List ℕ) → Result (List ℕ) Refusal
-  part_by r manifest pack = cut_from pack (section_of r (place_in_shard layout r) (manifest_of layout (shard_of layout r) (unwrap_or manifest [])) pack)
+  -- each revision of that history is one of the history now: both stores have its bytes
+  then_read : (r : ℕ) (x : Recorded) → slice_get m.world.history r ≡ Some x → rev_bytes layout (files_now t) r ≡ Ok x.bytes
+  then_read r x at = (history_reads layout m.world.low m.world.young (stuck_place m.world.lock) t m.world m.store (Grows r) None (tt {0}) r x at (omega arith)).bytes
 
-  part_same : (r : ℕ) → r < 2 ^ 32 → packed_bytes layout (files_now now) r ≡ packed_bytes layout (files_now t) r
-  unfolding packed_bytes
-  part_same r small = λ i. part_by r (m.lasts.manifest r small i) (m.lasts.pack r small i)
+  now_read : (r : ℕ) (x : Recorded) → slice_get m.world.history r ≡ Some x → rev_bytes layout (files_now now) r ≡ Ok x.bytes
+  now_read r x at = (history_reads layout low young stuck now w s (Grows r) None (tt {0}) r x (ap (λ l. slice_get l r) m.grown.1 ∙ slice_get_front m.world.history m.grown.0 r x at) (omega arith)).bytes
 
   bytes_same : (r : ℕ) → r < length m.world.history → rev_bytes layout (files_now now) r ≡ rev_bytes layout (files_now t) r
-  unfolding rev_bytes
-  bytes_same r less =
-      let same : cond (nat_lt r shows.floor) (packed_bytes layout (files_now now) r) (or_missing r (rev_file layout (files_now now) r)) ≡ cond (nat_lt r shows.floor) (packed_bytes layout (files_now t) r) (or_missing r (rev_file layout (files_now t) r))
-      = λ i. cond (nat_lt r shows.floor) (part_same r (fits r less) i) (or_missing r (m.lasts.own r less (fits r less) i)) in
-      ap (λ f. by_floor layout (files_now now) r f) (m.lasts.floor ∙ floor_is) ∙ same ∙ sym (ap (λ f. by_floor layout (files_now t) r f) floor_is)
+  bytes_same r less = let x = there_within m.world.history r less in now_read r x.0 x.1 ∙ sym (then_read r x.0 x.1)
 
   still_packed : (r : ℕ) → is_packed layout (files_now t) r ≡ true → is_packed layout (files_now now) r ≡ true
-  unfolding is_packed
-  still_packed r packed = ap (λ f. is_below r f) m.lasts.floor ∙ packed
+  still_packed r packed = packed_on layout (files_now t) (files_now now) r m.lasts.floor packed
 
   pub follows : (n : ℕ) → n < length m.world.history → Follows layout (Grows n) (files_now t) (files_now now)
   follows n within = record {
     bytes = λ r known. bytes_same r (omega (arith, known, within));
     packed = still_packed;
-    manifest = λ r packed. m.lasts.manifest r (fits r (packed_within r packed));
-    pack = λ r packed. m.lasts.pack r (fits r (packed_within r packed));
-    own = λ r known. let less : r < length m.world.history = omega (arith, known, within) in inl (m.lasts.own r less (fits r less));
+    manifest = λ r packed. m.lasts.manifest r (fits r (packed_within r packed)) packed;
+    pack = λ r packed. m.lasts.pack r (fits r (packed_within r packed)) packed;
+    own = λ r known. let less : r < length m.world.history = omega (arith, known, within) in m.lasts.own r less (fits r less);
   }
 
   last_within : v.told ≡ true → known_last v < length m.world.history
@@ -150,11 +171,11 @@ pub last_grows : (v u : SeatView) → v.told ≡ true → u.told ≡ true → v.
 last_grows v u a b least seen = subst (λ (y : Bool × Bool). (if y.0 then v.pass.least + (length v.seen - 1 - v.pass.least) else 0) ≤ (if y.1 then u.pass.least + (length u.seen - 1 - u.pass.least) else 0)) (λ i. (sym a i, sym b i)) (omega (arith, least, seen))
 
 -- what a seat that has met this now tells is later than what it told
-pub later_now : (w : World) (now t : Trace) (v u : SeatView) → Met v.layout w now v t → v.told ≡ true → v.met ≡ Some t → u.met ≡ Some now → u.layout ≡ v.layout → u.low ≡ v.low → known_last v ≤ known_last u → Later (seat_store v) (seat_store u)
-later_now w now t v u m told is now_is layout low reach = record {
+pub later_now : (low young : ℕ) (stuck : Option DiskPlace) (w : World) (now t : Trace) (v u : SeatView) → IsStore v.layout low young stuck now w → Met v.layout w now v t → v.told ≡ true → v.met ≡ Some t → u.met ≡ Some now → u.layout ≡ v.layout → u.low ≡ v.low → known_last v ≤ known_last u → Later (seat_store v) (seat_store u)
+later_now floor young stuck w now t v u s m told is now_is layout low reach = record {
   layout = layout;
   reach = reach;
-  files = subst (λ (o : Option Trace × Option Trace). FilesLater v.layout (Grows (known_last v)) (option_map files_now o.0) (option_map files_now o.1)) (λ i. (sym is i, sym now_is i)) (files_later v.layout w now t v m told);
+  files = subst (λ (o : Option Trace × Option Trace). FilesLater v.layout (Grows (known_last v)) (option_map files_now o.0) (option_map files_now o.1)) (λ i. (sym is i, sym now_is i)) (files_later v.layout floor young stuck w now t v s m told);
   below = λ i. record { layout = layout i; low = low i };
 }
 

@@ -53,14 +53,14 @@ word_stays p before after l = ⊎_elim
 -- ---- the seat that knows this
 
 abbrev pub seat_with : Bool → Option Trace → SeatView → View → SeatView
-seat_with failed left m u = record m { pass = u.pass; seen = u.seen; section = u.section; given = u.given; full = u.full; hand = Empty; met = left; failures = risen failed m.failures }
+seat_with failed left m u = record m { pass = u.pass; seen = u.seen; section = u.section; given = u.given; full = u.full; firm = u.firm; hand = Empty; met = left; failures = risen failed m.failures }
 
 -- one that knows what it knew, and whether a name is left
 abbrev pub seat_as : Bool → Option Trace → Bool → SeatView → SeatView
 seat_as failed left full m = record m { full = full; hand = Empty; met = left; failures = risen failed m.failures }
 
 pub seat_knows : (failed : Bool) (left : Option Trace) (m : SeatView) (u : View) → u.layout ≡ m.layout → u.since ≡ m.since → u.opened ≡ m.opened → u.number ≡ m.number → u.sure ≡ m.sure → u.left ≡ m.left → u ≡ view_of (seat_with failed left m u)
-seat_knows failed left m u layout since opened number sure doubt_is = λ i. record { layout = layout i; since = since i; opened = opened i; number = number i; pass = u.pass; seen = u.seen; section = u.section; sure = sure i; left = doubt_is i; given = u.given; full = u.full }
+seat_knows failed left m u layout since opened number sure doubt_is = λ i. record { layout = layout i; since = since i; opened = opened i; number = number i; pass = u.pass; seen = u.seen; section = u.section; sure = sure i; firm = u.firm; left = doubt_is i; given = u.given; full = u.full }
 
 -- Of each call: the pass is as sure as it was, was told no more, has no more revisions of its own, and found the lock stuck no more than before; who
 -- holds the lock holds it still; and its section is in doubt only behind a fault that leaves a revision so. A name that it didn't know to be
@@ -150,7 +150,7 @@ module _ (first : SeatView) (views : List SeatView) (lock young : ℕ) (t : Trac
         subst (λ b. cond b (me.pass.least + (length me.seen - 1 - me.pass.least)) 0 ≤ cond b (a.view.pass.least + (length a.view.seen - 1 - a.view.pass.least)) 0) (sym told) (omega (arith, seen, before, least))
 
     pub later_after : me.told ≡ true → Later (seat_store me) (seat_store after_call)
-    later_after told = later_now moved.world new own.met.0 me after_call
+    later_after told = later_now me.low young (stuck_place a.world.lock) moved.world new own.met.0 me after_call moved.store
         (met_after me.layout me.number w moved.world t new own.met.0 me me moved.spares lasts (omega arith) (omega arith) met_own) told own.met.1 left_is refl refl (further told)
 
     pub tells_after : P (view_of after_call)
@@ -162,7 +162,7 @@ module _ (first : SeatView) (views : List SeatView) (lock young : ℕ) (t : Trac
     as_it_was = seat_as failed left full (counting k me)
 
     sees_still : Sees w (view_of as_it_was)
-    sees_still = let e = own.sees in record { pass = e.pass; seen = e.seen; section = e.section; up = e.up; sure = e.sure; whole = e.whole; given = e.given; opened = e.opened; shown = e.shown; names = names }
+    sees_still = let e = own.sees in record { pass = e.pass; seen = e.seen; section = e.section; up = e.up; sure = e.sure; whole = e.whole; given = e.given; opened = e.opened; shown = e.shown; firm = e.firm; names = names }
 
     met_same : Met first.layout w t as_it_was t
     met_same = met_now first.layout first.low young (stuck_place w.lock) t w as_it_was s.store (seen_within w (view_of me) own.sees) (seen_of (length w.history) w.low (most_floor (may_rise w.lock) w.size w.floor) w.passes me.number me.pass s.store.kept.seen own.sees.pass).least
@@ -174,7 +174,7 @@ module _ (first : SeatView) (views : List SeatView) (lock young : ℕ) (t : Trac
     seen_still told = tells_seen w t t as_it_was (subst (λ l. Met l w t as_it_was t) (sym own.layout) met_same) (s.store.low_is ∙ sym own.low) told left_is sees_still
 
     pub later_still : me.told ≡ true → Later (seat_store me) (seat_store as_it_was)
-    later_still told = later_now w t own.met.0 me as_it_was met_own told own.met.1 left_is refl refl (omega arith)
+    later_still told = later_now first.low young (stuck_place w.lock) w t own.met.0 me as_it_was (subst (λ l. IsStore l first.low young (stuck_place w.lock) t w) (sym own.layout) s.store) met_own told own.met.1 left_is refl refl (omega arith)
 
 -- ---- the disk goes back
 
@@ -195,7 +195,7 @@ short_met (Some t) short = short
 -- that it may know that no name is left.
 abbrev pub Turn : SeatView → DiskSeen → Option Trace → (View → Type 0) → Type 0
 Turn me d t P = me.told ≡ true → (old : Trace) → t ≡ Some old → (young : ℕ) (w : World) → IsStore me.layout me.low young (stuck_place w.lock) old w → Sees w (view_of me) → Safe me.layout me.since old me.opened w.history (doubt w.lock)
-    → ((new : Trace) × (d.trace ≡ Some new) × IsAfter me.layout me.low young (stuck_place w.lock) new w (view_of me) (λ u. StaysSure w.given (view_of me) u × P u) × Lasts me.layout (length w.history) (files_now old) (files_now new) × OwnStays me.layout me.since old new × OthersStay me.given old new) ⊎ ((d.trace ≡ Some old) × ((full : Bool) × KnowsNames full me.section w.disk × P (record (view_of me) { full = full })))
+    → ((new : Trace) × (d.trace ≡ Some new) × IsAfter me.layout me.low young (stuck_place w.lock) new w (view_of me) (λ u. StaysSure w.given (view_of me) u × P u) × Lasts me.layout (length w.history) (files_now old) (files_now new) × OwnStays me.layout me.since old new × OthersStay me.since.packs me.given old new) ⊎ ((d.trace ≡ Some old) × ((full : Bool) × KnowsNames full me.section w.disk × P (record (view_of me) { full = full })))
 
 pub one_trace : (a b : Trace) → Some a ≡ Some b → a ≡ b
 one_trace a b e = cc
@@ -219,7 +219,7 @@ module _ (began : DiskSeen) (first : SeatView) (slots id : ℕ) (me : Sat) (d : 
   met_is = r.met id me.0 at (seat_stays me.0 sits) ∙ sym (r.told id me.0 at (seat_stays me.0 sits))
 
   -- the seat knows so much, and the table holds such a store
-  goes_so : (u : SeatView) → u.hand ≡ Empty → u.failures ≡ risen d.failed me.0.failures → u.bench_failures ≡ me.0.bench_failures + k → u.told ≡ me.0.told → u.kin ≡ me.0.kin → u.met ≡ d.trace → IsBack d.failed (counting k me.0) u → AreAbove first.given u.given → KeepsOthersOf first.given r.disk.trace d.trace → (me.0.told ≡ true → TellsSeen u.low (seat_store u) (view_of u)) → Later (seat_store me.0) (seat_store u) → (me.0.told ≡ true → P (view_of u))
+  goes_so : (u : SeatView) → u.hand ≡ Empty → u.failures ≡ risen d.failed me.0.failures → u.bench_failures ≡ me.0.bench_failures + k → u.told ≡ me.0.told → u.kin ≡ me.0.kin → u.met ≡ d.trace → IsBack d.failed (counting k me.0) u → AreAbove first.given u.given → KeepsOthersOf first.since.packs first.given r.disk.trace d.trace → (me.0.told ≡ true → TellsSeen u.low (seat_store u) (view_of u)) → Later (seat_store me.0) (seat_store u) → (me.0.told ≡ true → P (view_of u))
       → ((new : Trace) → d.trace ≡ Some new → Store first (slice_set s.views id u) r.lock r.young new) → Goes
   goes_so u hand failed benches told kin met back names keeps tells follows step store = (
     u,
@@ -232,8 +232,8 @@ module _ (began : DiskSeen) (first : SeatView) (slots id : ℕ) (me : Sat) (d : 
     ),
   )
 
-  keeps_at : (old new : Trace) → r.disk.trace ≡ Some old → d.trace ≡ Some new → KeepsOthers first.given (labels_now old) (labels_now new) → KeepsOthersOf first.given r.disk.trace d.trace
-  keeps_at old new was now keeps = subst (λ (o : Option Trace × Option Trace). KeepsOthersOf first.given o.0 o.1) (λ i. (sym was i, sym now i)) keeps
+  keeps_at : (old new : Trace) → r.disk.trace ≡ Some old → d.trace ≡ Some new → KeepsOthers first.since.packs first.given (labels_now old) (labels_now new) → KeepsOthersOf first.since.packs first.given r.disk.trace d.trace
+  keeps_at old new was now keeps = subst (λ (o : Option Trace × Option Trace). KeepsOthersOf first.since.packs first.given o.0 o.1) (λ i. (sym was i, sym now i)) keeps
 
   short_at : (new : Trace) → d.trace ≡ Some new → HasShortFiles (files_now new)
   short_at new is = subst (λ o. IfSome o (λ t. HasShortFiles (files_now t))) is short
@@ -243,7 +243,7 @@ module _ (began : DiskSeen) (first : SeatView) (slots id : ℕ) (me : Sat) (d : 
       let untold : me.0.told ≡ false = told_is ∙ ap (λ o. is_some o) is in
       goes_so (seat_as d.failed d.trace me.0.full (counting k me.0)) refl refl refl refl refl refl refl
       (r.names id me.0 at)
-      (subst (λ o. KeepsOthersOf first.given o d.trace) (sym (there ∙ is)) tt)
+      (subst (λ o. KeepsOthersOf first.since.packs first.given o d.trace) (sym (there ∙ is)) tt)
       (λ told. let e : true ≡ false = sym told ∙ untold in absurd cc)
       (later_untold me.0 (seat_as d.failed d.trace me.0.full (counting k me.0)) untold (none_of me.0.met (met_is ∙ untold)) refl refl)
       (λ told. let e : true ≡ false = sym told ∙ untold in absurd cc)
@@ -252,10 +252,10 @@ module _ (began : DiskSeen) (first : SeatView) (slots id : ℕ) (me : Sat) (d : 
       let held : Store first s.views r.lock r.young old = r.store old (there ∙ is) in
       let told : me.0.told ≡ true = told_is ∙ ap (λ o. is_some o) is in
       ⊎_elim
-      (λ (x : (new : Trace) × (d.trace ≡ Some new) × IsAfter me.0.layout me.0.low r.young (stuck_place held.world.lock) new held.world (view_of me.0) (λ u. StaysSure held.world.given (view_of me.0) u × P u) × Lasts me.0.layout (length held.world.history) (files_now old) (files_now new) × OwnStays me.0.layout me.0.since old new × OthersStay me.0.given old new).
+      (λ (x : (new : Trace) × (d.trace ≡ Some new) × IsAfter me.0.layout me.0.low r.young (stuck_place held.world.lock) new held.world (view_of me.0) (λ u. StaysSure held.world.given (view_of me.0) u × P u) × Lasts me.0.layout (length held.world.history) (files_now old) (files_now new) × OwnStays me.0.layout me.0.since old new × OthersStay me.0.since.packs me.0.given old new).
       goes_so (seat_with d.failed d.trace (counting k me.0) x.2.view) refl refl refl refl refl refl refl
       (λ n i. ⊎_elim (λ was. r.names id me.0 at n was) (λ above. below_some n held.world.given first.given above held.before) (x.2.turned.0.names n i))
-      (keeps_at old x.0 (there ∙ is) x.1 (stay_keeps first.given me.0.given old x.0 (r.names id me.0 at) x.5))
+      (keeps_at old x.0 (there ∙ is) x.1 (stay_keeps first.since.packs first.given me.0.given old x.0 (r.names id me.0 at) (subst (λ b. OthersStay b me.0.given old x.0) (ap (λ (n : Since). n.packs) (seated first s.views r.lock r.young old held id me.0 (at, sits)).since) x.5)))
       (seen_after first s.views r.lock r.young old held id me.0 (at, sits) k d.failed d.trace x.0 x.1 P x.2 x.3 x.4 (short_at x.0 x.1))
       (later_after first s.views r.lock r.young old held id me.0 (at, sits) k d.failed d.trace x.0 x.1 P x.2 x.3 x.4 (short_at x.0 x.1) told)
       (λ _. tells_after first s.views r.lock r.young old held id me.0 (at, sits) k d.failed d.trace x.0 x.1 P x.2 x.3 x.4 (short_at x.0 x.1))

@@ -21,6 +21,7 @@ use Rattle.fsfs_machine.proofs.Steps.{step_keeps}
 use Rattle.fsfs_machine.proofs.Whose.{length_at}
 use Rattle.fsfs_turn.specs.Alone.{are_harmless}
 use Rattle.fsfs_turn.specs.Bytes.{AllShow}
+use Rattle.fsfs_turn.specs.Standing.{IsStore}
 use Rattle.fsfs_turn.specs.Views.{Sees, Begins, is_held, with_txns}
 use Rattle.fsfs_turn.proofs.Stepping.{kept_bare, at_itself}
 use Rattle.fsfs_turn.proofs.Locking.{there_in}
@@ -184,6 +185,7 @@ module _ (first : SeatView) (views : List SeatView) (lock young : ℕ) (t : Trac
     given = λ k i. ⊎_elim (λ a. sees.given k a) (λ b. knows.given k b) (in_either k me.given it.given i);
     opened = sees.opened;
     shown = by_seen (λ more less. AllShow more) me it (λ le. sees.shown) (λ lt. knows.shown);
+    firm = sees.firm;
     names = record { full = λ e. ⊎_elim (λ a. sees.names.full a) (λ b. knows.names.full b) (either_true me.full it.full e); drawing = sees.names.drawing };
   }
 
@@ -193,7 +195,7 @@ module _ (first : SeatView) (views : List SeatView) (lock young : ℕ) (t : Trac
       (λ lt. subst (λ (l : List Recorded). Begins it.seen l) (sym sees.seen) (subst (λ (l : List Recorded). Begins l (take me.pass.seen w.history)) (sym knows.seen) (part_begins w.history me.pass.seen it.pass.seen (omega (arith, lt)))))
 
   join_leaves : Spares me.number w join_on
-  join_leaves = record { passes = λ q far. at_other w.passes me.number q (joined it.pass) far; count = length_at w.passes me.number (joined it.pass); grows = begins_itself w.history; locks = λ q far. refl; still = λ q z far held. (refl, refl); floor = refl; low = refl; given = λ k i. i; full = λ last. last; disk = λ q z far held. refl }
+  join_leaves = record { passes = λ q far. at_other w.passes me.number q (joined it.pass) far; count = length_at w.passes me.number (joined it.pass); grows = begins_itself w.history; locks = λ q far. refl; still = λ q z far held. (refl, refl); floor = λ q z far held. refl; shown = λ f is. (f, is, omega arith); low = refl; given = λ k i. i; full = λ last. last; disk = λ q z far held. refl }
 
   -- ---- what it has met
 
@@ -393,7 +395,7 @@ module _ (first : SeatView) (views : List SeatView) (lock young : ℕ) (t : Trac
   pub join_goes : Store first left_on lock young t
   join_goes = record {
     world = join_on;
-    store = (let k = s.store in record { trace = k.trace; size = k.size; whole = k.whole; kept = join_kept; shown = k.shown; coming = k.coming; low_is = k.low_is; floor_is = k.floor_is; level = k.level; young_is = k.young_is; stuck_is = k.stuck_is });
+    store = (let k = s.store in record { trace = k.trace; size = k.size; whole = k.whole; kept = join_kept; shown = k.shown; coming = k.coming; low_is = k.low_is; young_is = k.young_is; stuck_is = k.stuck_is });
     safe = s.safe;
     own = s.own;
     up = s.up;
@@ -511,7 +513,7 @@ module _ (began : DiskSeen) (first : SeatView) where
       goes_so : (x : Before) (t : Trace) → r.disk.trace ≡ Some t → me.0.told ≡ true → (k : Store first s.views r.lock r.young t) → Seated first k.world t id me.0 → Knew first k.world t me.0 x → GoesOn me.0 (settled_view r.disk.trace me.0) x
       goes_so x t is told k p knew = (
         knew.line,
-        later_now k.world t knew.met.0 (as_before me.0 x) (settled_view r.disk.trace me.0) (subst (λ l. Met l k.world t (as_before me.0 x) knew.met.0) (sym knew.layout) knew.met.2) knew.told knew.met.1 is (p.layout ∙ sym knew.layout) (p.low ∙ sym knew.low)
+        later_now first.low r.young (stuck_place k.world.lock) k.world t knew.met.0 (as_before me.0 x) (settled_view r.disk.trace me.0) (subst (λ l. IsStore l first.low r.young (stuck_place k.world.lock) t k.world) (sym knew.layout) k.store) (subst (λ l. Met l k.world t (as_before me.0 x) knew.met.0) (sym knew.layout) knew.met.2) knew.told knew.met.1 is (p.layout ∙ sym knew.layout) (p.low ∙ sym knew.low)
             (last_grows (as_before me.0 x) (settled_view r.disk.trace me.0) knew.told told knew.least (grown_long me.0.seen x.seen knew.line)),
       )
 

@@ -1,9 +1,9 @@
 -- Calls on labels, as the disk goes back.
-use Rattle.std.proofs.Common.{◌≡◌, ◌<◌, ℕ, [], ◌∷◌, ◌++◌, length, true, false, inl, refl, sym, ap, subst, ◌∙◌}
+use Rattle.std.proofs.Common.{◌≡◌, ◌<◌, ℕ, [], ◌∷◌, ◌++◌, length, true, false, inl, ⊎_elim, refl, sym, ap, subst, ◌∙◌}
 use Rattle.std.specs.Prelude.{Option, Some, None, Bool, Result, Ok, Err, OnErr, IfOk, if◌then◌else◌, is_some}
 use mathlib.Core.Option.{none}
 use Rattle.atomic_table.specs.Table.{step, Allows}
-use Rattle.fsfs_disk.specs.Labels.{Label, Txn as TxnLabel}
+use Rattle.fsfs_disk.specs.Labels.{Label, Txn as TxnLabel, Pack as PackLabel}
 use Rattle.fsfs_disk.specs.Trace.{Trace, KeepLabel, DropLabel, PerformsIfThere, FailsAt}
 use Rattle.fsfs_base.specs.declared.places.place.DiskPlace.{DiskPlace}
 use Rattle.fsfs_base.specs.declared.places.place.DiskPlace.TheVariants as place
@@ -13,11 +13,13 @@ use Rattle.fsfs_machine.specs.declared.machine.Txn.{Txn}
 use Rattle.fsfs_machine.specs.declared.machine.Went.{Went}
 use Rattle.fsfs_machine.specs.Machine.{learns, stuck_place}
 use Rattle.fsfs_machine.specs.Kept.{IsIn}
-use Rattle.fsfs_turn.specs.Views.{View, Answers}
+use Rattle.fsfs_turn.specs.Packing.{DoneBeside, MayBenchPack}
+use Rattle.fsfs_turn.specs.Views.{View, Answers, is_held}
 use Rattle.fsfs_turn.specs.Learning.{MayMake, BenchMade, MayPurge, Purged, SpentPurged}
 use Rattle.fsfs_turn.proofs.Alone.{harmless_before}
 use Rattle.fsfs_turn.proofs.TurnEnds.{Comes}
 use Rattle.fsfs_turn.proofs.Labelling.{make_comes, purge_comes, spent_comes}
+use Rattle.fsfs_turn.proofs.Packing.{keep_comes, drop_comes}
 use Rattle.fsfs_disk.specs.Seen.{DiskSeen, IsLater}
 use Rattle.fsfs_pass.specs.declared.seats.seat_view.SeatView.{SeatView}
 use Rattle.fsfs_pass.specs.declared.seats.seat_view.Hand.TheVariants.{Out}
@@ -26,6 +28,7 @@ use Rattle.fsfs_pass.specs.Rule.{Rule}
 use Rattle.fsfs_pass.specs.Tells.{Sat}
 use Rattle.fsfs_pass.specs.SeatCalls.Made.{Made, Ended, Dropped, carried, failed_of, once}
 use Rattle.fsfs_pass.specs.SeatCalls.Tells.{BenchedBy, MayKeep, MayDrop, PurgedBy, benched_back, purged_back}
+use Rattle.fsfs_pass.proofs.Lasting.{lasts_rises}
 use Rattle.fsfs_pass.proofs.FilesLast.{made_lasts, dropped_lasts, made_own, dropped_own}
 use Rattle.fsfs_pass.proofs.LabelsStay.{IsOfOne, made_stay, dropped_stay}
 use Rattle.fsfs_pass.proofs.Going.{IsShort, StaysSure, after_more, Turn, gives_so, gives_with}
@@ -40,27 +43,28 @@ keep_ill : (failed : Bool) (l : Label) (old new : Option Trace) → Made failed 
 keep_ill false l old new m = tt
 keep_ill true l old new m = m
 
-pub benched_turn : (me : SeatView) (d : DiskSeen) (t : Option Trace) (l : Label) (x : Drawn) → MayMake (view_of me) x → l ≡ TxnLabel x.base x.name → Made d.failed (KeepLabel l) t d.trace → Turn me d t (BenchedBy d.failed (view_of me))
-benched_turn me d t l x may named made told old is young w store sees safe =
-    let c = comes x may in
+pub benched_turn : (me : SeatView) (d : DiskSeen) (t : Option Trace) (l : Label) → MayKeep (view_of me) l → Made d.failed (KeepLabel l) t d.trace → Turn me d t (BenchedBy d.failed (view_of me))
+benched_turn me d t l may made told old is young w store sees safe = ⊎_elim
+    (λ (x : (x : Drawn) × MayMake v x × (l ≡ TxnLabel x.base x.name)). let c = makes x.0 x.1 in
     inl (
       c.0,
       c.2,
-      after_more me.layout me.low young (stuck_place w.lock) c.0 w v (λ u. BenchMade x c.1 v u) (λ u. StaysSure w.given v u × BenchedBy d.failed v u)
-          (λ u all k. (
-            learned_stays w.given _ _ _ (λ n. learns n place.MakeBench c.1) v u (λ n x. (refl, refl, refl)) (λ n x few. harmless_before c.1 x.faults place.MakeBench few) k,
-            λ y its. let e = comes y its in (
-              e.1,
-              ended_so d.failed e.1 e.3,
-              subst (λ z. BenchMade y e.1 v z) (learned_is _ _ _ (λ n. learns n place.MakeBench e.1) w.history v e.4.view e.4.all e.4.turned
-                  ∙ ap (λ (p : Pass). record v { pass = p; seen = w.history }) (learns_so (length w.history) place.MakeBench d.failed e.1 c.1 v.pass (ended_so d.failed e.1 e.3) (ended_so d.failed c.1 c.3))
-                  ∙ sym (learned_is _ _ _ (λ n. learns n place.MakeBench c.1) w.history v u all k)) e.4.turned,
-            ),
-          )) c.4,
-      made_lasts me.layout (length w.history) old c.0 d.failed (KeepLabel l) tt (subst (λ o. Made d.failed (KeepLabel l) (Some old) o) c.2 here),
+      after_more me.layout me.low young (stuck_place w.lock) c.0 w v (λ u. BenchMade x.0 c.1 v u) (λ u. StaysSure w.given v u × BenchedBy d.failed v u)
+          (λ u all k. (learned_stays w.given _ _ _ (λ n. learns n place.MakeBench c.1) v.firm v u (λ n p. (refl, refl, refl)) (λ n p few. harmless_before c.1 p.faults place.MakeBench few) k, benched u c.1 (ended_so d.failed c.1 c.3) (learned_is _ _ _ (λ n. learns n place.MakeBench c.1) w.history v u all k))) c.4,
+      made_lasts me.layout (length w.history) old c.0 d.failed (KeepLabel l) tt (lasts_rises me.layout me.low young (stuck_place w.lock) old c.0 w v (λ u. BenchMade x.0 c.1 v u) store c.4) (subst (λ o. Made d.failed (KeepLabel l) (Some old) o) c.2 here),
       made_own me.layout me.since old c.0 d.failed (KeepLabel l) tt (subst (λ o. Made d.failed (KeepLabel l) (Some old) o) c.2 here),
-      made_stay me.given old c.0 d.failed (KeepLabel l) (subst (λ k. IsOfOne me.given k) (sym named) may.given) (subst (λ o. Made d.failed (KeepLabel l) (Some old) o) c.2 here),
-    )
+      made_stay me.since.packs me.given old c.0 d.failed (KeepLabel l) (subst (λ k. IsOfOne me.since.packs me.given k) (sym x.2) x.1.given) (subst (λ o. Made d.failed (KeepLabel l) (Some old) o) c.2 here),
+    ))
+    (λ (x : (k : ℕ) × MayBenchPack v k × (l ≡ PackLabel k)). let c = keeps in
+    inl (
+      c.0,
+      c.2,
+      after_more me.layout me.low young (stuck_place w.lock) c.0 w v (λ u. DoneBeside place.MakeBench c.1 v u) (λ u. StaysSure w.given v u × BenchedBy d.failed v u)
+          (λ u all k. (learned_stays w.given _ _ _ (λ n. learns n place.MakeBench c.1) v.firm v u (λ n p. (refl, refl, refl)) (λ n p few. harmless_before c.1 p.faults place.MakeBench few) k, benched u c.1 (ended_so d.failed c.1 c.3) (learned_is _ _ _ (λ n. learns n place.MakeBench c.1) w.history v u all k))) c.4,
+      made_lasts me.layout (length w.history) old c.0 d.failed (KeepLabel l) tt (lasts_rises me.layout me.low young (stuck_place w.lock) old c.0 w v (λ u. DoneBeside place.MakeBench c.1 v u) store c.4) (subst (λ o. Made d.failed (KeepLabel l) (Some old) o) c.2 here),
+      made_own me.layout me.since old c.0 d.failed (KeepLabel l) tt (subst (λ o. Made d.failed (KeepLabel l) (Some old) o) c.2 here),
+      made_stay me.since.packs me.given old c.0 d.failed (KeepLabel l) (subst (λ k. IsOfOne me.since.packs me.given k) (sym x.2) x.1.packs) (subst (λ o. Made d.failed (KeepLabel l) (Some old) o) c.2 here),
+    )) may
   where
     v : View
     v = view_of me
@@ -68,8 +72,21 @@ benched_turn me d t l x may named made told old is young w store sees safe =
     here : Made d.failed (KeepLabel l) (Some old) d.trace
     here = subst (λ o. Made d.failed (KeepLabel l) o d.trace) is made
 
-    comes : (y : Drawn) → MayMake v y → Comes me.layout me.low young (stuck_place w.lock) d.trace w v (result_of d.failed) (λ went u. BenchMade y went v u)
-    comes y its = make_comes me.layout me.low young (stuck_place w.lock) old w v store sees safe y its d.trace l (result_of d.failed) (made_well d.failed (KeepLabel l) (Some old) d.trace here) (keep_ill d.failed l (Some old) d.trace here)
+    makes : (y : Drawn) → MayMake v y → Comes me.layout me.low young (stuck_place w.lock) d.trace w v (result_of d.failed) (λ went u. BenchMade y went v u)
+    makes y its = make_comes me.layout me.low young (stuck_place w.lock) old w v store sees safe y its d.trace l (result_of d.failed) (made_well d.failed (KeepLabel l) (Some old) d.trace here) (keep_ill d.failed l (Some old) d.trace here)
+
+    keeps : Comes me.layout me.low young (stuck_place w.lock) d.trace w v (result_of d.failed) (λ went u. DoneBeside place.MakeBench went v u)
+    keeps = keep_comes me.layout me.low young (stuck_place w.lock) old w v store sees safe d.trace l (result_of d.failed) (made_well d.failed (KeepLabel l) (Some old) d.trace here) (keep_ill d.failed l (Some old) d.trace here)
+
+    -- whichever label it was, the pass knows the same then
+    benched : (u : View) (went : Went) → Ended d.failed went → u ≡ seen_view w.history (learns (length w.history) place.MakeBench went) v → BenchedBy d.failed v u
+    benched u went ended is = record {
+      made = λ y its. let e = makes y its in (e.1, ended_so d.failed e.1 e.3, subst (λ z. BenchMade y e.1 v z) (learned_is _ _ _ (λ n. learns n place.MakeBench e.1) w.history v e.4.view e.4.all e.4.turned ∙ same e.1 (ended_so d.failed e.1 e.3)) e.4.turned);
+      beside = λ k its. let e = keeps in (e.1, ended_so d.failed e.1 e.3, subst (λ z. DoneBeside place.MakeBench e.1 v z) (learned_is _ _ _ (λ n. learns n place.MakeBench e.1) w.history v e.4.view e.4.all e.4.turned ∙ same e.1 (ended_so d.failed e.1 e.3)) e.4.turned);
+    }
+      where
+        same : (other : Went) → Ended d.failed other → seen_view w.history (learns (length w.history) place.MakeBench other) v ≡ u
+        same other its = ap (λ (p : Pass). record v { pass = p; seen = w.history }) (learns_so (length w.history) place.MakeBench d.failed other went v.pass its ended) ∙ sym is
 
 -- a call that dropped a label, or failed to, by its answer
 record Drops (failed : Bool) (l : Label) (old new : Option Trace) : Type 0 where
@@ -83,17 +100,27 @@ drops false l old new m = record { result = Ok m.0; ok = m.1; err = tt; ended = 
 drops true l old new m = record { result = Err tt; ok = tt; err = m; ended = λ went a. a }
 
 pub purged_turn : (me : SeatView) (d : DiskSeen) (t : Option Trace) (l : Label) → MayDrop (view_of me) l → Dropped d.failed l t d.trace → Turn me d t (PurgedBy d.failed (view_of me))
-purged_turn me d t l may dropped told old is young w store sees safe =
-    let c = spends may.0 may.1 may.2 in
+purged_turn me d t l may dropped told old is young w store sees safe = ⊎_elim
+    (λ (x : (name : ℕ) × (v.section ≡ None) × IsIn name v.given × (base : ℕ) × (l ≡ TxnLabel base name)). let c = spends x.0 x.1 x.2 in
     inl (
       c.0,
       c.2,
-      after_more me.layout me.low young (stuck_place w.lock) c.0 w v (λ u. SpentPurged may.0 c.1 v u) (λ u. StaysSure w.given v u × PurgedBy d.failed v u)
-          (λ u all k. (learned_stays w.given _ _ _ (λ n. learns n place.Remove c.1) v u (λ n x. (refl, refl, refl)) (λ n x few. harmless_before c.1 x.faults place.Remove few) k, purged u c.1 (call.ended c.1 c.3) (learned_is _ _ _ (λ n. learns n place.Remove c.1) w.history v u all k))) c.4,
+      after_more me.layout me.low young (stuck_place w.lock) c.0 w v (λ u. SpentPurged x.0 c.1 v u) (λ u. StaysSure w.given v u × PurgedBy d.failed v u)
+          (λ u all k. (learned_stays w.given _ _ _ (λ n. learns n place.Remove c.1) v.firm v u (λ n p. (refl, refl, refl)) (λ n p few. harmless_before c.1 p.faults place.Remove few) k, purged u c.1 (call.ended c.1 c.3) (learned_is _ _ _ (λ n. learns n place.Remove c.1) w.history v u all k))) c.4,
       dropped_lasts me.layout (length w.history) old c.0 d.failed l (subst (λ o. Dropped d.failed l (Some old) o) c.2 here),
       dropped_own me.layout me.since old c.0 d.failed l (subst (λ o. Dropped d.failed l (Some old) o) c.2 here),
-      dropped_stay me.given old c.0 d.failed l (subst (λ k. IsOfOne me.given k) (sym may.4) may.2) (subst (λ o. Dropped d.failed l (Some old) o) c.2 here),
-    )
+      dropped_stay me.since.packs me.given old c.0 d.failed l (subst (λ k. IsOfOne me.since.packs me.given k) (sym x.4) x.2) (subst (λ o. Dropped d.failed l (Some old) o) c.2 here),
+    ))
+    (λ (x : (k : ℕ) × (v.since.packs ≡ true) × (is_held v.section ≡ true) × (l ≡ PackLabel k)). let c = drops_pack in
+    inl (
+      c.0,
+      c.2,
+      after_more me.layout me.low young (stuck_place w.lock) c.0 w v (λ u. DoneBeside place.Remove c.1 v u) (λ u. StaysSure w.given v u × PurgedBy d.failed v u)
+          (λ u all k. (learned_stays w.given _ _ _ (λ n. learns n place.Remove c.1) v.firm v u (λ n p. (refl, refl, refl)) (λ n p few. harmless_before c.1 p.faults place.Remove few) k, purged u c.1 (call.ended c.1 c.3) (learned_is _ _ _ (λ n. learns n place.Remove c.1) w.history v u all k))) c.4,
+      dropped_lasts me.layout (length w.history) old c.0 d.failed l (subst (λ o. Dropped d.failed l (Some old) o) c.2 here),
+      dropped_own me.layout me.since old c.0 d.failed l (subst (λ o. Dropped d.failed l (Some old) o) c.2 here),
+      dropped_stay me.since.packs me.given old c.0 d.failed l (subst (λ k. IsOfOne me.since.packs me.given k) (sym x.3) x.1) (subst (λ o. Dropped d.failed l (Some old) o) c.2 here),
+    )) may
   where
     v : View
     v = view_of me
@@ -110,11 +137,15 @@ purged_turn me d t l may dropped told old is young w store sees safe =
     spends : (name : ℕ) → v.section ≡ None → IsIn name v.given → Comes me.layout me.low young (stuck_place w.lock) d.trace w v call.result (λ went u. SpentPurged name went v u)
     spends name outside given = spent_comes me.layout me.low young (stuck_place w.lock) old w v store sees safe d.trace l name outside given call.result call.ok call.err
 
+    drops_pack : Comes me.layout me.low young (stuck_place w.lock) d.trace w v call.result (λ went u. DoneBeside place.Remove went v u)
+    drops_pack = drop_comes me.layout me.low young (stuck_place w.lock) old w v store sees safe d.trace l call.result call.ok call.err
+
     -- whichever label it was, the pass knows the same then
     purged : (u : View) (went : Went) → Ended d.failed went → u ≡ seen_view w.history (learns (length w.history) place.Remove went) v → PurgedBy d.failed v u
     purged u went ended is = record {
       under_way = λ txn its. let e = purges txn its in (e.1, call.ended e.1 e.3, subst (λ z. Purged txn e.1 v z) (learned_is _ _ _ (λ n. learns n place.Remove e.1) w.history v e.4.view e.4.all e.4.turned ∙ same e.1 (call.ended e.1 e.3)) e.4.turned);
       no_more = λ name outside given. let e = spends name outside given in (e.1, call.ended e.1 e.3, subst (λ z. SpentPurged name e.1 v z) (learned_is _ _ _ (λ n. learns n place.Remove e.1) w.history v e.4.view e.4.all e.4.turned ∙ same e.1 (call.ended e.1 e.3)) e.4.turned);
+      beside = λ held. let e = drops_pack in (e.1, call.ended e.1 e.3, subst (λ z. DoneBeside place.Remove e.1 v z) (learned_is _ _ _ (λ n. learns n place.Remove e.1) w.history v e.4.view e.4.all e.4.turned ∙ same e.1 (call.ended e.1 e.3)) e.4.turned);
     }
       where
         same : (other : Went) → Ended d.failed other → seen_view w.history (learns (length w.history) place.Remove other) v ≡ u
@@ -131,7 +162,7 @@ dropped_told true l old new m = failed_told (DropLabel l) old new m
 pub gives_benched : (began : DiskSeen) (first : SeatView) (slots id : ℕ) (me : Sat) (d : DiskSeen) → IsSitting me.0 → IsShort d → (was : DiskSeen) (l : Label) → 0 < slots → me.1 ≡ (0, Some d) ∷ [] → me.0.hand ≡ Out was → IsLater (once d.failed) 0 was d → Made d.failed (KeepLabel l) was.trace d.trace → (me.0.told ≡ true → MayKeep (view_of me.0) l)
     → Allows (Rule began first) slots id me 0 (λ _. 0) (λ _. benched_back (step slots 0 0 0 none) me 0)
 gives_benched began first slots id me d sits short was l room carries has later made may = gives_so (λ m u. BenchedBy (failed_of (carried m.1)) (view_of m.0) u) began first slots id me d sits short was room carries has later (made_told d.failed (KeepLabel l) was.trace d.trace made)
-    (λ told. let x = may told in benched_turn me.0 d was.trace l x.0 x.1 x.2 made told)
+    (λ told. benched_turn me.0 d was.trace l (may told) made told)
 
 pub gives_purged : (k : ℕ) (began : DiskSeen) (first : SeatView) (slots id : ℕ) (me : Sat) (d : DiskSeen) → IsSitting me.0 → IsShort d → (was : DiskSeen) (l : Label) → 0 < slots → me.1 ≡ (0, Some d) ∷ [] → me.0.hand ≡ Out was → IsLater (once d.failed) k was d → Dropped d.failed l was.trace d.trace → (me.0.told ≡ true → MayDrop (view_of me.0) l)
     → Allows (Rule began first) slots id me 0 (λ _. 0) (λ _. purged_back k (step slots 0 0 0 none) me 0)

@@ -21,6 +21,7 @@ pub mod ReadCalls
 pub mod Counter
 pub mod Adoptions
 pub mod LabelCalls
+pub mod PackCalls
 pub mod Answering
 pub mod Meeting
 pub mod Onward

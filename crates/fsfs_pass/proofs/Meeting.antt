@@ -1,24 +1,23 @@
 -- What the taker of a disk is told of its files.
-use Rattle.std.proofs.Common.{◌≡◌, ◌<◌, ◌^◌, ℕ, List, length, true, refl, sym, ap, subst, ◌∙◌}
+use Rattle.std.proofs.Common.{◌≡◌, ◌<◌, ◌+◌, ◌^◌, ℕ, List, length, true, refl, sym, ap, subst, ◌∙◌}
 use Rattle.std.specs.Prelude.{Option, Some, None, IfSome, IsSome, is_some, slice_get}
 use Rattle.std.specs.FinMap.{get}
 use Rattle.fsfs_layout.specs.Hash.Dump.{IsDump}
-use Rattle.fsfs_layout.specs.FileNames.{only_name}
-use Rattle.fsfs_layout.specs.Small.{IsRevLine}
-use Rattle.fsfs_layout.specs.declared.only_file.OnlyFile.TheVariants as only
 use Rattle.fsfs_disk.specs.Trace.{Trace, file_at, files_now}
 use Rattle.fsfs_disk.specs.Trace as real
 use Rattle.fsfs_base.specs.declared.places.place.DiskPlace.{DiskPlace}
 use Rattle.fsfs_base.specs.declared.places.place.DiskPlace.TheVariants.{Begin, Commit}
+use Rattle.fsfs_base.specs.declared.places.place.DiskPlace.TheVariants as disk
 use Rattle.fsfs_base.specs.declared.places.place.BeginPlace.TheVariants as begin
 use Rattle.fsfs_base.specs.declared.places.place.CommitPlace.TheVariants.{RenameCurrent}
+use Rattle.fsfs_base.specs.declared.places.place.PackPlace.TheVariants.{RenameFloor}
 use Rattle.fsfs_machine.specs.declared.contents.FileName.{FileName}
-use Rattle.fsfs_machine.specs.declared.contents.FileName.TheVariants.{CurrentNext, CounterNext}
+use Rattle.fsfs_machine.specs.declared.contents.FileName.TheVariants.{CurrentNext, CounterNext, FloorNext}
 use Rattle.fsfs_machine.specs.declared.contents.Contents.{Contents}
 use Rattle.fsfs_machine.specs.declared.contents.Contents.TheVariants.{Number}
 use Rattle.fsfs_machine.specs.declared.machine.Recorded.{Recorded}
 use Rattle.fsfs_machine.specs.declared.machine.Section.{Section}
-use Rattle.fsfs_machine.specs.declared.machine.Section.TheVariants.{CountPut, CurrentPut}
+use Rattle.fsfs_machine.specs.declared.machine.Section.TheVariants.{CountPut, CurrentPut, FloorPut}
 use Rattle.fsfs_machine.specs.declared.machine.Lock.TheVariants.{Held}
 use Rattle.fsfs_machine.specs.Disk.{found}
 use Rattle.fsfs_machine.specs.Machine.{stuck_place}
@@ -30,7 +29,7 @@ use Rattle.fsfs_images.proofs.Showing.{now_read}
 use Rattle.fsfs_turn.specs.Standing.{no_others, IsStore}
 use Rattle.fsfs_turn.proofs.Stepping.{lock_is}
 use Rattle.fsfs_turn.proofs.Due.{at_found}
-use Rattle.fsfs_turn.proofs.SmallFiles.{pass_floor, floor_file, props_file}
+use Rattle.fsfs_turn.proofs.SmallFiles.{props_file}
 use Rattle.fsfs_pass.specs.declared.seats.seat_view.SeatView.{SeatView}
 use Rattle.fsfs_pass.specs.Seats.{view_of}
 use Rattle.fsfs_pass.specs.Tells.{IsMet}
@@ -43,12 +42,6 @@ module _ (me : SeatView) (t : Trace) (m : IsMet me t) where
   pub met_props : (r : ℕ) (x : Recorded) → slice_get me.seen r ≡ Some x → r < 2 ^ 32 → (name : List ℕ) → name ≡ props_name (view_of me) r → (text : List ℕ) × (file_at t name ≡ Some text) × IsDump text x.revision.properties
   met_props r x there fits name named = props_file me.layout me.low m.world.young (stuck_place m.world.lock) t m.world (view_of me) met_store m.sees refl m.safe r x there fits name named
 
-  -- the floor
-  pub met_floor : (name : List ℕ) → name ≡ only_name only.MinUnpackedRev → (text : List ℕ) × (file_at t name ≡ Some text) × IsRevLine text me.pass.floor
-  met_floor name named =
-      let f = floor_file me.layout me.low m.world.young (stuck_place m.world.lock) t m.world (view_of me) met_store m.sees refl m.safe name named in
-      (f.0, f.1, subst (λ k. IsRevLine f.0 k) (sym (pass_floor me.layout me.low m.world.young (stuck_place m.world.lock) t m.world (view_of me) met_store m.sees refl m.safe)) f.2)
-
   knows : (s : Section) → me.section ≡ Some s → KnowsAt m.world.size m.world.floor m.world.history m.world.given (Held me.number s) m.world.disk
   knows s inside = subst (λ l. KnowsAt m.world.size m.world.floor m.world.history m.world.given l m.world.disk) (lock_is me.number m.world.lock s (m.sees.section ∙ inside)) m.store.kept.knows
 
@@ -60,6 +53,7 @@ module _ (me : SeatView) (t : Trace) (m : IsMet me t) where
   pub met_rename : (place : DiskPlace) (from to : List ℕ) → IsDue (view_of me) place (real.Rename from to) → (bytes : List ℕ) × (file_at t from ≡ Some bytes)
   met_rename (Begin begin.Rename) from to d = there CounterNext tt (Number d.0.next) from (ap (λ k. file_at t k) d.2) (knows (CountPut d.0) d.1).3
   met_rename (Commit RenameCurrent) from to d = there CurrentNext tt (Number (length m.world.history)) from (ap (λ k. file_at t k) d.2) (knows (CurrentPut d.0) d.1)
+  met_rename (disk.Pack RenameFloor) from to d = there FloorNext tt (Number (m.world.floor + m.world.size)) from (ap (λ k. file_at t k) d.1) (knows FloorPut d.0)
   met_rename place from to d = absurd d
 
 some_there : (o : Option (List ℕ)) (bytes : List ℕ) → o ≡ Some bytes → IsSome o

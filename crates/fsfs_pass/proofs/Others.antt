@@ -64,6 +64,7 @@ sees_other p w after z l kept up apart sure sees = record {
   given = λ k i. l.given k (sees.given k i);
   opened = let long : length after.history ≡ length w.history + length l.grows.0 = ap length l.grows.1 ∙ length-append w.history l.grows.0 in omega (arith, long, sees.opened);
   shown = sees.shown;
+  firm = λ s f inside is. l.floor z.number s apart (sees.section ∙ inside) ∙ sees.firm s f inside is;
   names = record { full = λ e. l.full (sees.names.full e); drawing = λ x e. let d = sees.names.drawing x e in (ap (λ k. found k Counter) (held_disk (held_drawing z.section x e)) ∙ d.0, d.1) };
 }
   where

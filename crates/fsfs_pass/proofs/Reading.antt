@@ -8,6 +8,7 @@ use Rattle.fsfs_layout.specs.declared.only_file.OnlyFile.TheVariants.{MinUnpacke
 use Rattle.fsfs_disk.specs.Trace.{Trace, file_at, files_now, IsRead}
 use Rattle.fsfs_machine.specs.declared.machine.Recorded.{Recorded}
 use Rattle.fsfs_machine.specs.declared.machine.Went.{Went}
+use Rattle.fsfs_turn.specs.Past.{IsWhole}
 use Rattle.fsfs_turn.specs.Views.{props_name, Answers}
 use Rattle.fsfs_turn.specs.Learning.{PropsRead, FloorRead, ReadsCounter}
 use Rattle.fsfs_pass.specs.declared.seats.seat_view.SeatView.{SeatView}
@@ -17,7 +18,7 @@ use Rattle.fsfs_pass.specs.Tells.{IsMet}
 use Rattle.fsfs_pass.specs.SeatCalls.Made.{went_of}
 use Rattle.fsfs_pass.specs.SeatCalls.Tells.{ReadBy, DrawnBy}
 use Rattle.fsfs_pass.proofs.Answering.{answers_so, ended_still}
-use Rattle.fsfs_pass.proofs.Meeting.{met_props, met_floor}
+use Rattle.fsfs_pass.proofs.Meeting.{met_props}
 
 -- what the pass is told of the disk that it takes
 abbrev pub Taken : SeatView → Option Trace → Type 0
@@ -30,8 +31,8 @@ taken_so me (Some t) is met tells = (t, refl, met t refl)
 some_of : {A : Type 0} (P : A → Type 0) (o : Option A) (x : A) → o ≡ Some x → IfSome o P → P x
 some_of P o x is k = subst (λ o. IfSome o P) is k
 
-module _ {E : Type 0} (failed : Bool) (me u : SeatView) (told : Option Trace) (taken : Taken me told) (name old new : List ℕ) (offset : ℕ) (result : Result (Option ℕ) E) (is : failed ≡ is_err result)
-    (read : IfSome told (λ t. IfOk result (IsRead (file_at t name) offset old new))) (by : ReadBy (went_of failed) (view_of me) (view_of u)) where
+module _ {E : Type 0} (failed : Bool) (me u : SeatView) (told left : Option Trace) (taken : Taken me told) (same : left ≡ told) (name old new : List ℕ) (offset : ℕ) (result : Result (Option ℕ) E) (is : failed ≡ is_err result)
+    (read : IfSome told (λ t. IfOk result (IsRead (file_at t name) offset old new))) (by : ReadBy name left (went_of failed) (view_of me) (view_of u)) where
   abbrev went : Went
   went = went_of failed
 
@@ -39,16 +40,16 @@ module _ {E : Type 0} (failed : Bool) (me u : SeatView) (told : Option Trace) (t
   answers = answers_so failed result went is (ended_still failed)
 
   -- what is read are the bytes of this file
-  reads : (bytes : List ℕ) → file_at taken.0 name ≡ Some bytes → IfOk result (IsRead (Some bytes) offset old new)
-  reads bytes there = subst (λ f. IfOk result (IsRead f offset old new)) there (some_of (λ t. IfOk result (IsRead (file_at t name) offset old new)) told taken.0 taken.1 read)
+  reads : (t : Trace) → told ≡ Some t → (bytes : List ℕ) → file_at t name ≡ Some bytes → IfOk result (IsRead (Some bytes) offset old new)
+  reads t is bytes there = subst (λ f. IfOk result (IsRead f offset old new)) there (some_of (λ t. IfOk result (IsRead (file_at t name) offset old new)) told t is read)
 
   pub props_tell : (r : ℕ) (x : Recorded) → slice_get me.seen r ≡ Some x → r < 2 ^ 32 → name ≡ props_name (view_of me) r
       → (went : Went) × (text : List ℕ) × Answers result went × PropsRead r x went (view_of me) (view_of u) × IsDump text x.revision.properties × IfOk result (IsRead (Some text) offset old new)
-  props_tell r x there fits named = let f = met_props me taken.0 taken.2 r x there fits name named in (went, f.0, answers, by.properties r x there, f.2, reads f.0 f.1)
+  props_tell r x there fits named = let f = met_props me taken.0 taken.2 r x there fits name named in (went, f.0, answers, by.properties r x there fits named, f.2, reads taken.0 taken.1 f.0 f.1)
 
   pub floor_tells : name ≡ only_name MinUnpackedRev
-      → (went : Went) × (floor : ℕ) × (text : List ℕ) × Answers result went × FloorRead floor went (view_of me) (view_of u) × IsRevLine text floor × IfOk result (IsRead (Some text) offset old new)
-  floor_tells named = let f = met_floor me taken.0 taken.2 name named in (went, me.pass.floor, f.0, answers, by.floor, f.2, reads f.0 f.1)
+      → (went : Went) × (floor : ℕ) × (text : List ℕ) × Answers result went × FloorRead floor went (view_of me) (view_of u) × IsWhole me.layout floor × IsRevLine text floor × IfOk result (IsRead (Some text) offset old new)
+  floor_tells named = let k = by.floor named in (went, k.floor, k.text, answers, k.read, k.whole, k.line, reads k.trace (sym same ∙ k.told_is) k.text (ap (λ n. file_at k.trace n) named ∙ k.there))
 
 -- ---- a begin's first call
 

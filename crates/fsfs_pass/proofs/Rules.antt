@@ -255,8 +255,8 @@ module _ (began : DiskSeen) (first : SeatView) where
     keeps,
     tt,
     goes s r id me.0 (outside_view me.0) _ n r.young at (seat_stays me.0 sits) (ap (λ ws. slice_set ws 1 n) r.words) r.bound refl refl refl refl refl (r.met id me.0 at (seat_stays me.0 sits)) (λ _. r.alone id me.0 at sits)
-        (λ t is. let m = may (told_of s r id me.0 at (seat_stays me.0 sits) t is) in subst (λ k. Store first (slice_set s.views id (outside_view me.0)) k r.young t) (sym is_n) (stores.sticks first s.views r.lock r.young t (r.store t is) id me.0 (at, sits) place m.0 m.1).1),
-    (refl, λ told. let t = trace_of s r id me.0 at (seat_stays me.0 sits) told in let m = may told in (stores.sticks first s.views r.lock r.young t.0 (r.store t.0 t.1) id me.0 (at, sits) place m.0 m.1).0),
+        (λ t is. subst (λ k. Store first (slice_set s.views id (outside_view me.0)) k r.young t) (sym is_n) (stores.sticks first s.views r.lock r.young t (r.store t is) id me.0 (at, sits) place (may (told_of s r id me.0 at (seat_stays me.0 sits) t is))).1),
+    (refl, λ told. let t = trace_of s r id me.0 at (seat_stays me.0 sits) told in (stores.sticks first s.views r.lock r.young t.0 (r.store t.0 t.1) id me.0 (at, sits) place (may told)).0),
   )
 
   reveals_it : (slots id : ℕ) (me : Sat) (rev : ℕ) → IsSitting me.0 → rev ≤ last_rev → CanReveal rev me.0 → Allows (Rule began first) slots id me 2 (λ _. rev) (λ _. revealed (step slots 2 rev 0 none) me rev)
@@ -338,7 +338,7 @@ module _ (began : DiskSeen) (first : SeatView) where
   pub reveals_as : (slots id : ℕ) (me : Sat) (rev n : ℕ) → IsSitting me.0 → n ≡ rev → n ≤ last_rev → CanReveal rev me.0 → Allows (Rule began first) slots id me 2 (λ _. n) (λ _. revealed (step slots 2 n 0 none) me n)
   reveals_as slots id me rev n sits is fits may = reveals_it slots id me n sits fits (subst (λ k. CanReveal k me.0) (sym is) may)
 
-  pub takes_out : (slots id : ℕ) (me : Sat) → IsSitting me.0 → Allows (Rule began first) slots id me 0 (λ n. either (eqb n 0) 1 n) (taken began first.given (step slots 0 0 1 none) me)
+  pub takes_out : (slots id : ℕ) (me : Sat) → IsSitting me.0 → Allows (Rule began first) slots id me 0 (λ n. either (eqb n 0) 1 n) (taken began first.since.packs first.given (step slots 0 0 1 none) me)
   takes_out slots id me sits s r long at small =
       let found : slice_index s.words 0 ≡ r.out = ap (λ ws. slice_index ws 0) r.words in
       let next : slice_set s.words 0 (either (eqb (slice_index s.words 0) 0) 1 (slice_index s.words 0)) ≡ either (eqb r.out 0) 1 r.out ∷ r.lock ∷ r.young ∷ [] = ap (λ ws. slice_set ws 0 (either (eqb (slice_index ws 0) 0) 1 (slice_index ws 0))) r.words in
@@ -470,12 +470,12 @@ module _ (began : DiskSeen) (first : SeatView) where
               held_none k.world.lock q z (ap (λ n. held_by n k.world.lock) (sym j.3) ∙ nobody) here) (no_more all q holder.0)
 
   -- the same by a disk and names that are equal
-  pub takes_of : (k : DiskSeen) (names : List ℕ) → began ≡ k → first.given ≡ names → (slots id : ℕ) (me : Sat) → IsSitting me.0 → Allows (Rule began first) slots id me 0 (λ n. either (eqb n 0) 1 n) (taken k names (step slots 0 0 1 none) me)
-  takes_of k names is given slots id me sits = subst (λ (b : DiskSeen × List ℕ). Allows (Rule began first) slots id me 0 (λ n. either (eqb n 0) 1 n) (taken b.0 b.1 (step slots 0 0 1 none) me)) (λ i. (is i, given i)) (takes_out slots id me sits)
+  pub takes_of : (k : DiskSeen) (packs : Bool) (names : List ℕ) → began ≡ k → first.since.packs ≡ packs → first.given ≡ names → (slots id : ℕ) (me : Sat) → IsSitting me.0 → Allows (Rule began first) slots id me 0 (λ n. either (eqb n 0) 1 n) (taken k packs names (step slots 0 0 1 none) me)
+  takes_of k packs names is may given slots id me sits = subst (λ (b : DiskSeen × Bool × List ℕ). Allows (Rule began first) slots id me 0 (λ n. either (eqb n 0) 1 n) (taken b.0 b.1 b.2 (step slots 0 0 1 none) me)) (λ i. (is i, may i, given i)) (takes_out slots id me sits)
 
   -- the disk goes back to its slot, n calls of which have failed since it was taken, and k of benches that it took back, and the seat knows so much
   pub returned : (s : St) (r : Rule began first s) (id : ℕ) (me u : SeatView) (d : DiskSeen) (cs : List (ℕ × Option DiskSeen)) (was : DiskSeen) (n k : ℕ) → Sits s.views id me → 0 < length s.homes → cs ≡ (0, Some d) ∷ [] → me.hand ≡ Out was → IsLater n k was d
-      → u.hand ≡ Empty → u.failures ≡ me.failures + n → u.bench_failures ≡ me.bench_failures + k → u.told ≡ me.told → is_some u.met ≡ is_some d.trace → is_some d.trace ≡ is_some was.trace → u.kin ≡ me.kin → (me.kin.parts ≡ all_parts → u.met ≡ d.trace) → AreAbove first.given u.given → KeepsOthersOf first.given r.disk.trace d.trace → ((now : Trace) → d.trace ≡ Some now → Store first (slice_set s.views id u) r.lock r.young now)
+      → u.hand ≡ Empty → u.failures ≡ me.failures + n → u.bench_failures ≡ me.bench_failures + k → u.told ≡ me.told → is_some u.met ≡ is_some d.trace → is_some d.trace ≡ is_some was.trace → u.kin ≡ me.kin → (me.kin.parts ≡ all_parts → u.met ≡ d.trace) → AreAbove first.given u.given → KeepsOthersOf first.since.packs first.given r.disk.trace d.trace → ((now : Trace) → d.trace ≡ Some now → Store first (slice_set s.views id u) r.lock r.young now)
       → Rule began first record { words = slice_set s.words 0 0; homes = put_back s.homes cs; views = slice_set s.views id u }
   returned s r id me u d cs was n k at room carried has later hand fails benches told met same kin alone names others store = record {
     out = 0;
@@ -501,7 +501,7 @@ module _ (began : DiskSeen) (first : SeatView) where
         (λ (here : (j ≡ id) × (u ≡ z)). subst (λ (a : SeatView). a.kin.parts ≡ all_parts → a.met ≡ d.trace) here.1 (λ its. alone (sym (ap (λ (c : Kin). c.parts) kin) ∙ its)) all)
         (λ (there : (j ≢ id) × (get_elem? s.views j ≡ some z)). alone_still j z there.0 there.1 sits all r.disk.trace refl) (at_set s.views id j u z e);
     names = names_set first s.views id me u at.0 r.names names;
-    labels = keeps_then first.given began.trace r.disk.trace d.trace (sym is_told) r.labels others;
+    labels = keeps_then first.since.packs first.given began.trace r.disk.trace d.trace (sym is_told) r.labels others;
     store = store;
   }
     where
@@ -531,7 +531,7 @@ module _ (began : DiskSeen) (first : SeatView) where
         u,
         gives,
         tt,
-        returned s r id me.0 u d me.1 was 0 0 (at, sits) (omega (arith, room, long)) carried has later refl (omega arith) (omega arith) refl (r.met id me.0 at (seat_stays me.0 sits) ∙ ap (λ o. is_some o) (sym stays)) (ap (λ o. is_some o) same) refl (λ all. r.alone id me.0 at sits all ∙ sym stays) (r.names id me.0 at) (subst (λ o. KeepsOthersOf first.given r.disk.trace o) (sym stays) (keeps_itself first.given r.disk.trace))
+        returned s r id me.0 u d me.1 was 0 0 (at, sits) (omega (arith, room, long)) carried has later refl (omega arith) (omega arith) refl (r.met id me.0 at (seat_stays me.0 sits) ∙ ap (λ o. is_some o) (sym stays)) (ap (λ o. is_some o) same) refl (λ all. r.alone id me.0 at sits all ∙ sym stays) (r.names id me.0 at) (subst (λ o. KeepsOthersOf first.since.packs first.given r.disk.trace o) (sym stays) (keeps_itself first.since.packs first.given r.disk.trace))
             (λ t is. rehand first s.views r.lock r.young t id me.0 Empty (at, sits) (r.store t (sym stays ∙ is))),
         ap (λ (cs : List (ℕ × Option DiskSeen)). (u, rest cs)) carried,
       )

@@ -16,6 +16,7 @@ use Rattle.fsfs_machine.specs.declared.machine.Step.TheVariants as step
 use Rattle.fsfs_machine.specs.Machine.{World, did, split_off, held_by, stuck_place}
 use Rattle.fsfs_machine.specs.Kept.{Kept, IsHolder, most_floor, may_rise}
 use Rattle.fsfs_machine.proofs.Steps.{step_keeps}
+use Rattle.fsfs_turn.specs.Standing.{IsStore}
 use Rattle.fsfs_turn.specs.Views.{Sees, with_txns}
 use Rattle.fsfs_turn.proofs.Names.{names_stay}
 use Rattle.fsfs_turn.proofs.Stepping.{kept_bare}
@@ -132,7 +133,7 @@ module _ (first : SeatView) (views : List SeatView) (lock young : ℕ) (t : Trac
   seat_on : (j : ℕ) (z : SeatView) → Seated first w t j z → Seated first split_on t j z
   seat_on j z k = record {
     number = k.number;
-    sees = (let e = k.sees in record { pass = get_longer w.passes child z.pass z.number e.pass; seen = e.seen; section = e.section; up = e.up; sure = e.sure; whole = e.whole; given = e.given; opened = e.opened; shown = e.shown; names = e.names });
+    sees = (let e = k.sees in record { pass = get_longer w.passes child z.pass z.number e.pass; seen = e.seen; section = e.section; up = e.up; sure = e.sure; whole = e.whole; given = e.given; opened = e.opened; shown = e.shown; firm = e.firm; names = e.names });
     sure = k.sure;
     layout = k.layout;
     low = k.low;
@@ -164,6 +165,7 @@ module _ (first : SeatView) (views : List SeatView) (lock young : ℕ) (t : Trac
     given = sees.given;
     opened = sees.opened;
     shown = sees.shown;
+    firm = λ s f inside is. absurd cc;
     names = names_stay me.full me.section None w.disk w.disk refl refl sees.names;
   }
 
@@ -227,7 +229,7 @@ module _ (first : SeatView) (views : List SeatView) (lock young : ℕ) (t : Trac
   pub split_goes : 1 < me.kin.parts → Store first views_on lock young t
   split_goes enough = record {
     world = split_on;
-    store = (let k = s.store in record { trace = k.trace; size = k.size; whole = k.whole; kept = split_kept; shown = k.shown; coming = k.coming; low_is = k.low_is; floor_is = k.floor_is; level = k.level; young_is = k.young_is; stuck_is = k.stuck_is });
+    store = (let k = s.store in record { trace = k.trace; size = k.size; whole = k.whole; kept = split_kept; shown = k.shown; coming = k.coming; low_is = k.low_is; young_is = k.young_is; stuck_is = k.stuck_is });
     safe = s.safe;
     own = s.own;
     up = s.up;
@@ -317,7 +319,7 @@ module _ (began : DiskSeen) (first : SeatView) where
           let p = (placed t.0 k).0 in
           let m = p.met.2 in
           let mine : Met first.layout k.world t.0 me.0 p.met.0 = record { world = m.world; store = m.store; low = m.low; grown = m.grown; seen = m.seen; least = m.least; lasts = m.lasts } in
-          later_now k.world t.0 p.met.0 me.0 (numbered_view id r.disk.trace me.0) (subst (λ l. Met l k.world t.0 me.0 p.met.0) (sym p.layout) mine) told p.met.1 t.1 refl refl
+          later_now first.low r.young (stuck_place k.world.lock) k.world t.0 p.met.0 me.0 (numbered_view id r.disk.trace me.0) (subst (λ l. IsStore l first.low r.young (stuck_place k.world.lock) t.0 k.world) (sym p.layout) k.store) (subst (λ l. Met l k.world t.0 me.0 p.met.0) (sym p.layout) mine) told p.met.1 t.1 refl refl
           (last_grows me.0 (numbered_view id r.disk.trace me.0) told told (omega arith) (omega arith))
       by_told false told = later_untold me.0 (numbered_view id r.disk.trace me.0) told (none_of me.0.met (r.met id me.0 at stays ∙ sym (r.told id me.0 at stays) ∙ told)) refl refl
 

@@ -6,17 +6,18 @@ use Rattle.fsfs_disk.specs.Trace.{Trace, files_now}
 use Rattle.fsfs_base.specs.declared.places.place.DiskPlace.{DiskPlace}
 use Rattle.fsfs_machine.specs.declared.machine.Coming.{Coming}
 use Rattle.fsfs_machine.specs.declared.machine.Section.{Section}
-use Rattle.fsfs_machine.specs.declared.machine.Section.TheVariants.{Begun, CurrentFirm, Doubtful, Over}
+use Rattle.fsfs_machine.specs.declared.machine.Section.TheVariants.{Begun, CurrentFirm, Doubtful, FloorDoubtful, Over}
 use Rattle.fsfs_machine.specs.declared.machine.Lock.{Lock}
-use Rattle.fsfs_machine.specs.declared.machine.Lock.TheVariants.{Free, Held, Stuck}
+use Rattle.fsfs_machine.specs.declared.machine.Lock.TheVariants.{Free, Held, Stuck, StuckFloor}
 use Rattle.fsfs_machine.specs.declared.machine.Step.TheVariants as step
 use Rattle.fsfs_machine.specs.Machine.{stuck_place, recorded}
 use Rattle.fsfs_turn.specs.Alone.{are_harmless, is_doubtful_at}
 use Rattle.fsfs_turn.specs.Past.{doubt, stuck_with, Safe}
-use Rattle.fsfs_turn.specs.Views.{View, Sees, is_held, left_by, coming_at, Looked, LockTaken, FoundStuck, MayGive, LockGiven, Revealed}
+use Rattle.fsfs_turn.specs.Standing.{IsStore}
+use Rattle.fsfs_turn.specs.Views.{View, Sees, is_held, left_by, coming_at, Looked, LockTaken, FoundStuck, MayGive, MustStick, LockGiven, Revealed}
 use Rattle.fsfs_turn.specs.Telling.{TellsSeen}
 use Rattle.fsfs_turn.proofs.Moves.{Moved}
-use Rattle.fsfs_turn.proofs.Locking.{quiet_left, look_comes, take_comes, find_comes, held_in, give_comes, stick_comes, reveal_comes}
+use Rattle.fsfs_turn.proofs.Locking.{quiet_left, look_comes, take_comes, find_comes, held_in, give_comes, stick_comes, stick_floor_comes, reveal_comes}
 use Rattle.fsfs_pass.specs.declared.seats.seat_view.SeatView.{SeatView}
 use Rattle.fsfs_pass.specs.LockWords.{lock_word, place_number}
 use Rattle.fsfs_pass.specs.Seats.{is_left, view_of, look_view, lock_view, stuck_view, outside_view, reveal_view, Sits}
@@ -81,14 +82,14 @@ module _ (first : SeatView) (views : List SeatView) (lock young : ℕ) (t : Trac
       let one = held_word may.inside may.is in
       record { sound = λ so few. refl; found = λ f is. absurd (let le = f is in omega (arith, le, one)); stuck = λ le. absurd (omega (arith, le, one)); cause = inl refl }
 
-  sticks_turn : (place : DiskPlace) (x : Coming) → me.section ≡ Some (Doubtful place x) → Turns me (outside_view me) lock (place_number place)
-  sticks_turn place x inside =
+  sticks_turn : (place : DiskPlace) → is_doubtful_at me.section ≡ true → Turns me (outside_view me) lock (place_number place)
+  sticks_turn place doubtful =
       let sound = s.causes.sound id me at.0 (ap (λ st. is_left st) at.1) in
       record {
         sound = λ so few. refl;
         found = λ f is. place_above place;
         stuck = λ le. place_above place;
-        cause = inr (inl (inr (harmful_so (are_harmless me.pass.faults) (λ few. sym (ap (λ o. is_doubtful_at o) inside) ∙ sound few))));
+        cause = inr (inl (inr (harmful_so (are_harmless me.pass.faults) (λ few. sym doubtful ∙ sound few))));
       }
 
   reveals_turn : (x : Coming) → Turns me (reveal_view x (Some t) me) lock lock
@@ -110,9 +111,19 @@ module _ (first : SeatView) (views : List SeatView) (lock young : ℕ) (t : Trac
   gives may = aside (outside_view me) Free 0 (λ v u. LockGiven (step.GiveLock v.number) v u) refl refl refl refl (omega arith) refl refl (λ e. absurd cc) (gives_turn may) (inl (sym (held_leaves may.inside may.is), ap (λ o. left_by o me.left) may.is ∙ quiet_left may.inside me.left may.quiet))
       (give_comes first.layout first.low young (stuck_place s.world.lock) t s.world (view_of me) s.store sees safe may.inside may.is may.quiet)
 
-  pub sticks : (place : DiskPlace) (x : Coming) → me.section ≡ Some (Doubtful place x) → Comes (outside_view me) (place_number place) young (λ v u. LockGiven (step.StickLock v.number) v u)
-  sticks place x inside = aside (outside_view me) (Stuck place x) (place_number place) (λ v u. LockGiven (step.StickLock v.number) v u) refl refl refl refl (omega arith) refl refl (λ e. absurd cc) (sticks_turn place x inside) (inr (x, held_leaves (Doubtful place x) inside, refl, ap (λ o. left_by o me.left) inside))
+  -- by a fault that leaves a revision in doubt, or which of two floors a crash leaves
+  sticks_doubtful : (place : DiskPlace) (x : Coming) → me.section ≡ Some (Doubtful place x) → Comes (outside_view me) (place_number place) young (λ v u. LockGiven (step.StickLock v.number) v u)
+  sticks_doubtful place x inside = aside (outside_view me) (Stuck place x) (place_number place) (λ v u. LockGiven (step.StickLock v.number) v u) refl refl refl refl (omega arith) refl refl (λ e. absurd cc) (sticks_turn place (ap (λ o. is_doubtful_at o) inside)) (inr (x, held_leaves (Doubtful place x) inside, refl, ap (λ o. left_by o me.left) inside))
       (stick_comes first.layout first.low young (stuck_place s.world.lock) t s.world (view_of me) s.store sees safe place x inside)
+
+  sticks_floor : (place : DiskPlace) → me.section ≡ Some (FloorDoubtful place) → Comes (outside_view me) (place_number place) young (λ v u. LockGiven (step.StickLock v.number) v u)
+  sticks_floor place inside = aside (outside_view me) (StuckFloor place) (place_number place) (λ v u. LockGiven (step.StickLock v.number) v u) refl refl refl refl (omega arith) refl refl (λ e. absurd cc) (sticks_turn place (ap (λ o. is_doubtful_at o) inside)) (inl (sym (held_leaves (FloorDoubtful place) inside), ap (λ o. left_by o me.left) inside))
+      (stick_floor_comes first.layout first.low young (stuck_place s.world.lock) t s.world (view_of me) s.store sees safe place inside)
+
+  pub sticks : (place : DiskPlace) → MustStick place (view_of me) → Comes (outside_view me) (place_number place) young (λ v u. LockGiven (step.StickLock v.number) v u)
+  sticks place must = ⊎_elim
+      (λ (d : (x : Coming) × (me.section ≡ Some (Doubtful place x))). sticks_doubtful place d.0 d.1)
+      (λ (inside : me.section ≡ Some (FloorDoubtful place)). sticks_floor place inside) must
 
   reveal_adds : (x : Coming) (rev : ℕ) → me.section ≡ Some (CurrentFirm x) → rev ≡ length me.seen → Adds me (reveal_view x (Some t) me) young rev
   reveal_adds x rev inside rev_is =
@@ -138,7 +149,7 @@ module _ (first : SeatView) (views : List SeatView) (lock young : ℕ) (t : Trac
   -- if it meets the trace as it is it tells what is later
   pub later : (u : SeatView) → me.told ≡ true → u.met ≡ Some t → u.layout ≡ me.layout → u.low ≡ me.low → known_last me ≤ known_last u → Later (seat_store me) (seat_store u)
   later u told met layout low reach = let o = seated first views lock young t s id me at in
-      later_now s.world t o.met.0 me u (subst (λ l. Met l s.world t me o.met.0) (sym o.layout) o.met.2) told o.met.1 met layout low reach
+      later_now first.low young (stuck_place s.world.lock) s.world t o.met.0 me u (subst (λ l. IsStore l first.low young (stuck_place s.world.lock) t s.world) (sym o.layout) s.store) (subst (λ l. Met l s.world t me o.met.0) (sym o.layout) o.met.2) told o.met.1 met layout low reach
 
   -- a look tells of no fewer revisions than its pass knew of
   pub looks_further : me.told ≡ true → known_last me ≤ known_last (look_view young (Some t) me)

@@ -1,9 +1,10 @@
 -- What a pass knows and tells, from one turn to the next.
-use Rattle.std.proofs.Common.{◌≡◌, ◌≤◌, ◌+◌, ◌-◌, ◌^◌, ℕ, List, [], ◌∷◌, Bool, true, false, refl, sym, ap, subst, ◌∙◌, length, arith, length-append}
+use Rattle.std.proofs.Common.{◌≡◌, ◌≤◌, ◌+◌, ◌-◌, ◌^◌, ℕ, List, [], ◌∷◌, Bool, true, false, inl, inr, refl, sym, ap, subst, ◌∙◌, length, arith, length-append}
 use Rattle.std.specs.Prelude.{Option, Some, None, IfSome, is_some, option_map, slice_get, if◌then◌else◌, Result, Ok, Err, OnOk, OnErr, IfErr, IsErrOf, MatchOption, min, unwrap_or}
 use Rattle.std.proofs.Math.Nat.{min-le_left}
 use Rattle.atomic_table.specs.Seated.{TableId}
-use Rattle.fsfs_disk.specs.Trace.{Trace, files_now, labels_now}
+use Rattle.fsfs_disk.specs.Labels.{Label}
+use Rattle.fsfs_disk.specs.Trace.{Trace, files_now}
 use Rattle.fsfs_disk.specs.Benches.{HasShortFiles}
 use Rattle.fsfs_disk.specs.declared.disk.ListFault.{ListFault}
 use Rattle.fsfs_disk.specs.declared.disk.ListFault.TheVariants as fault
@@ -15,8 +16,8 @@ use Rattle.fsfs_machine.specs.declared.machine.Section.TheVariants.{CurrentFirm}
 use Rattle.fsfs_machine.specs.Machine.{recorded}
 use Rattle.fsfs_turn.specs.Bytes.{AllShow}
 use Rattle.fsfs_turn.specs.Views.{View, Looked}
-use Rattle.fsfs_turn.specs.Labels.{KeepsLabels}
 use Rattle.fsfs_turn.specs.Mountings.{RoseBy}
+use Rattle.fsfs_turn.specs.Packing.{CanDrop}
 use Rattle.fsfs_turn.specs.Telling.{TellsSeen}
 use Rattle.fsfs_pass.specs.declared.seats.seat_view.SeatView.{SeatView}
 use Rattle.fsfs_pass.specs.declared.seats.seat_view.Hand.TheVariants.{Empty}
@@ -24,9 +25,9 @@ use Rattle.fsfs_pass.specs.declared.seats.seat_view.Kin.{Kin}
 use Rattle.fsfs_pass.specs.declared.seats.seat_view.Stage.{Stage}
 use Rattle.fsfs_pass.specs.declared.seats.seat_view.Stage.TheVariants.{New, Sitting, Joining, Left}
 use Rattle.fsfs_pass.specs.Seats.{view_of, look_view, reveal_view, reveal_in, IsSitting}
-use Rattle.fsfs_pass.specs.Met.{Ground, ground_of, known_last, seat_store, seat_labels}
+use Rattle.fsfs_pass.specs.Met.{Ground, ground_of, known_last, seat_store}
 use Rattle.fsfs_pass.specs.Tells.{TellsIt}
-use Rattle.fsfs_pass.specs.SeatCalls.Tells.{IsBack, counting}
+use Rattle.fsfs_pass.specs.SeatCalls.Tells.{IsBack, MayDrop, counting}
 use Rattle.fsfs_pass.specs.Passes.{Seating, is_sitting, sits_at, mounted_at, reach_by, pass_store, KnowsIt}
 use Rattle.fsfs_pass.specs.PassLemmas.{pass_tells}
 use Rattle.fsfs_base.proofs.ResultLemmas.{none_of}
@@ -268,3 +269,10 @@ pub on_listing : {X F : Type 0} (r : Result X ListFault) → OnOk r F → (IsErr
 on_listing (Ok x) ok failed memory = ok
 on_listing (Err fault.Failed) ok failed memory = failed refl
 on_listing (Err fault.Memory) ok failed memory = memory refl
+
+-- ---- labels
+
+-- a label that a pass can drop its seat may drop
+pub can_drop : (v : View) (l : Label) → CanDrop v l → MayDrop v l
+can_drop v l (inl txn) = inl (txn.0, txn.2, txn.3, txn.1, txn.4)
+can_drop v l (inr pack) = inr pack

@@ -1,10 +1,10 @@
 -- The files that a seat met last, and what of them lasts.
-use Rattle.std.specs.Prelude.{◌≡◌, ◌+◌, ◌-◌, ◌<◌, ◌≤◌, ◌^◌, if◌then◌else◌, ℕ, List, length, Option, Some, option_map}
+use Rattle.std.specs.Prelude.{◌≡◌, ◌⊎◌, ◌+◌, ◌-◌, ◌<◌, ◌≤◌, ◌^◌, if◌then◌else◌, ℕ, List, length, Option, Some, None, Ok, true, option_map}
 use Rattle.fsfs_base.specs.Files.{Files}
 use Rattle.fsfs_layout.specs.Layouts.{shard_of}
 use Rattle.fsfs_layout.specs.declared.layout.Layout.{Layout}
 use Rattle.fsfs_revision.specs.RevBytes.{rev_file, floor_in, manifest_file, pack_in}
-use Rattle.fsfs_fetch.specs.Views.{View as StoreView, Grows}
+use Rattle.fsfs_fetch.specs.Views.{View as StoreView, Grows, is_packed}
 use Rattle.fsfs_disk.specs.Trace.{Trace, files_now, labels_now}
 use Rattle.fsfs_disk.specs.Labels.{Label}
 use Rattle.fsfs_machine.specs.Machine.{World, stuck_place}
@@ -12,12 +12,13 @@ use Rattle.fsfs_turn.specs.Views.{Begins}
 use Rattle.fsfs_turn.specs.Standing.{IsStore}
 use Rattle.fsfs_pass.specs.declared.seats.seat_view.SeatView.{SeatView}
 
--- The files of the first n revisions, the floor and the packs stay as they are.
+-- What stays of the files of the first n revisions: an own file is as it was, or it is gone; the floor doesn't fall; and what is packed stays
+-- as it is.
 pub record Lasts (layout : Layout) (n : ℕ) (old new : Files) : Type 0 where
-  pub own : (r : ℕ) → r < n → r < 2 ^ 32 → rev_file layout new r ≡ rev_file layout old r
-  pub floor : floor_in layout new ≡ floor_in layout old
-  pub manifest : (r : ℕ) → r < 2 ^ 32 → manifest_file new (shard_of layout r) ≡ manifest_file old (shard_of layout r)
-  pub pack : (r : ℕ) → r < 2 ^ 32 → pack_in new (shard_of layout r) ≡ pack_in old (shard_of layout r)
+  pub own : (r : ℕ) → r < n → r < 2 ^ 32 → (rev_file layout new r ≡ rev_file layout old r) ⊎ (rev_file layout new r ≡ None)
+  pub floor : (f : ℕ) → floor_in layout old ≡ Ok f → (g : ℕ) × (floor_in layout new ≡ Ok g) × (f ≤ g)
+  pub manifest : (r : ℕ) → r < 2 ^ 32 → is_packed layout old r ≡ true → manifest_file new (shard_of layout r) ≡ manifest_file old (shard_of layout r)
+  pub pack : (r : ℕ) → r < 2 ^ 32 → is_packed layout old r ≡ true → pack_in new (shard_of layout r) ≡ pack_in old (shard_of layout r)
 
 -- The seat met this trace in an earlier state of the machine, whose history had all that the pass has seen or was told of. What lasts of the
 -- files then stands in them now.

@@ -134,5 +134,5 @@ pub record Rule (began : DiskSeen) (first : SeatView) (s : State (Option DiskSee
   pub alone : (j : ℕ) (v : SeatView) → get_elem? s.views j ≡ some v → IsSitting v → v.kin.parts ≡ all_parts → v.met ≡ disk.trace
   -- the names that a seat knows to be given were given since the table began; and of labels all are as they were but those of such names
   pub names : (j : ℕ) (v : SeatView) → get_elem? s.views j ≡ some v → AreAbove first.given v.given
-  pub labels : KeepsOthersOf first.given began.trace disk.trace
+  pub labels : KeepsOthersOf first.since.packs first.given began.trace disk.trace
   pub store : (t : Trace) → disk.trace ≡ Some t → Store first s.views lock young t

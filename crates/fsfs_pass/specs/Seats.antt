@@ -21,7 +21,7 @@ use Rattle.fsfs_pass.specs.declared.seats.seat_view.Stage.TheVariants.{New, Sitt
 use Rattle.fsfs_pass.specs.declared.seats.seat_view.SeatView.{SeatView}
 
 abbrev pub view_of : SeatView → View
-view_of v = record { layout = v.layout; since = v.since; opened = v.opened; number = v.number; pass = v.pass; seen = v.seen; section = v.section; sure = v.sure; left = v.left; given = v.given; full = v.full }
+view_of v = record { layout = v.layout; since = v.since; opened = v.opened; number = v.number; pass = v.pass; seen = v.seen; section = v.section; sure = v.sure; left = v.left; given = v.given; full = v.full; firm = v.firm }
 
 -- it was told the youngest number, and has met this trace
 abbrev pub look_view : ℕ → Option Trace → SeatView → SeatView
@@ -29,7 +29,7 @@ look_view young met v = record v { pass = record v.pass { least = young }; sure 
 
 -- it has taken the lock
 abbrev pub lock_view : SeatView → SeatView
-lock_view v = record v { section = Some Begun; sure = false }
+lock_view v = record v { section = Some Begun; sure = false; firm = None }
 
 -- it found the lock stuck
 abbrev pub stuck_view : DiskPlace → SeatView → SeatView
@@ -141,7 +141,7 @@ abbrev pub left_view : SeatView
 left_view = record {
   layout = record { format = Four; folders = OneFolder; sized = tt };
   low = 0;
-  since = record { operations = 0; files = empty };
+  since = record { operations = 0; files = empty; packs = false };
   opened = 0;
   number = 0;
   pass = first_pass 0 0;
@@ -151,6 +151,7 @@ left_view = record {
   left = None;
   given = [];
   full = false;
+  firm = None;
   told = false;
   hand = Empty;
   met = None;

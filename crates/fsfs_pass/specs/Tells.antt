@@ -1,5 +1,5 @@
 -- What each step at the table tells.
-use Rattle.std.specs.Prelude.{◌≡◌, ◌⊎◌, ◌≢◌, ◌≤◌, ◌<◌, ℕ, List, [], ◌∷◌, true, Option, Some, None, IfSome, length, is_some, slice_get}
+use Rattle.std.specs.Prelude.{◌≡◌, ◌⊎◌, ◌≢◌, ◌≤◌, ◌<◌, ℕ, List, [], ◌∷◌, Bool, true, Option, Some, None, IfSome, length, is_some, slice_get}
 use mathlib.Core.Option.{some}
 use lib.ListN.{get_elem?}
 use Rattle.atomic_table.specs.Table.{Me, Step}
@@ -16,10 +16,10 @@ use Rattle.fsfs_fetch.specs.Views.{Later}
 use Rattle.fsfs_machine.specs.declared.machine.Coming.{Coming}
 use Rattle.fsfs_machine.specs.declared.machine.Pass.{Pass}
 use Rattle.fsfs_machine.specs.Kept.{IsIn, AreOnce}
-use Rattle.fsfs_machine.specs.declared.machine.Section.TheVariants.{CurrentFirm, Doubtful}
+use Rattle.fsfs_machine.specs.declared.machine.Section.TheVariants.{CurrentFirm}
 use Rattle.fsfs_machine.specs.declared.machine.Step.TheVariants.{GiveLock, StickLock}
 use Rattle.fsfs_base.specs.declared.places.place.DiskPlace.{DiskPlace}
-use Rattle.fsfs_turn.specs.Views.{Sees, Begins, Looked, LockTaken, FoundStuck, LockGiven, MayGive, Revealed}
+use Rattle.fsfs_turn.specs.Views.{Sees, Begins, Looked, LockTaken, FoundStuck, LockGiven, MayGive, MustStick, Revealed}
 use Rattle.fsfs_disk.specs.Seen.{DiskSeen, IsLater}
 use Rattle.fsfs_pass.specs.declared.seats.seat_view.Hand.TheVariants.{Empty, Out}
 use Rattle.fsfs_pass.specs.declared.seats.seat_view.Before.{Before}
@@ -63,7 +63,7 @@ gave_lock st m found m' = (m' ≡ (outside_view m.0, m.1)) × (m.0.told ≡ true
 
 -- it is at a fault of this place, which leaves the lock stuck
 abbrev pub CanStick : DiskPlace → SeatView → Type 0
-CanStick place v = v.told ≡ true → (x : Coming) × (v.section ≡ Some (Doubtful place x))
+CanStick place v = v.told ≡ true → MustStick place (view_of v)
 
 abbrev pub stuck_it : At → Sat → ℕ → Sat → Type 0
 stuck_it st m found m' = (m' ≡ (outside_view m.0, m.1)) × (m.0.told ≡ true → LockGiven (StickLock m.0.number) (view_of m.0) (view_of (outside_view m.0)))
@@ -110,9 +110,10 @@ pub record IsMet (v : SeatView) (t : Trace) : Type 0 where
   pub own : OwnFilesLast v.layout v.since (Some t)
 
 -- The disk was taken where it was there: that with which the table began, of which as many calls have failed as failed of the seat's, or more, and as many of its benches'.
--- Of the labels that it kept then it keeps all, and no more, but for transactions whose names are above those that were given then.
-abbrev pub taken : DiskSeen → List ℕ → At → Sat → ℕ → Sat → Type 0
-taken began names st m found m' = (found ≡ 0 → (d : DiskSeen) × (m' ≡ (record m.0 { hand = Out d }, (0, Some d) ∷ m.1)) × (m.0.told ≡ is_some d.trace) × (m.0.kin.parts ≡ all_parts → d.trace ≡ m.0.met) × IsLater m.0.failures m.0.bench_failures began d × KeepsOthersOf names began.trace d.trace × ((t : Trace) → d.trace ≡ Some t → IsMet m.0 t)) × (found ≢ 0 → m' ≡ m)
+-- Of the labels that it kept then it keeps all, and no more, but for transactions whose names are above those that were given then, and for packs
+-- where passes may pack.
+abbrev pub taken : DiskSeen → Bool → List ℕ → At → Sat → ℕ → Sat → Type 0
+taken began packs names st m found m' = (found ≡ 0 → (d : DiskSeen) × (m' ≡ (record m.0 { hand = Out d }, (0, Some d) ∷ m.1)) × (m.0.told ≡ is_some d.trace) × (m.0.kin.parts ≡ all_parts → d.trace ≡ m.0.met) × IsLater m.0.failures m.0.bench_failures began d × KeepsOthersOf packs names began.trace d.trace × ((t : Trace) → d.trace ≡ Some t → IsMet m.0 t)) × (found ≢ 0 → m' ≡ m)
 
 -- it went back as it was taken
 abbrev pub given_back : At → Sat → ℕ → Sat → Type 0

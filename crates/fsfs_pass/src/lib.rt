@@ -12,9 +12,10 @@ mod turns;
 
 pub use notes::said_again;
 pub use pass_turns::PassTurns;
-pub use seat_calls::calls::{firm_names, make_folder, put, rename};
+pub use seat_calls::calls::{adopt_part, firm_names, make_folder, put, rename};
 pub use seat_calls::firsts::{adopt, adopt_file, draw};
 pub use seat_calls::labels::{bench, drop_bench, list};
+pub use seat_calls::packs::{drop_folder, make_pack_folder, remove};
 pub use seat_calls::reads::{read, size};
 pub use seats::joining::join;
 pub use seats::law::{Board, Law, SharedSeat};

@@ -21,11 +21,13 @@ fn later_of(one: RevNum, other: RevNum) -> RevNum
 impl<'a, R: Wait, D: Disk + Drop> Turns<R> for PassTurns<'a, D> {
     ghost use Rattle.std.specs.Prelude.{◌≡◌, ℕ, true, None, IfOk, OnErr, MatchOption};
     ghost use Rattle.fsfs_base.specs.Failures.{HasCause};
-    ghost use Rattle.fsfs_disk.specs.Labels.{Txn as TxnLabel, label_of, without_label};
+    ghost use Rattle.fsfs_disk.specs.Labels.{Txn as TxnLabel, Pack as PackLabel, label_of, without_label};
     ghost use Rattle.fsfs_machine.specs.declared.machine.Txn.{Txn};
     ghost use Rattle.fsfs_machine.specs.declared.machine.Went.{Went};
     ghost use Rattle.fsfs_machine.specs.Kept.{IsIn};
-    ghost use Rattle.fsfs_turn.specs.Views.{View, Answers};
+    ghost use Rattle.fsfs_base.specs.declared.places.place.DiskPlace.TheVariants.{Remove};
+    ghost use Rattle.fsfs_turn.specs.Packing.{CanDrop, DoneBeside};
+    ghost use Rattle.fsfs_turn.specs.Views.{View, Answers, is_held};
     ghost use Rattle.fsfs_turn.specs.Labels.{MayRelabel, Drops};
     ghost use Rattle.fsfs_turn.specs.Learning.{MayPurge, Purged, SpentPurged};
     ghost use Rattle.fsfs_turn.specs.Mountings.{RoseBy};
@@ -130,6 +132,27 @@ impl<'a, R: Wait, D: Disk + Drop> Turns<R> for PassTurns<'a, D> {
         crate::adopt_file(rt, board, &mut self.seat, bench, file, to, about)
     }
 
+    fn adopt_part(
+        &mut self,
+        rt: &R,
+        bench: &mut D::Bench,
+        file: &Name,
+        to: &Name,
+    ) -> Result<(), Failed> {
+        let board = self.board;
+        crate::adopt_part(rt, board, &mut self.seat, bench, file, to)
+    }
+
+    fn remove(&mut self, rt: &R, name: &Name) -> Result<bool, Failed> {
+        let board = self.board;
+        crate::remove(rt, board, &mut self.seat, name)
+    }
+
+    fn drop_folder(&mut self, rt: &R, name: &Name) -> Result<(), Failed> {
+        let board = self.board;
+        crate::drop_folder(rt, board, &mut self.seat, name)
+    }
+
     fn read(
         &mut self,
         rt: &R,
@@ -162,11 +185,13 @@ impl<'a, R: Wait, D: Disk + Drop> Turns<R> for PassTurns<'a, D> {
     }
 
     fn drop_bench(&mut self, rt: &R, label: &Label, bench: Option<D::Bench>) -> Result<bool, Failed>
-        requires due { self.old.seat.me.0.told ≡ true → (v : View) × (name : ℕ) × (base : ℕ) × KnowsIt (D.trace self.old.first.value) self.old.last self.old.seat.me.0 v × (v.section ≡ None) × IsIn name v.given × (label_of label.now ≡ TxnLabel base name) }
+        requires due { self.old.seat.me.0.told ≡ true → (v : View) × KnowsIt (D.trace self.old.first.value) self.old.last self.old.seat.me.0 v × CanDrop v (label_of label.now) }
         ensures purged { (v : View) (txn : Txn) (base : ℕ) → KnowsIt (D.trace self.old.first.value) self.old.last self.old.seat.me.0 v → MayPurge v txn → label_of label.now ≡ TxnLabel base txn.name
             → (u : View) × (went : Went) × KnowsIt (D.trace self.new.first.value) self.new.last self.new.seat.me.0 u × Answers result went × Purged txn went v u }
         ensures spent { (v : View) (name base : ℕ) → KnowsIt (D.trace self.old.first.value) self.old.last self.old.seat.me.0 v → v.section ≡ None → IsIn name v.given → label_of label.now ≡ TxnLabel base name
             → (u : View) × (went : Went) × KnowsIt (D.trace self.new.first.value) self.new.last self.new.seat.me.0 u × Answers result went × SpentPurged name went v u }
+        ensures beside { (v : View) (k : ℕ) → KnowsIt (D.trace self.old.first.value) self.old.last self.old.seat.me.0 v → is_held v.section ≡ true → label_of label.now ≡ PackLabel k
+            → (u : View) × (went : Went) × KnowsIt (D.trace self.new.first.value) self.new.last self.new.seat.me.0 u × Answers result went × DoneBeside Remove went v u }
         ensures mounted { sits_at (D.mount_path self.new.first.value) self.new.seat.table_id self.new.seat.me.0.kin ≡ sits_at (D.mount_path self.old.first.value) self.old.seat.table_id self.old.seat.me.0.kin }
         ensures duty { self.new.seat.me.0.told ≡ self.old.seat.me.0.told }
         ensures dropped { IfOk result (λ there. Drops self.old.seat.me.0.told (label_of label.now) there (seat_labels self.old.seat.me.0) (seat_labels self.new.seat.me.0)) }
@@ -181,6 +206,11 @@ impl<'a, R: Wait, D: Disk + Drop> Turns<R> for PassTurns<'a, D> {
     fn make_folder(&mut self, rt: &R, name: &Name) -> Result<(), Failed> {
         let board = self.board;
         crate::make_folder(rt, board, &mut self.seat, name)
+    }
+
+    fn make_pack_folder(&mut self, rt: &R, name: &Name) -> Result<(), Failed> {
+        let board = self.board;
+        crate::make_pack_folder(rt, board, &mut self.seat, name)
     }
 
     ghost sole = { λ s v u bound known other. one_known (D.trace s.first.value) s.last s.seat.me.0 v u known other };

@@ -18,4 +18,9 @@ pub use Rattle.fsfs_commit.specs.Works
 pub use Rattle.fsfs_commit.specs.declared.transaction.standing.Standing
 pub use Rattle.fsfs_create.specs.Known
 pub use Rattle.fsfs_create.specs.OpenFaults
+pub use Rattle.fsfs_pack.specs.Causes as PackCauses
+pub use Rattle.fsfs_pack.specs.Packs
+pub use Rattle.fsfs_pack.specs.declared.answers.PackDone
+pub use Rattle.fsfs_pack.specs.declared.answers.PackEnd
+pub use Rattle.fsfs_pack.specs.declared.answers.PackFault
 pub use Rattle.fsfs_txn.specs.Standing as TxnStanding

@@ -1,5 +1,5 @@
 //! What a pass does with its transactions, by turns: they begin, are listed, committed and purged.
-//! The repository that runs, with one owner: opened, read, changed by transactions, and closed.
+//! The repository that runs, with one owner: opened, read, changed by transactions, packed, and closed.
 //! A repository that passes share: opened, lent to its passes, and closed.
 #![tactic(auto)]
 
@@ -9,6 +9,7 @@ mod txns;
 
 pub use fsfs_begin::BeginFault;
 pub use fsfs_commit::Standing;
+pub use fsfs_pack::{PackDone, PackEnd, PackFault, pack};
 pub use fsfs_txn::{Deleted, Made, PathOpened, TextSet, Txn, TxnError};
 pub use fsfs_txn_nodes::HeldNodes;
 pub use owned::reading::Reader;

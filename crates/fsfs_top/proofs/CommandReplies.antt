@@ -32,18 +32,19 @@ use Rattle.fsfs_cli.specs.declared.request.Printed.{Printed}
 use Rattle.fsfs_cli.specs.declared.request.Printed.TheVariants.{Tree, Text, Author, Date, Log, Info, Changed, History}
 use Rattle.fsfs_cli.specs.declared.request.RevisionLook.{RevisionLook}
 use Rattle.fsfs_cli.specs.declared.request.Task.{Task}
-use Rattle.fsfs_cli.specs.declared.request.Task.TheVariants.{Create, ListTxns, RemoveTxns, Look, RunJobs}
+use Rattle.fsfs_cli.specs.declared.request.Task.TheVariants.{Create, ListTxns, RemoveTxns, Pack, Look, RunJobs}
 use Rattle.fsfs_cli.specs.declared.tool.Tool.{Tool}
 use Rattle.fsfs_cli.specs.declared.tool.Tool.TheVariants as tools
 use Rattle.fsfs_cli.proofs.TaskLemmas.{tool_of_look, asks_task}
 use Rattle.fsfs_top.specs.Command.{Did, Tells, answer_of}
 use Rattle.fsfs_top.specs.Looks.{all_bytes, TextOf}
 use Rattle.fsfs_top.specs.Replies.{Gives, HasNone, HasTxns, ShowsIds, Suits, IsOfSmallFiles, look_command, answer_to, Replies}
+use Rattle.fsfs_top.specs.PackAnswers.{unpacked_of}
 use Rattle.fsfs_top.specs.TxnAnswers.{refuses_admin}
 use Rattle.fsfs_top.specs.Scenes.{Scene, SinkScene}
 use Rattle.fsfs_top.proofs.TaskDone.{task_done}
 use Rattle.fsfs_top.proofs.FlatTexts.{tree_is_by_tree, file_is_by_tree, author_is_by_props, date_is_by_props, log_is_by_props, info_is_by_props, changed_is_by_changes, history_is_by_trees, no_rev_line}
-use Rattle.fsfs_top.proofs.LookReplies.{last_is, Fits, given_none, given_no_listing, given_no_removal, given_listing, given_removal, given_youngest, given_uuid, given_dump, given_verify, given_look, given_create, given_again}
+use Rattle.fsfs_top.proofs.LookReplies.{last_is, Fits, given_none, given_no_listing, given_no_removal, given_no_pack, given_pack, given_listing, given_removal, given_youngest, given_uuid, given_dump, given_verify, given_look, given_create, given_again}
 
 -- ---- a look at a revision, by what is printed
 
@@ -111,6 +112,9 @@ module _ (tool : Tool) (ws : List (List ℕ)) (clock : Option ℕ) (dice : Optio
   none repos (RemoveTxns txns) t shown asks here absent =
       let done = task_done clock dice a b fault tool ws repos (RemoveTxns txns) did asks in
       given_no_removal status tool a b err_old err_new repos t here fault ends (refuses_admin not_repo 1) txns (ap (λ (k : Tool). refuses (line_of k (Request NotRepo)) 1) (sym (asks_task tool ws repos (RemoveTxns txns) asks))) absent done.2 done.0
+  none repos Pack t shown asks here absent =
+      given_no_pack status tool a b err_old err_new repos t here fault ends (refuses_admin not_repo 1) (ap (λ (k : Tool). refuses (line_of k (Request NotRepo)) 1) (sym (asks_task tool ws repos Pack asks))) absent
+      (task_done clock dice a b fault tool ws repos Pack did asks).0
   none repos (Look look) t shown asks here absent =
       let looked = task_done clock dice a b fault tool ws repos (Look look) did asks in
       let by_look = asks_task tool ws repos (Look look) asks in
@@ -133,12 +137,13 @@ module _ (tool : Tool) (ws : List (List ℕ)) (clock : Option ℕ) (dice : Optio
       (λ n youngest. no_rev_line tool (reply asked) n youngest by_look) looked.0
 
   opened : (repos : List ℕ) (task : Task) (t : Trace) (o : Opened) (h : List Revision) (shown : Path → List ℕ) (names : List (List ℕ)) (txns : List (ℕ × ℕ)) → Asks tool ws repos task → a.host.disk_at repos ≡ Some t → IsOfSmallFiles task → IsOpened (small_texts (files_now t)) o
-      → last_of h ≡ o.youngest → HasTxns task (labels_now t) names txns → Given (answer_to task shown (Some (record { history = h; identifier = o.uuid; names = names; txns = txns })))
+      → last_of h ≡ o.youngest → HasTxns task (labels_now t) names txns → Given (answer_to task shown (Some (record { history = h; identifier = o.uuid; names = names; txns = txns; unpacked = unpacked_of o })))
   opened repos (Create shard) t o h shown names txns asks here small is last has = absurd small
   opened repos ListTxns t o h shown names txns asks here small is last has = given_listing status tool a b err_old err_new repos t here fault ends names has o is (task_done clock dice a b fault tool ws repos ListTxns did asks).0
   opened repos (RemoveTxns given) t o h shown names txns asks here small is last has =
       let done = task_done clock dice a b fault tool ws repos (RemoveTxns given) did asks in
       given_removal status tool a b err_old err_new repos t here fault ends given txns (asks_task tool ws repos (RemoveTxns given) asks) has o is done.2 done.0
+  opened repos Pack t o h shown names txns asks here small is last has = absurd small
   opened repos (Look Youngest) t o h shown names txns asks here small is last has =
       given_youngest status tool a b err_old err_new repos t here fault ends o h is last (task_done clock dice a b fault tool ws repos (Look Youngest) did asks).0
   opened repos (Look Uuid) t o h shown names txns asks here small is last has = given_uuid status tool a b err_old err_new repos t here fault ends o is (task_done clock dice a b fault tool ws repos (Look Uuid) did asks).0
@@ -148,7 +153,7 @@ module _ (tool : Tool) (ws : List (List ℕ)) (clock : Option ℕ) (dice : Optio
   opened repos (RunJobs run) t o h shown names txns asks here small is last has = absurd small
 
   stands : (repos : List ℕ) (task : Task) (t : Trace) (h : List Revision) (shown : Path → List ℕ) (names : List (List ℕ)) (txns : List (ℕ × ℕ)) → Asks tool ws repos task → a.host.disk_at repos ≡ Some t → (s : StandsFor (files_now t) h)
-      → Suits task (rev_bytes s.opened.layout (files_now t)) h shown → HasTxns task (labels_now t) names txns → Given (answer_to task shown (Some (record { history = h; identifier = s.opened.uuid; names = names; txns = txns })))
+      → Suits task (rev_bytes s.opened.layout (files_now t)) h shown → HasTxns task (labels_now t) names txns → Given (answer_to task shown (Some (record { history = h; identifier = s.opened.uuid; names = names; txns = txns; unpacked = unpacked_of s.opened })))
   stands repos (Create shard) t h shown names txns asks here s are has =
       let made = task_done clock dice a b fault tool ws repos (Create shard) did asks in
       let by_admin = (asks_task tool ws repos (Create shard) asks).0 in
@@ -156,6 +161,8 @@ module _ (tool : Tool) (ws : List (List ℕ)) (clock : Option ℕ) (dice : Optio
       (ap (λ (k : Tool). refuses (line_of k (Request AlreadyRepo)) 1) (sym by_admin)) ends made.0 made.1
   stands repos ListTxns t h shown names txns asks here s are has = opened repos ListTxns t s.opened h shown names txns asks here tt s.small (last_is (files_now t) h s) has
   stands repos (RemoveTxns given) t h shown names txns asks here s are has = opened repos (RemoveTxns given) t s.opened h shown names txns asks here tt s.small (last_is (files_now t) h s) has
+  stands repos Pack t h shown names txns asks here s are has =
+      given_pack status tool a b err_old err_new repos t here fault ends h s (task_done clock dice a b fault tool ws repos Pack did asks).0
   stands repos (Look Youngest) t h shown names txns asks here s are has = opened repos (Look Youngest) t s.opened h shown names txns asks here tt s.small (last_is (files_now t) h s) tt
   stands repos (Look Uuid) t h shown names txns asks here s are has = opened repos (Look Uuid) t s.opened h shown names txns asks here tt s.small (last_is (files_now t) h s) tt
   stands repos (Look Dump) t h shown names txns asks here s are has =

@@ -1,18 +1,24 @@
 -- The files decide which refusal of an opening a run of svnjobs tells.
-use Rattle.std.proofs.Common.{◌≡◌, ◌⊎◌, ℕ, Bool, true, inl, inr, subst, arith}
-use Rattle.std.specs.Prelude.{Some, Result}
+use Rattle.std.proofs.Common.{◌≡◌, ◌⊎◌, ℕ, Bool, List, true, inl, inr, sym, subst, arith}
+use Rattle.std.specs.Prelude.{None, Some, Result, Ok, Err}
 use Rattle.fsfs_base.specs.Failures.{Rose}
 use Rattle.fsfs_cli.specs.CommandFaults.{fault_from_script}
 use Rattle.fsfs_cli.specs.declared.faults.fault.Fault.{Fault}
-use Rattle.fsfs_cli.specs.declared.faults.fault.Fault.TheVariants.{Memory}
+use Rattle.fsfs_cli.specs.declared.faults.fault.Fault.TheVariants.{Memory, Outside}
+use Rattle.fsfs_cli.specs.declared.faults.outside_fault.OutsideFault.TheVariants.{Write}
 use Rattle.fsfs_cli.specs.declared.request.JobRun.{JobRun}
 use Rattle.fsfs_workers.specs.ByWorkers.{RunsBeside, scene_where}
 use Rattle.fsfs_workers.specs.ByWorkers as beside
 use Rattle.fsfs_workers.specs.Runs.{RunScene, RunsScript}
 use Rattle.fsfs_workers.specs.Runs as serial
-use Rattle.fsfs_top.specs.Scripts.{RunsBy, RunIsDecided, ended_fault}
+use Rattle.fsfs_workers.specs.JobAnswer.{JobAnswer}
+use Rattle.fsfs_workers.specs.Runs.{PrintsChecked}
+use Rattle.fsfs_top.specs.declared.checked.JobsEnd.{JobsEnd}
+use Rattle.fsfs_top.specs.Scripts.{RunsBy, RunsAsAsked, RunsChecked, WorkedBy, RunIsDecided, ended_fault}
+use Rattle.fsfs_top.specs.Scripts as checked
 use Rattle.fsfs_top.specs.Transactions.{OpeningIsDecided}
-use Rattle.fsfs_top.proofs.FilesDecide.{opening_because, opening_as}
+use Rattle.fsfs_top.proofs.FilesDecide.{opening_because, opening_as, opening_outside}
+use Rattle.fsfs_top.proofs.Printing.{as_printed}
 
 script_opening : (moment before after : ℕ) (benches : ℕ → Type 0) (a b : RunScene) (ended : Result ℕ Fault) → RunsScript moment before after benches a b ended → OpeningIsDecided a.trace (ended_fault ended)
 script_opening moment before after benches a b _ (serial.NotOpened why because unopened untouched unread) = opening_because (Rose before after) a.trace why because
@@ -27,10 +33,26 @@ beside_opening moment before after benches a b _ (beside.NoRoom o js opens read 
 beside_opening moment before after benches a b _ (beside.Done o js answers youngest result opens read ends each rose failed kept over printed) = opening_as a.trace o (ended_fault result) opens
 beside_opening moment before after benches a b _ (beside.Lost unknown written failed) = absurd cc
 
-pub run_decided : (run : JobRun) (known : Bool) (moment before after : ℕ) (benches : ℕ → Type 0) (a b : RunScene) (ended : Result ℕ Fault) → RunsBy run known moment before after benches a b ended → RunIsDecided run known a.trace ended
+run_decided : (run : JobRun) (known : Bool) (moment before after : ℕ) (benches : ℕ → Type 0) (a b : RunScene) (ended : Result ℕ Fault) → RunsBy run known moment before after benches a b ended → RunIsDecided run known a.trace ended
 run_decided run known moment before after benches a b ended (inl (one, ran)) = λ which. script_opening moment before after benches a b ended ran
 run_decided run known moment before after benches a b ended (inr (two, ran)) = by
   where
     by : (run.workers ≡ 1) ⊎ (known ≡ true) → OpeningIsDecided a.trace (ended_fault ended)
     by (inl one) = absurd (omega (arith, one, two))
     by (inr is) = beside_opening moment before after benches a b ended (subst (λ (k : Bool). RunsBeside moment 2 k before after benches (scene_where k a) (scene_where k b) ended) is ran)
+
+-- ---- with a check
+
+worked_decided : (run : JobRun) (known : Bool) (moment before middle : ℕ) (benches : ℕ → Type 0) (a b : RunScene) (answers : List JobAnswer) (sound : Bool) (youngest : ℕ) (ended : Result ℕ Fault) → WorkedBy run known moment before middle benches a b answers youngest
+    → PrintsChecked answers sound youngest a.written b.written a.write_faults b.write_faults ended → RunIsDecided run known a.trace ended
+worked_decided run known moment before middle benches a b answers sound youngest (Ok status) worked printed = run_decided run known moment before middle benches a _ (Ok _) (as_printed run known moment before middle benches a b answers youngest worked)
+worked_decided run known moment before middle benches a b answers sound youngest (Err fault) worked printed = λ which.
+    subst (λ (f : Fault). OpeningIsDecided a.trace (Some f)) (sym printed.0) (opening_outside a.trace (Outside Write) tt)
+
+checked_decided : (run : JobRun) (known : Bool) (moment before after : ℕ) (benches : ℕ → Type 0) (a b : RunScene) (end : JobsEnd) → RunsChecked run known moment before after benches a b end → RunIsDecided run known a.trace end.ended
+checked_decided run known moment before after benches a b _ (checked.NotDone fault ran written failed) = run_decided run known moment before after benches a b (Err fault) ran
+checked_decided run known moment before after benches a b _ (checked.Done answers youngest middle layout ended unsound worked later laid sound printed) = worked_decided run known moment before middle benches a b answers _ youngest ended worked printed
+
+pub end_decided : (run : JobRun) (known : Bool) (moment before after : ℕ) (benches : ℕ → Type 0) (a b : RunScene) (end : JobsEnd) → RunsAsAsked run known moment before after benches a b end → RunIsDecided run known a.trace end.ended
+end_decided run known moment before after benches a b end (inl (plain, unchecked, ran)) = run_decided run known moment before after benches a b end.ended ran
+end_decided run known moment before after benches a b end (inr (asked, ran)) = checked_decided run known moment before after benches a b end ran

@@ -8,7 +8,10 @@ pub mod LookReplies
 pub mod FlatTexts
 pub mod CommandReplies
 pub mod Making
+pub mod Printing
+pub mod Checking
 pub mod JobsTold
 pub mod JobsDecided
 pub mod OthersTold
 pub mod WorkersTold
+pub mod PacksTold

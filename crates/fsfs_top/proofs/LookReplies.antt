@@ -16,7 +16,7 @@ use Rattle.fsfs_cli.specs.declared.faults.fault.Fault.{Fault}
 use Rattle.fsfs_cli.specs.declared.faults.fault.Fault.TheVariants.{Request, Outside, Memory}
 use Rattle.fsfs_cli.specs.declared.faults.request_fault.RequestFault.TheVariants.{AlreadyRepo, NotRepo, NoRev, NoTxn}
 use Rattle.fsfs_cli.specs.declared.faults.outside_fault.OutsideFault.{OutsideFault}
-use Rattle.fsfs_cli.specs.declared.faults.outside_fault.OutsideFault.TheVariants.{Mount, Disk, Write}
+use Rattle.fsfs_cli.specs.declared.faults.outside_fault.OutsideFault.TheVariants.{Mount, Disk, Write, Bench}
 use Rattle.fsfs_look.specs.declared.look_error.LookError.{LookError}
 use Rattle.fsfs_look.specs.declared.look_error.LookError.TheVariants as errors
 use Rattle.fsfs_look.specs.Written.{Writes}
@@ -46,9 +46,17 @@ use Rattle.fsfs_cli.specs.declared.request.RevisionLook.{RevisionLook}
 use Rattle.fsfs_top.specs.Command.{Created, Tells, answer_of, identifier_of}
 use Rattle.fsfs_top.specs.Looks.{all_bytes, TextOf, TextIn, revision_line, uuid_line, looked_revision, LacksRevision, IsFaultOf, DumpIn, VerifyIn, Looked, LooksInto, NotOpened, PrintsLine, PrintsLook}
 use Rattle.fsfs_workers.specs.Openings.{OpensAs, DoesNotOpen}
+use Rattle.fsfs_workers.proofs.Unopened.{does_not_open as refused_outside}
 use Rattle.fsfs_top.specs.Replies.{Gives, OutsideFailed}
 use Rattle.fsfs_top.specs.TxnAnswers.{first_missing, removal_reply, ListingAnswer, RemovalAnswer, names_text}
 use Rattle.fsfs_top.specs.Transactions.{txns_of, ListsTxns, RemovesTxns}
+use Rattle.fsfs_top.specs.Packing.{Packs, PrintsPacked}
+use Rattle.fsfs_top.specs.PackAnswers.{packed_line, unpacked_of, PackAnswer}
+use Rattle.fsfs_top.proofs.PacksTold.{packed_count}
+use Rattle.fsfs_pack_run.specs.PackCauses.{IsWant, IfBench, IfDisk as IfPackDisk}
+use Rattle.fsfs_pack_run.specs.PackFault.{PackFault}
+use Rattle.fsfs_pack_run.specs.PackFault.TheVariants as pack
+use Rattle.fsfs_pack_run.specs.Runs.{fault_from_pack, shards_of, PacksDisk, NotOpened as PackUnopened, Ended as PackEnded}
 use Rattle.fsfs_top.specs.Scenes.{Scene, SinkScene}
 use Rattle.fsfs_top.proofs.TxnsTold.{first_same}
 use Rattle.fsfs_layout.proofs.OpeningLemmas.{one_youngest, one_layout, same_uuid}
@@ -257,6 +265,19 @@ module _ (status : ℕ) (tool : Tool) (a b : Scene) (err_old err_new : SinkScene
     given_no_removal reply txns is none kept (inr (inl (why, e, because, unopened, same))) = none_there reply t why fault is none e ends kept (caused why because)
     given_no_removal reply txns is none kept (inr (inr (o, opens, into))) = let there = subst (λ (x : Option Trace). OpensAs x o) here opens in absurd (none_or_some (small_texts (files_now t)) there.format.0 none there.format.1)
 
+    -- ---- of packing
+
+    no_pack : (reply : Reply) (bench : Type 0) (new : Option Trace) (told : Result ℕ Fault) → reply ≡ refuses (line_of tool (Request NotRepo)) 1 → IsNone (small_texts (files_now t))
+        → PacksDisk a.host.disk_faults b.host.disk_faults bench (Some t) new told → PrintsPacked told a.out b.out fault → Given reply
+    no_pack reply bench new _ is none (PackUnopened why because firm) printed = none_there reply t why fault is none printed.0 ends printed.1 because
+    no_pack reply bench new _ is none (PackEnded o end opens over listed left disk failed) printed = absurd (none_or_some (small_texts (files_now t)) opens.format.0 none opens.format.1)
+
+    pub given_no_pack : (reply : Reply) → reply ≡ refuses (line_of tool (Request NotRepo)) 1 → IsNone (small_texts (files_now t)) → Packs repos a b fault → Given reply
+    given_no_pack reply is none (inl (e, rose, same, kept)) = outside_failed reply Mount fault e ends (inl rose) kept
+    given_no_pack reply is none (inr (told, packs, printed)) =
+        let bench = Rose a.host.bench_faults b.host.bench_faults in
+        no_pack reply bench (b.host.disk_at repos) told is none (subst (λ (x : Option Trace). PacksDisk a.host.disk_faults b.host.disk_faults bench x (b.host.disk_at repos) told) here packs) printed
+
     -- the reply is by the first that there isn't
     removal_is : (txns there : List (ℕ × ℕ)) (o : Option (ℕ × ℕ)) → there ≡ txns_of (labels_now t) → IfSome (a.host.disk_at repos) (λ t. first_lacking txns (labels_now t) ≡ o) → RemovalAnswer txns (Some there) ≡ removal_reply o
     removal_is txns there o has first =
@@ -277,7 +298,7 @@ module _ (status : ℕ) (tool : Tool) (a b : Scene) (err_old err_new : SinkScene
     -- at the small files
     given_line : (line text : List ℕ) → line ≡ text → PrintsLine line a.out b.out fault → Given (prints text)
     given_line line text same (inl (e, adds)) = printed_text (prints text) text refl (moved fault None e ends) (subst (λ (x : List ℕ). Adds a.out.written b.out.written x) same adds)
-    given_line line text same (inr (e, rose, front)) = inr (subst (λ (x : List ℕ). AddsFront a.out.written b.out.written x) same front, inl ((moved fault (Some (Outside Write)) e ends).0, inr (inr rose)))
+    given_line line text same (inr (e, rose, front)) = inr (subst (λ (x : List ℕ). AddsFront a.out.written b.out.written x) same front, inl ((moved fault (Some (Outside Write)) e ends).0, inr (inr (inl rose))))
 
     -- the names that it printed are those of the labels, in their one order
     pub given_listing : (names : List (List ℕ)) → AreTxns (labels_now t) names → (o : Opened) → IsOpened (small_texts (files_now t)) o → ListsTxns repos a b fault → Given (ListingAnswer (Some names))
@@ -300,6 +321,34 @@ module _ (status : ℕ) (tool : Tool) (a b : Scene) (err_old err_new : SinkScene
         let there = subst (λ (x : Option Trace). OpensAs x p) here opens in
         given_line (uuid_line p.uuid) (uuid_line o.uuid) (ap uuid_line (same_uuid (small_texts (files_now t)).uuid p.uuid o.uuid there.behind.uuid is.behind.uuid)) line
 
+    -- packing of files that stand for a history
+    module _ (h : List Revision) (s : StandsFor (files_now t) h) where
+      abbrev pack_reply : Reply
+      pack_reply = PackAnswer (Some (unpacked_of s.opened))
+
+      -- it stopped: nothing was wrong with what was read
+      pack_stopped : (why : PackFault) → IsWant why → IfPackDisk why (Rose a.host.disk_faults b.host.disk_faults) → IfBench why (Rose a.host.bench_faults b.host.bench_faults) → fault ≡ Some (fault_from_pack why) → b.out ≡ a.out → Given pack_reply
+      pack_stopped (pack.Stuck place) want disk bench is kept = absurd want
+      pack_stopped (pack.DiskFault place) want disk bench is kept = outside_failed pack_reply (Disk place) fault is ends (inr (inl disk)) kept
+      pack_stopped pack.BenchFault want disk bench is kept = outside_failed pack_reply Bench fault is ends (inr (inr (inr bench))) kept
+      pack_stopped (pack.Missing rev) want disk bench is kept = absurd want
+      pack_stopped (pack.Small small) want disk bench is kept = absurd want
+      pack_stopped pack.Memory want disk bench is kept = starved pack_reply fault is ends kept
+
+      pack_told : (new : Option Trace) (told : Result ℕ Fault) → PacksDisk a.host.disk_faults b.host.disk_faults (Rose a.host.bench_faults b.host.bench_faults) (Some t) new told → PrintsPacked told a.out b.out fault → Given pack_reply
+      pack_told new _ (PackUnopened why because firm) printed =
+          outside_opening pack_reply (Some t) why fault printed.0 ends printed.1 because (refused_outside (Rose a.host.disk_faults b.host.disk_faults) (Some t) why because s.opened s.small)
+      pack_told new _ (PackEnded o (Ok end) opens over listed left disk failed) printed =
+          let w = over h s in
+          let shards = shards_of end in
+          given_line (packed_line shards) (packed_line (unpacked_of s.opened)) (ap packed_line (packed_count (files_now t) (files_now w.now) h s shards w.rose)) printed
+      pack_told new _ (PackEnded o (Err why) opens over listed left disk failed) printed = pack_stopped why (over h s).want disk failed printed.0 printed.1
+
+      pub given_pack : Packs repos a b fault → Given (PackAnswer (Some (unpacked_of s.opened)))
+      given_pack (inl (e, rose, same, kept)) = outside_failed pack_reply Mount fault e ends (inl rose) kept
+      given_pack (inr (told, packs, printed)) =
+          pack_told (b.host.disk_at repos) told (subst (λ (x : Option Trace). PacksDisk a.host.disk_faults b.host.disk_faults (Rose a.host.bench_faults b.host.bench_faults) x (b.host.disk_at repos) told) here packs) printed
+
     -- at a revision
 
     front_of : (path : Path) (reply : Reply) (text : List ℕ) (end : End) → EndsFit tool path reply text end → IsFront text reply.output
@@ -320,7 +369,7 @@ module _ (status : ℕ) (tool : Tool) (a b : Scene) (err_old err_new : SinkScene
     ended_look R path reply (Err errors.DiskFault) fits (text, end, t, front) (said, is, at, d, w) =
         inr (front_more a.out.written b.out.written text reply.output (front_of path reply text end (fits text end t)) front, inl ((moved fault (Some (Outside (Disk Read))) (is ∙ ap (λ (f : Fault). Some f) at) ends).0, inr (inl d)))
     ended_look R path reply (Err errors.WriteFault) fits (text, end, t, front) (said, is, at, d, w) =
-        inr (front_more a.out.written b.out.written text reply.output (front_of path reply text end (fits text end t)) front, inl ((moved fault (Some (Outside Write)) (is ∙ ap (λ (f : Fault). Some f) at) ends).0, inr (inr w)))
+        inr (front_more a.out.written b.out.written text reply.output (front_of path reply text end (fits text end t)) front, inl ((moved fault (Some (Outside Write)) (is ∙ ap (λ (f : Fault). Some f) at) ends).0, inr (inr (inl w))))
     ended_look R path reply (Err errors.OutOfMemory) fits (text, end, t, front) (said, is, at, d, w) =
         inr (front_more a.out.written b.out.written text reply.output (front_of path reply text end (fits text end t)) front, inr (moved fault (Some Memory) (is ∙ ap (λ (f : Fault). Some f) at) ends).0)
 

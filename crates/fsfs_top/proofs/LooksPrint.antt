@@ -91,7 +91,7 @@ counted_disk rose disk errors.DiskFault counted h = counted h
 counted_disk rose disk errors.WriteFault counted h = h
 counted_disk rose disk errors.OutOfMemory counted h = h
 
-counted_fault : (rose disk write : Type 0) (path : Path) (r : Result (Unit {0}) LookError) (fault : Option Fault) → (rose → disk) → IsFaultOf rose write path r fault → IsFaultOf disk write path r fault
+pub counted_fault : (rose disk write : Type 0) (path : Path) (r : Result (Unit {0}) LookError) (fault : Option Fault) → (rose → disk) → IsFaultOf rose write path r fault → IsFaultOf disk write path r fault
 counted_fault rose disk write path (Ok done) fault counted is = is
 counted_fault rose disk write path (Err e) fault counted (told, is, at, d, w) = (told, is, at, counted_disk rose disk e counted d, w)
 

@@ -1,6 +1,6 @@
 -- What a command did is what its row says of the task that its words ask for.
 use Rattle.std.proofs.Common.{◌≡◌, ℕ, List, [], inl, inr, refl, sym, ap, subst, ◌∙◌}
-use Rattle.std.specs.Prelude.{Option, Some, None, IfSome, option_map, unwrap_or}
+use Rattle.std.specs.Prelude.{Option, Some, None, IfSome, option_map, unwrap_or, Err}
 use Rattle.fsfs_cli.specs.CommandFaults.{fault_from_words}
 use Rattle.fsfs_cli.specs.declared.faults.fault.Fault.{Fault}
 use Rattle.fsfs_cli.specs.declared.faults.fault.Fault.TheVariants.{Memory}
@@ -10,7 +10,7 @@ use Rattle.fsfs_cli.specs.Readings.{Asks}
 use Rattle.fsfs_cli.specs.declared.faults.words_fault.WordsFault.{WordsFault}
 use Rattle.fsfs_cli.specs.declared.request.Look.{Look as SomeLook}
 use Rattle.fsfs_cli.specs.declared.request.Task.{Task}
-use Rattle.fsfs_cli.specs.declared.request.Task.TheVariants.{Create, ListTxns, RemoveTxns, Look, RunJobs}
+use Rattle.fsfs_cli.specs.declared.request.Task.TheVariants.{Create, ListTxns, RemoveTxns, Pack, Look, RunJobs}
 use Rattle.fsfs_cli.specs.declared.tool.Tool.{Tool}
 use Rattle.fsfs_cli.specs.declared.tool.Tool.TheVariants as tools
 use Rattle.fsfs_cli.proofs.OneMeaning.{one_task, refused_for_memory}
@@ -20,6 +20,7 @@ use Rattle.fsfs_top.specs.Looks.{LookIsDecided}
 use Rattle.fsfs_top.specs.Transactions.{OpeningIsDecided}
 use Rattle.fsfs_top.specs.Scenes.{Scene}
 use Rattle.fsfs_disk.specs.Trace.{labels_now}
+use Rattle.fsfs_pack_run.specs.Runs.{NotOpened}
 use Rattle.fsfs_top.proofs.FilesDecide.{look_outside, opening_outside, unopened}
 
 as_told : {X : Type 0} (told : Option X) (x : X) → IfSome told (λ t. unwrap_or told x ≡ t)
@@ -40,6 +41,11 @@ module _ (clock : Option ℕ) (dice : Option (List ℕ)) (a b : Scene) (fault : 
     inr (inl (opening.Memory, is, tt, unopened (a.host.disk_at repos), ap (λ (s : Scene). option_map labels_now (s.host.disk_at repos)) kept)),
     subst (OpeningIsDecided (a.host.disk_at repos)) (sym is) (opening_outside (a.host.disk_at repos) Memory tt),
     ap (λ (s : Scene). s.out) kept,
+    ap (λ (s : Scene). s.input) kept,
+  )
+  starved repos Pack is kept = (
+    inr (Err Memory, NotOpened opening.Memory tt (inl (ap (λ (s : Scene). s.host.disk_at repos) kept)), (is, ap (λ (s : Scene). s.out) kept)),
+    subst (OpeningIsDecided (a.host.disk_at repos)) (sym is) (opening_outside (a.host.disk_at repos) Memory tt),
     ap (λ (s : Scene). s.input) kept,
   )
   starved repos (Look look) is kept =
@@ -86,3 +92,11 @@ no_removal tool words repos txns jobs asks = let e = sym jobs ∙ asks_task tool
 -- what holds of the removal that is asked for, of whatever path
 pub at_removal : (P : List ℕ → Type 0) (tool : Tool) (words : List (List ℕ)) (repos : List ℕ) (txns : List (ℕ × ℕ)) → Asks tool words repos (RemoveTxns txns) → P repos → (r : List ℕ) (other : List (ℕ × ℕ)) → Asks tool words r (RemoveTxns other) → P r
 at_removal P tool words repos txns asks h r other also = subst P (one_task tool words repos r (RemoveTxns txns) (RemoveTxns other) asks also).0 h
+
+-- and of the repository that is to be packed
+pub at_pack : (P : List ℕ → Type 0) (tool : Tool) (words : List (List ℕ)) (repos : List ℕ) → Asks tool words repos Pack → P repos → (r : List ℕ) → Asks tool words r Pack → P r
+at_pack P tool words repos asks h r also = subst P (one_task tool words repos r Pack Pack asks also).0 h
+
+-- svnjobs packs none
+pub no_pack : (tool : Tool) (words : List (List ℕ)) (repos : List ℕ) → tool ≡ tools.Jobs → Asks tool words repos Pack → ⊥
+no_pack tool words repos jobs asks = let e = sym jobs ∙ asks_task tool words repos Pack asks in cc

@@ -20,9 +20,10 @@ use Rattle.fsfs_cli.specs.Words.{asked}
 use Rattle.fsfs_cli.specs.Readings.{Asks, Refuses}
 use Rattle.fsfs_cli.specs.declared.faults.words_fault.WordsFault.{WordsFault}
 use Rattle.fsfs_cli.specs.declared.request.Task.{Task}
-use Rattle.fsfs_cli.specs.declared.request.Task.TheVariants.{Create, ListTxns, RemoveTxns, Look, RunJobs}
+use Rattle.fsfs_cli.specs.declared.request.Task.TheVariants.{Create, ListTxns, RemoveTxns, Pack, Look, RunJobs}
 use Rattle.fsfs_cli.specs.declared.tool.Tool.{Tool}
 use Rattle.fsfs_top.specs.Looks.{PrintsLook, LookIsDecided}
+use Rattle.fsfs_top.specs.Packing.{Packs}
 use Rattle.fsfs_top.specs.Transactions.{OpeningIsDecided, ListsTxns, RemovesTxns}
 use Rattle.fsfs_top.specs.Scenes.{HostScene, SinkScene, Scene, OthersStay}
 
@@ -63,6 +64,7 @@ abbrev pub Does : List ℕ → Task → Option ℕ → Option (List ℕ) → Sce
 Does repos (Create shard) clock dice a b fault = Created repos shard clock dice a.host b.host fault × (b.out ≡ a.out) × (b.input ≡ a.input)
 Does repos ListTxns clock dice a b fault = ListsTxns repos a b fault × OpeningIsDecided (a.host.disk_at repos) fault × (b.input ≡ a.input)
 Does repos (RemoveTxns txns) clock dice a b fault = RemovesTxns repos txns a.host b.host fault × OpeningIsDecided (a.host.disk_at repos) fault × (b.out ≡ a.out) × (b.input ≡ a.input)
+Does repos Pack clock dice a b fault = Packs repos a b fault × OpeningIsDecided (a.host.disk_at repos) fault × (b.input ≡ a.input)
 Does repos (Look look) clock dice a b fault = PrintsLook repos look a b fault × LookIsDecided look (a.host.disk_at repos) fault × (b.input ≡ a.input)
 Does repos (RunJobs run) clock dice a b fault = Unit {0}
 

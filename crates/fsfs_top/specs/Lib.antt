@@ -2,8 +2,11 @@ pub mod Scenes
 pub mod TxnAnswers
 pub mod DumpAnswers
 pub mod VerifyAnswers
+pub mod PackAnswers
 pub mod Looks
 pub mod Transactions
+pub mod Packing
 pub mod Command
 pub mod Replies
+pub mod Checks
 pub mod Scripts

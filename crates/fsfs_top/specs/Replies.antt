@@ -18,6 +18,7 @@ use Rattle.fsfs_tree.specs.Answers as model
 use Rattle.fsfs_top.specs.TxnAnswers.{ListingAnswer, RemovalAnswer}
 use Rattle.fsfs_top.specs.DumpAnswers.{DumpAnswer}
 use Rattle.fsfs_top.specs.VerifyAnswers.{VerifyAnswer}
+use Rattle.fsfs_top.specs.PackAnswers.{PackAnswer, unpacked_of}
 use Rattle.fsfs_layout.specs.Opening.{small_texts, IsOpened, IsNone}
 use Rattle.fsfs_layout.specs.declared.opened.Opened.{Opened}
 use Rattle.fsfs_stands.specs.Files.{StandsFor}
@@ -28,7 +29,7 @@ use Rattle.fsfs_cli.specs.declared.request.Look.TheVariants.{Youngest, Uuid, Dum
 use Rattle.fsfs_cli.specs.declared.request.Printed.{Printed}
 use Rattle.fsfs_cli.specs.declared.request.Printed.TheVariants.{Tree, Text, Author, Date, Log, Info, Changed, History}
 use Rattle.fsfs_cli.specs.declared.request.Task.{Task}
-use Rattle.fsfs_cli.specs.declared.request.Task.TheVariants.{Create, ListTxns, RemoveTxns, Look, RunJobs}
+use Rattle.fsfs_cli.specs.declared.request.Task.TheVariants.{Create, ListTxns, RemoveTxns, Pack, Look, RunJobs}
 use Rattle.fsfs_cli.specs.declared.tool.Tool.{Tool}
 use Rattle.fsfs_disk.specs.Transactions.Txns.{AreTxns}
 use Rattle.fsfs_top.specs.Transactions.{txns_of}
@@ -44,7 +45,7 @@ GivesWhole reply status old new err_old err_new =
 
 -- the host or the output failed
 abbrev pub OutsideFailed : Scene → Scene → Type 0
-OutsideFailed a b = Rose a.host.mount_faults b.host.mount_faults ⊎ (Rose a.host.disk_faults b.host.disk_faults ⊎ Rose a.out.faults b.out.faults)
+OutsideFailed a b = Rose a.host.mount_faults b.host.mount_faults ⊎ (Rose a.host.disk_faults b.host.disk_faults ⊎ (Rose a.out.faults b.out.faults ⊎ Rose a.host.bench_faults b.host.bench_faults))
 
 -- or a first part of its output: the outside failed, with status 4, or memory was wanting, with status 5
 abbrev pub Gives : ℕ → Scene → Scene → SinkScene → SinkScene → Reply → Type 0
@@ -54,13 +55,15 @@ Gives status a b err_old err_new reply =
 
 -- ---- the flat model's replies
 
--- what a repository is to the flat model: its history, and what no history tells, its identifier and its transactions
+-- what a repository is to the flat model: its history, and what no history tells, its identifier, its transactions, and what is to be packed
 pub record Repository : Type 0 where
   pub history : List Revision
   pub identifier : List ℕ
   -- the names of its transactions, in the order of their bytes, and the transactions
   pub names : List (List ℕ)
   pub txns : List (ℕ × ℕ)
+  -- how many of its shards are full and not packed
+  pub unpacked : ℕ
 
 -- the model's command, with what it shows behind the name of each node of a tree
 abbrev pub look_command : Option ℕ → Printed → (Path → List ℕ) → model.Command
@@ -78,6 +81,7 @@ abbrev pub answer_to : Task → (Path → List ℕ) → Option Repository → Re
 answer_to (Create shard) shown r = Answer model.Create (option_map (λ (x : Repository). x.history) r)
 answer_to ListTxns shown r = ListingAnswer (option_map (λ (x : Repository). x.names) r)
 answer_to (RemoveTxns txns) shown r = RemovalAnswer txns (option_map (λ (x : Repository). x.txns) r)
+answer_to Pack shown r = PackAnswer (option_map (λ (x : Repository). x.unpacked) r)
 answer_to (Look Youngest) shown r = Answer model.Youngest (option_map (λ (x : Repository). x.history) r)
 answer_to (Look Uuid) shown r = UuidAnswer (option_map (λ (x : Repository). x.identifier) r)
 answer_to (Look Dump) shown r = DumpAnswer (option_map (λ (x : Repository). (x.identifier, x.history)) r)
@@ -90,6 +94,7 @@ abbrev pub HasNone : Task → Files → Type 0
 HasNone (Create shard) files = IsUnpublished files
 HasNone ListTxns files = IsNone (small_texts files)
 HasNone (RemoveTxns txns) files = IsNone (small_texts files)
+HasNone Pack files = IsNone (small_texts files)
 HasNone (Look look) files = IsNone (small_texts files)
 HasNone (RunJobs run) files = ⊥
 
@@ -109,6 +114,7 @@ abbrev pub Suits : Task → RevisionBytes → List Revision → (Path → List �
 Suits (Create shard) bytes h shown = Unit {0}
 Suits ListTxns bytes h shown = Unit {0}
 Suits (RemoveTxns txns) bytes h shown = Unit {0}
+Suits Pack bytes h shown = Unit {0}
 Suits (Look Youngest) bytes h shown = Unit {0}
 Suits (Look Uuid) bytes h shown = Unit {0}
 Suits (Look Dump) bytes h shown = Unit {0}
@@ -121,6 +127,7 @@ abbrev pub HasTxns : Task → List Label → List (List ℕ) → List (ℕ × �
 HasTxns (Create shard) labels names txns = Unit {0}
 HasTxns ListTxns labels names txns = AreTxns labels names
 HasTxns (RemoveTxns given) labels names txns = txns ≡ txns_of labels
+HasTxns Pack labels names txns = Unit {0}
 HasTxns (Look look) labels names txns = Unit {0}
 HasTxns (RunJobs run) labels names txns = ⊥
 
@@ -129,6 +136,7 @@ abbrev pub IsOfSmallFiles : Task → Type 0
 IsOfSmallFiles (Create shard) = ⊥
 IsOfSmallFiles ListTxns = Unit {0}
 IsOfSmallFiles (RemoveTxns txns) = Unit {0}
+IsOfSmallFiles Pack = ⊥
 IsOfSmallFiles (Look Youngest) = Unit {0}
 IsOfSmallFiles (Look Uuid) = Unit {0}
 IsOfSmallFiles (Look Dump) = ⊥
@@ -143,10 +151,10 @@ pub record Replies (tool : Tool) (words : List (List ℕ)) (at : List ℕ → Op
   pub none : (repos : List ℕ) (task : Task) (t : Trace) (shown : Path → List ℕ) → Asks tool words repos task → at repos ≡ Some t → HasNone task (files_now t) → Given (answer_to task shown None)
   -- where the files stand for a history
   pub stands : (repos : List ℕ) (task : Task) (t : Trace) (h : List Revision) (shown : Path → List ℕ) (names : List (List ℕ)) (txns : List (ℕ × ℕ)) → Asks tool words repos task → at repos ≡ Some t → (s : StandsFor (files_now t) h)
-      → Suits task (rev_bytes s.opened.layout (files_now t)) h shown → HasTxns task (labels_now t) names txns → Given (answer_to task shown (Some (record { history = h; identifier = s.opened.uuid; names = names; txns = txns })))
+      → Suits task (rev_bytes s.opened.layout (files_now t)) h shown → HasTxns task (labels_now t) names txns → Given (answer_to task shown (Some (record { history = h; identifier = s.opened.uuid; names = names; txns = txns; unpacked = unpacked_of s.opened })))
   -- and of the small files wherever they open: of any history that ends with the revision that they name
   pub opened : (repos : List ℕ) (task : Task) (t : Trace) (o : Opened) (h : List Revision) (shown : Path → List ℕ) (names : List (List ℕ)) (txns : List (ℕ × ℕ)) → Asks tool words repos task → at repos ≡ Some t → IsOfSmallFiles task → IsOpened (small_texts (files_now t)) o
-      → last_of h ≡ o.youngest → HasTxns task (labels_now t) names txns → Given (answer_to task shown (Some (record { history = h; identifier = o.uuid; names = names; txns = txns })))
+      → last_of h ≡ o.youngest → HasTxns task (labels_now t) names txns → Given (answer_to task shown (Some (record { history = h; identifier = o.uuid; names = names; txns = txns; unpacked = unpacked_of o })))
 
 -- the files at the path where a repository is made stand for the history of revision 0, with the date of the moment that the clock gave, where it tells
 abbrev pub MadeStands : Tool → List (List ℕ) → Option ℕ → (List ℕ → Option Trace) → Type 0

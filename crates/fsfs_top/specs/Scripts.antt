@@ -1,8 +1,10 @@
 -- What svnjobs does, from its words and its input to the files, the output and the status.
-use Rattle.std.specs.Prelude.{◌≡◌, ◌⊎◌, ℕ, Bool, true, List, Option, Some, None, IfSome, Result, Ok, Err}
+use Rattle.std.specs.Prelude.{◌≡◌, ◌≤◌, ◌⊎◌, ℕ, max, Bool, true, false, List, Option, Some, None, IfSome, Result, Ok, Err, MatchResult}
 use Rattle.fsfs_base.specs.Failures.{Rose}
 use Rattle.fsfs_disk.specs.Crash.{AllLabels}
 use Rattle.fsfs_disk.specs.Trace.{Trace, files_now}
+use Rattle.fsfs_layout.specs.declared.layout.Layout.{Layout}
+use Rattle.fsfs_layout.specs.declared.opened.Opened.{Opened}
 use Rattle.fsfs_tree.specs.Revisions.{Revision}
 use Rattle.fsfs_stands.specs.Files.{StandsFor}
 use Rattle.fsfs_turn.specs.Mountings.{RoseBy}
@@ -18,10 +20,18 @@ use Rattle.fsfs_cli.specs.Readings.{Asks, Refuses}
 use Rattle.fsfs_cli.specs.declared.faults.words_fault.WordsFault.{WordsFault}
 use Rattle.fsfs_cli.specs.declared.request.JobRun.{JobRun}
 use Rattle.fsfs_cli.specs.declared.request.Task.TheVariants.{RunJobs}
+use Rattle.fsfs_cli.specs.declared.tool.Tool.{Tool}
 use Rattle.fsfs_cli.specs.declared.tool.Tool.TheVariants.{Jobs}
-use Rattle.fsfs_workers.specs.Runs.{RunScene, RunsScript}
+use Rattle.fsfs_workers.specs.JobAnswer.{JobAnswer}
+use Rattle.fsfs_workers.specs.JobsDone.{JobsDone}
+use Rattle.fsfs_workers.specs.Openings.{OpensAs}
+use Rattle.fsfs_workers.specs.Runs.{PrintsChecked, PrintsRun, RunScene, RunsScript}
+use Rattle.fsfs_workers.specs.Runs as runs
 use Rattle.fsfs_workers.specs.ByWorkers.{RunsByWorkers}
-use Rattle.fsfs_top.specs.Scenes.{Scene, OthersStay}
+use Rattle.fsfs_top.specs.declared.checked.JobsEnd.{JobsEnd}
+use Rattle.fsfs_top.specs.Checks.{IsChecked, is_sound}
+use Rattle.fsfs_top.specs.Command.{Tells, answer_of}
+use Rattle.fsfs_top.specs.Scenes.{Scene, SinkScene, OthersStay}
 use Rattle.fsfs_top.specs.Transactions.{OpeningIsDecided}
 
 -- the status of a run, or that of its fault
@@ -47,11 +57,55 @@ HasHistory told = IfSome told (λ t. (h : List Revision) × StandsFor (files_now
 abbrev pub RunsBy : JobRun → Bool → ℕ → ℕ → ℕ → (ℕ → Type 0) → RunScene → RunScene → Result ℕ Fault → Type 0
 RunsBy run known moment before after benches a b ended = ((run.workers ≡ 1) × RunsScript moment before after benches a b ended) ⊎ ((run.workers ≡ 2) × RunsByWorkers moment 2 known before after benches a b ended)
 
+-- ---- with a check behind the jobs
+
+-- However the lines of the jobs are printed, it is a run without a check; and so is a fault with nothing printed.
+abbrev pub WorksBy : JobRun → Bool → ℕ → ℕ → ℕ → (ℕ → Type 0) → Option Trace → Option Trace → Option (List ℕ) → Option (List ℕ) → ℕ → ℕ → Result JobsDone Fault → Type 0
+WorksBy run known moment before after benches told left remaining rest faults more done = (old new : Option (List ℕ)) (count now : ℕ) → MatchResult done
+    (λ d. (ended : Result ℕ Fault) → PrintsRun d.answers.items d.youngest old new count now ended → RunsBy run known moment before after benches (runs.run_scene told remaining faults old count) (runs.run_scene left rest more new now) ended)
+    (λ fault. RunsBy run known moment before after benches (runs.run_scene told remaining faults old count) (runs.run_scene left rest more old count) (Err fault))
+
+-- The jobs were done, with these answers, as a run without a check does them: whatever is printed of them (`written`, and the output's count of
+-- faults), it is one.
+abbrev pub WorkedBy : JobRun → Bool → ℕ → ℕ → ℕ → (ℕ → Type 0) → RunScene → RunScene → List JobAnswer → ℕ → Type 0
+WorkedBy run known moment before after benches a b answers youngest = (written : Option (List ℕ)) (faults : ℕ) (ended : Result ℕ Fault)
+    → PrintsRun answers youngest a.written written a.write_faults faults ended → RunsBy run known moment before after benches a (record b { written = written; write_faults = faults }) ended
+
+-- the layout is the one that the opening read: always of one worker, and of two where the files are known to have a history
+abbrev pub IsLaid : JobRun → Bool → Option Trace → Layout → Type 0
+IsLaid run known told layout = (run.workers ≡ 1) ⊎ (known ≡ true) → (o : Opened) × OpensAs told o × (layout ≡ o.layout)
+
+-- A RUN WITH A CHECK BEHIND ITS JOBS, by its end. `before`, `after` and `benches` are as of a run without one.
+pub data RunsChecked (run : JobRun) (known : Bool) (moment before after : ℕ) (benches : ℕ → Type 0) (a b : RunScene) : JobsEnd → Type 0 where
+  -- no job was done: it is a run without a check, which printed nothing
+  NotDone : (fault : Fault) → RunsBy run known moment before after benches a b (Err fault) → b.written ≡ a.written → b.write_faults ≡ a.write_faults → RunsChecked run known moment before after benches a b (record { ended = Err fault; unsound = None })
+  -- The jobs were done, and all workers had ended as the disk's count of faults stood at `middle`. Then the revisions up to the youngest were
+  -- checked, in the files that the disk had then and has now. The lines of the jobs were printed, behind them that of the check where it
+  -- found nothing wrong, with the number of the youngest revision, and last that one.
+  Done : (answers : List JobAnswer) (youngest middle : ℕ) (layout : Layout) (ended : Result ℕ Fault) (unsound : Option Fault) → WorkedBy run known moment before middle benches a b answers youngest → middle ≤ after
+      → IsLaid run known a.trace layout → IsChecked (Rose middle after) layout youngest b.trace unsound → PrintsChecked answers (is_sound unsound) youngest a.written b.written a.write_faults b.write_faults ended
+      → RunsChecked run known moment before after benches a b (record { ended = ended; unsound = unsound })
+
+-- a run with a check or without one, as it is asked for
+abbrev pub RunsAsAsked : JobRun → Bool → ℕ → ℕ → ℕ → (ℕ → Type 0) → RunScene → RunScene → JobsEnd → Type 0
+RunsAsAsked run known moment before after benches a b end =
+    ((run.check ≡ false) × (end.unsound ≡ None) × RunsBy run known moment before after benches a b end.ended) ⊎ ((run.check ≡ true) × RunsChecked run known moment before after benches a b end)
+
+-- its status: the greatest of the lines' and of the faults'
+abbrev pub status_at : JobsEnd → ℕ
+status_at end = max (answer_of end.unsound) (ended_status end.ended)
+
+-- a line about each fault was written: what the check found wrong first
+abbrev pub TellsEnd : Tool → SinkScene → SinkScene → JobsEnd → Type 0
+TellsEnd tool old new end = (between : SinkScene) × Tells tool old between end.unsound × Tells tool between new (ended_fault end.ended)
+
+-- ---- at a path
+
 -- the path was mounted and the script run over the disk there, at a moment that the clock gave; or it was not mounted, and nothing was done
-abbrev pub RunsAt : List ℕ → JobRun → Bool → Option ℕ → Scene → Scene → Result ℕ Fault → Type 0
-RunsAt repos run known clock a b ended =
-    ((ended ≡ Err (Outside Mount)) × Rose a.host.mount_faults b.host.mount_faults × (b.host.disk_at repos ≡ a.host.disk_at repos) × (b.out ≡ a.out) × (b.input ≡ a.input))
-    ⊎ ((moment : ℕ) × IfSome clock (λ t. moment ≡ t) × RunsBy run known moment a.host.disk_faults b.host.disk_faults (λ n. RoseBy n a.host.bench_faults b.host.bench_faults) (run_scene repos a) (run_scene repos b) ended)
+abbrev pub RunsAt : List ℕ → JobRun → Bool → Option ℕ → Scene → Scene → JobsEnd → Type 0
+RunsAt repos run known clock a b end =
+    ((end ≡ record { ended = Err (Outside Mount); unsound = None }) × Rose a.host.mount_faults b.host.mount_faults × (b.host.disk_at repos ≡ a.host.disk_at repos) × (b.out ≡ a.out) × (b.input ≡ a.input))
+    ⊎ ((moment : ℕ) × IfSome clock (λ t. moment ≡ t) × RunsAsAsked run known moment a.host.disk_faults b.host.disk_faults (λ n. RoseBy n a.host.bench_faults b.host.bench_faults) (run_scene repos a) (run_scene repos b) end)
 
 -- The files decide which refusal of an opening comes: always of one worker, and of two where they are known to have a history (of other files two
 -- are told nothing).
@@ -59,10 +113,10 @@ abbrev pub RunIsDecided : JobRun → Bool → Option Trace → Result ℕ Fault 
 RunIsDecided run known told ended = (run.workers ≡ 1) ⊎ (known ≡ true) → OpeningIsDecided told (ended_fault ended)
 
 -- what svnjobs did: what its words ask for, at the paths of that task alone; or they were refused, and nothing was done
-abbrev pub DidJobs : List (List ℕ) → Bool → Option ℕ → Scene → Scene → Result ℕ Fault → Type 0
-DidJobs words known clock a b ended =
-    ((repos : List ℕ) × (run : JobRun) × Asks Jobs words repos (RunJobs run) × RunsAt repos run known clock a b ended × RunIsDecided run known (a.host.disk_at repos) ended × OthersStay (paths_of repos (RunJobs run)) a.host b.host)
-    ⊎ ((why : WordsFault) × (ended ≡ Err (fault_from_words why)) × Refuses (asked Jobs words) why × (b ≡ a))
+abbrev pub DidJobs : List (List ℕ) → Bool → Option ℕ → Scene → Scene → JobsEnd → Type 0
+DidJobs words known clock a b end =
+    ((repos : List ℕ) × (run : JobRun) × Asks Jobs words repos (RunJobs run) × RunsAt repos run known clock a b end × RunIsDecided run known (a.host.disk_at repos) end.ended × OthersStay (paths_of repos (RunJobs run)) a.host b.host)
+    ⊎ ((why : WordsFault) × (end ≡ record { ended = Err (fault_from_words why); unsound = None }) × Refuses (asked Jobs words) why × (b ≡ a))
 
 -- no transaction is listed that was not before
 abbrev pub ListsNoOther : Option Trace → Option Trace → Type 0

@@ -1,9 +1,11 @@
 //! The top call of the repository programs.
 #![tactic(auto)]
 
+mod checked;
 mod jobs;
 mod look;
 mod output;
+mod packing;
 mod top;
 mod txns;
 

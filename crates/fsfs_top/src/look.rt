@@ -113,7 +113,7 @@ fn fault_at(alloc: Global, printed: &Printed, error: LookError) -> Fault
 }
 
 // The fault of a dump or a check that ended so.
-fn fault_of_all(alloc: Global, error: LookError) -> Fault
+pub(crate) fn fault_of_all(alloc: Global, error: LookError) -> Fault
     ensures { IsFaultAt [] error result }
 {
     fault_of_error(alloc, None, error)

@@ -3,6 +3,7 @@ ghost use Rattle.std.specs.Prelude.{◌++◌, ℕ, List, codes, map};
 ghost use Rattle.fsfs_base.specs.Output.{Prints};
 ghost use Rattle.fsfs_top.specs.Command.{fault_of};
 ghost use Rattle.fsfs_top.specs.Looks.{revision_line, uuid_line, PrintsLine};
+ghost use Rattle.fsfs_top.specs.PackAnswers.{packed_line};
 ghost use Rattle.fsfs_top.specs.Scenes.{SinkScene};
 ghost use Rattle.fsfs_top.specs.TxnAnswers.{names_text};
 ghost use Rattle.fsfs_disk.specs.Transactions.Txns.{text_of};
@@ -29,6 +30,17 @@ pub fn print_uuid<S: Sink>(sink: &mut S, uuid: &Uuid) -> Result<(), Failed>
 {
     print(sink, uuid.as_bytes())?;
     print(sink, b"\n")
+}
+
+/// Writes how many shards were packed, and the end of the line.
+pub(crate) fn print_packed<S: Sink>(sink: &mut S, shards: u64) -> Result<(), Failed>
+    ensures printed { Prints (S.written sink.old) (S.written sink.new) (packed_line shards) (S.faults sink.old) (S.faults sink.new) result }
+{
+    let mut line = ArrayString::<28>::new();
+    line.push_str("packed ");
+    line.push_str(Buffer::new().format(shards));
+    line.push_str("\n");
+    print(sink, line.as_str().as_bytes())
 }
 
 // Writes a transaction's name and the end of the line.

@@ -25,7 +25,7 @@ use Rattle.fsfs_machine.specs.declared.machine.Step.TheVariants as step
 use Rattle.fsfs_base.specs.Files.{Files}
 use Rattle.fsfs_machine.specs.Disk.{Disk, IsImage}
 use Rattle.fsfs_machine.specs.Machine.{World, did, either, answer, learns, disk_after, is_begun, has_begun_by, file_of, recorded, revisions, with_next, entry_of, Adopts, adopted, stuck_place}
-use Rattle.fsfs_machine.specs.Kept.{Kept, IsIn, coming, may_rise, one}
+use Rattle.fsfs_machine.specs.Kept.{Kept, IsIn, coming, one}
 use Rattle.fsfs_machine.proofs.Steps.{step_keeps}
 use Rattle.fsfs_images.specs.RealNames.{machine_name}
 use Rattle.fsfs_images.specs.Shown.{IsTraceOf, Fits, Reads, AreRead, Putting, Adopting, Attempting}
@@ -34,6 +34,7 @@ use Rattle.fsfs_turn.specs.Views.{View, Sees, with_txns, rev_name, IsTxnOver, Ma
 use Rattle.fsfs_turn.specs.Past.{doubt_in, doubt, IsPart, StoodFor, Safe}
 use Rattle.fsfs_turn.specs.Standing.{no_others, IsStore}
 use Rattle.fsfs_turn.proofs.Names.{found_apart, names_stay, none_drawn}
+use Rattle.fsfs_turn.proofs.FloorsRise.{floor_kept, floor_apart}
 use Rattle.fsfs_turn.proofs.TurnEnds.{section_leaves, IsAfter, Comes}
 use Rattle.fsfs_turn.proofs.Stepping.{kept_bare, at_itself, held_here, lock_is}
 use Rattle.fsfs_turn.proofs.Due.{junk, le, torn_put}
@@ -111,12 +112,6 @@ module _ (layout : Layout) (low young : ℕ) (stuck : Option DiskPlace) (old : T
   stood_after : (went : Went) (e : Disk) → IsImage (after_it went).disk e → StoodFor layout v.opened w.history (doubt_in (either went (RevPut x) Over)) e
   stood_after went = stood_for layout v.opened (with_txns [] (after_it went)) store.size store.whole (kept_after went) (le layout low young stuck old w v store sees layout_is safe)
 
-  level_then : (went : Went) → may_rise (Held v.number (either went (RevPut x) Over)) ≡ false
-  level_then Fine = refl
-  level_then Before = refl
-  level_then After = refl
-  level_then (Torn any) = refl
-
   coming_then : (went : Went) → IfSome (coming (after_it went).lock) (λ y. BytesShow (with_next w.history y))
   coming_then Fine = shown
   coming_then Before = tt
@@ -137,8 +132,9 @@ module _ (layout : Layout) (low young : ℕ) (stuck : Option DiskPlace) (old : T
     };
     all = all;
     safe = safe_then;
-    leaves = section_leaves w (after_it went) v.number (learns (length w.history) (Commit PutRev) went) Begun (either went (RevPut x) Over) went refl refl refl refl refl lock refl refl
-        (λ last. (last.0, found_apart (Put (Rev (length w.history)) (file_of (recorded x))) went w.disk refl ∙ last.1, last.2));
+    leaves = section_leaves w (after_it went) v.number (learns (length w.history) (Commit PutRev) went) Begun (either went (RevPut x) Over) went refl refl refl refl lock refl refl
+        (λ last. (last.0, found_apart (Put (Rev (length w.history)) (file_of (recorded x))) went w.disk refl ∙ last.1, last.2))
+        (floor_kept w.disk (disk_after went (Put (Rev (length w.history)) (file_of (recorded x))) w.disk) (floor_apart (Put (Rev (length w.history)) (file_of (recorded x))) went w.disk refl));
     layout_is = refl;
     since_is = refl;
     opened_is = refl;
@@ -155,8 +151,6 @@ module _ (layout : Layout) (low young : ℕ) (stuck : Option DiskPlace) (old : T
         shown = store.shown;
         coming = coming_then went;
         low_is = store.low_is;
-        floor_is = store.floor_is;
-        level = level_then went;
         young_is = store.young_is;
         stuck_is = sym (ap stuck_place lock) ∙ store.stuck_is;
       }
@@ -174,6 +168,7 @@ module _ (layout : Layout) (low young : ℕ) (stuck : Option DiskPlace) (old : T
         shown = sees.shown;
         names = names_stay v.full v.section (Some (either went (RevPut x) Over)) w.disk (disk_after went (Put (Rev (length w.history)) (file_of (recorded x))) w.disk) (none_drawn went (RevPut x) Over refl refl)
             (found_apart (Put (Rev (length w.history)) (file_of (recorded x))) went w.disk refl) sees.names;
+        firm = λ s f at e. sees.firm Begun f may.begun e;
       }
 
   safe_here : Safe layout v.since old v.opened w.history None

@@ -2,7 +2,7 @@
 -- doubt leaves the lock stuck.
 use Rattle.std.proofs.Common.{◌≡◌, ◌⊎◌, ◌≤◌, ◌+◌, ◌++◌, ◌∷◌, [], ℕ, List, length, true, false, cond, inl, inr, ⊎_elim, refl, sym, ap, subst, ◌∙◌, arith, append-nil, length-append}
 use Rattle.std.proofs.lemmas.List.{nil_from_length}
-use Rattle.std.specs.Prelude.{Bool, Option, Some, None, Result, option_map, OnOk, OnErr, IfOk}
+use Rattle.std.specs.Prelude.{Bool, Option, Some, None, Result, Ok, Err, option_map, OnOk, OnErr, IfOk}
 use Rattle.fsfs_base.specs.Files.{Files}
 use Rattle.fsfs_layout.specs.declared.layout.Layout.{Layout}
 use Rattle.fsfs_layout.specs.Small.{IsRevLine}
@@ -17,6 +17,7 @@ use Rattle.fsfs_base.specs.declared.places.place.DiskPlace.TheVariants.{Begin, C
 use Rattle.fsfs_base.specs.declared.places.place.DiskPlace.TheVariants as disk
 use Rattle.fsfs_base.specs.declared.places.place.BeginPlace.TheVariants as begin
 use Rattle.fsfs_base.specs.declared.places.place.CommitPlace.TheVariants.{PutRev, PutProps, FirmRev, PutCurrent, RenameCurrent, FirmCurrent}
+use Rattle.fsfs_base.specs.declared.places.place.PackPlace.TheVariants as pack
 use Rattle.fsfs_machine.specs.declared.machine.Recorded.{Recorded}
 use Rattle.fsfs_machine.specs.declared.machine.Coming.{Coming}
 use Rattle.fsfs_machine.specs.declared.machine.Drawn.{Drawn}
@@ -27,12 +28,14 @@ use Rattle.fsfs_machine.specs.declared.machine.Step.{Step}
 use Rattle.fsfs_machine.specs.declared.machine.Went.{Went}
 use Rattle.fsfs_machine.specs.declared.machine.Went.TheVariants.{Fine, Before, After, Torn}
 use Rattle.fsfs_machine.specs.Machine.{recorded, either, after, spoiled}
-use Rattle.fsfs_turn.specs.Views.{View, Begins, coming_of, IsDue, Answers, Called, Adopted, Looked, LockTaken, FoundStuck, LockGiven, Revealed}
+use Rattle.fsfs_turn.specs.Views.{View, Begins, coming_of, IsDue, Answers, Called, Adopted, Looked, LockTaken, FoundStuck, MustStick, LockGiven, Revealed}
 use Rattle.fsfs_turn.specs.Learning.{PropsRead, FloorRead, drawn_of, CounterRead, ReadsCounter, Listed, BenchMade, Purged, SpentPurged}
+use Rattle.fsfs_turn.specs.Packing.{DoneBeside, OldRemoved, Removal}
+use Rattle.fsfs_turn.specs.Past.{IsWhole}
 use Rattle.fsfs_turn.specs.Standing.{Knows}
 use Rattle.fsfs_turn.specs.Stands.{OwnFilesLast}
 use Rattle.fsfs_turn.specs.declared.since.Since.{Since}
-use Rattle.fsfs_turn.specs.Alone.{brings_doubt, are_harmless, is_doubtful, is_doubtful_at, KnowsAlone, AloneStays, AloneAdds}
+use Rattle.fsfs_turn.specs.Alone.{leaves_stuck, are_harmless, is_doubtful, is_doubtful_at, KnowsAlone, AloneStays, AloneAdds}
 use Rattle.fsfs_turn.specs.Found.{seen_within}
 use Rattle.fsfs_turn.proofs.OwnFiles.{IsNotOwn, SparesOwn, own_last}
 
@@ -58,16 +61,16 @@ alone_adds young now rev stuck left v u before next a b is grows opened mine =
 
 -- ---- faults
 
-harmless_end : (places : List DiskPlace) (place : DiskPlace) → are_harmless (places ++ place ∷ []) ≡ true → (are_harmless places ≡ true) × (brings_doubt place ≡ false)
-harmless_end [] place e = (refl, by_test (brings_doubt place) e)
+harmless_end : (places : List DiskPlace) (place : DiskPlace) → are_harmless (places ++ place ∷ []) ≡ true → (are_harmless places ≡ true) × (leaves_stuck place ≡ false)
+harmless_end [] place e = (refl, by_test (leaves_stuck place) e)
   where
     by_test : (b : Bool) → cond b false true ≡ true → b ≡ false
     by_test true e = absurd cc
     by_test false e = refl
-harmless_end (x ∷ places) place e = by_test (brings_doubt x) e (harmless_end places place)
+harmless_end (x ∷ places) place e = by_test (leaves_stuck x) e (harmless_end places place)
   where
-    by_test : (b : Bool) → cond b false (are_harmless (places ++ place ∷ [])) ≡ true → (are_harmless (places ++ place ∷ []) ≡ true → (are_harmless places ≡ true) × (brings_doubt place ≡ false))
-        → (cond b false (are_harmless places) ≡ true) × (brings_doubt place ≡ false)
+    by_test : (b : Bool) → cond b false (are_harmless (places ++ place ∷ [])) ≡ true → (are_harmless (places ++ place ∷ []) ≡ true → (are_harmless places ≡ true) × (leaves_stuck place ≡ false))
+        → (cond b false (are_harmless places) ≡ true) × (leaves_stuck place ≡ false)
     by_test true e rest = absurd cc
     by_test false e rest = rest e
 
@@ -100,14 +103,14 @@ after_calm Packed = refl
 after_calm (FloorDoubtful place) = refl
 after_calm Over = refl
 
-spoiled_sound : (s : Section) (place : DiskPlace) → (is_doubtful (spoiled s) ≡ true → brings_doubt place ≡ true) → brings_doubt place ≡ false → is_doubtful (spoiled s) ≡ false
+spoiled_sound : (s : Section) (place : DiskPlace) → (is_doubtful (spoiled s) ≡ true → leaves_stuck place ≡ true) → leaves_stuck place ≡ false → is_doubtful (spoiled s) ≡ false
 spoiled_sound s place brings not = by_test (is_doubtful (spoiled s)) brings
   where
-    by_test : (b : Bool) → (b ≡ true → brings_doubt place ≡ true) → b ≡ false
+    by_test : (b : Bool) → (b ≡ true → leaves_stuck place ≡ true) → b ≡ false
     by_test true brings = sym (brings refl) ∙ not
     by_test false brings = refl
 
-called_sound : (went : Went) (s : Section) (places : List DiskPlace) (place : DiskPlace) → (is_doubtful (spoiled s) ≡ true → brings_doubt place ≡ true)
+called_sound : (went : Went) (s : Section) (places : List DiskPlace) (place : DiskPlace) → (is_doubtful (spoiled s) ≡ true → leaves_stuck place ≡ true)
     → are_harmless (either went places (places ++ place ∷ [])) ≡ true → is_doubtful (either went (after s) (spoiled s)) ≡ false
 called_sound Fine s places place brings e = after_calm s
 called_sound Before s places place brings e = spoiled_sound s place brings (harmless_end places place e).1
@@ -126,8 +129,8 @@ same_section s t e = cc
 spoiled_by : (inside s : Section) (at : Option Section) → at ≡ Some s → at ≡ Some inside → is_doubtful (spoiled s) ≡ false → is_doubtful (spoiled inside) ≡ true → false ≡ true
 spoiled_by inside s at is was calm doubtful = sym calm ∙ ap (λ z. is_doubtful (spoiled z)) (same_section s inside (sym is ∙ was)) ∙ doubtful
 
--- the call that is due leaves a revision in doubt only at these places
-pub due_brings : (v : View) (place : DiskPlace) (change : real.NameChange) → IsDue v place change → (inside : Section) → v.section ≡ Some inside → is_doubtful (spoiled inside) ≡ true → brings_doubt place ≡ true
+-- the call that is due leaves the lock to be stuck only at these places
+pub due_brings : (v : View) (place : DiskPlace) (change : real.NameChange) → IsDue v place change → (inside : Section) → v.section ≡ Some inside → is_doubtful (spoiled inside) ≡ true → leaves_stuck place ≡ true
 due_brings v (Begin begin.Put) (real.Put name bytes) d inside was doubtful = spoiled_by inside (CountRead d.0) v.section d.1 was refl doubtful
 due_brings v (Begin begin.Rename) (real.Rename from to) d inside was doubtful = spoiled_by inside (CountPut d.0) v.section d.1 was refl doubtful
 due_brings v (Begin begin.Firm) real.FirmNames d inside was doubtful = spoiled_by inside (CountRenamed d.0) v.section d.1 was refl doubtful
@@ -136,37 +139,45 @@ due_brings v (Commit FirmRev) real.FirmNames d inside was doubtful = spoiled_by 
 due_brings v (Commit PutCurrent) (real.Put name bytes) d inside was doubtful = spoiled_by inside (RevFirm d.0) v.section d.1 was refl doubtful
 due_brings v (Commit RenameCurrent) (real.Rename from to) d inside was doubtful = refl
 due_brings v (Commit FirmCurrent) real.FirmNames d inside was doubtful = refl
+due_brings v (disk.Pack pack.AdoptPack) (real.Adopt name bytes) d inside was doubtful = ⊎_elim
+    (λ (begun : v.section ≡ Some Begun). spoiled_by inside Begun v.section begun was refl doubtful)
+    (λ (packed : v.section ≡ Some Packed). spoiled_by inside Packed v.section packed was refl doubtful) d.2
+due_brings v (disk.Pack pack.AdoptManifest) (real.Adopt name bytes) d inside was doubtful = spoiled_by inside PackPut v.section d.2 was refl doubtful
+due_brings v (disk.Pack pack.FirmPack) real.FirmNames d inside was doubtful = spoiled_by inside ManifestPut v.section d was refl doubtful
+due_brings v (disk.Pack pack.PutFloor) (real.Put name bytes) d inside was doubtful = spoiled_by inside PackFirm v.section d.2 was refl doubtful
+due_brings v (disk.Pack pack.RenameFloor) (real.Rename from to) d inside was doubtful = refl
+due_brings v (disk.Pack pack.FirmFloor) real.FirmNames d inside was doubtful = refl
 due_brings v place change d inside was doubtful = absurd d
 
 -- ---- the files that no turn touches
 
 -- a call of the disk adds one operation to its trace, which spares them, or none
-abbrev pub GoesOn : Option Trace → Option Trace → Type 0
-GoesOn old new = (new ≡ old) ⊎ ((op : Operation) × SparesOwn (change_of op) × (new ≡ option_map (add_operation op) old))
+abbrev pub GoesOn : Bool → Option Trace → Option Trace → Type 0
+GoesOn packs old new = (new ≡ old) ⊎ ((op : Operation) × SparesOwn packs (change_of op) × (new ≡ option_map (add_operation op) old))
 
-goes_at : (change : real.NameChange) → SparesOwn change → (old new : Option Trace) → FailsAt change old new → GoesOn old new
-goes_at change spares old new w = ⊎_elim (λ same. inl same) (λ more. ⊎_elim (λ tried. inr (Attempted change, spares, tried)) (λ done. inr (Done change, spares, done)) more) w
+goes_at : (packs : Bool) (change : real.NameChange) → SparesOwn packs change → (old new : Option Trace) → FailsAt change old new → GoesOn packs old new
+goes_at packs change spares old new w = ⊎_elim (λ same. inl same) (λ more. ⊎_elim (λ tried. inr (Attempted change, spares, tried)) (λ done. inr (Done change, spares, done)) more) w
 
-pub goes_by : {X E : Type 0} (change : real.NameChange) → SparesOwn change → (old new : Option Trace) (result : Result X E) → OnOk result (Performs change old new) → OnErr result (FailsAt change old new) → GoesOn old new
-goes_by change spares old new result ok err = goes_at change spares old new (ended change old new result ok err)
+pub goes_by : {X E : Type 0} (packs : Bool) (change : real.NameChange) → SparesOwn packs change → (old new : Option Trace) (result : Result X E) → OnOk result (Performs change old new) → OnErr result (FailsAt change old new) → GoesOn packs old new
+goes_by packs change spares old new result ok err = goes_at packs change spares old new (ended change old new result ok err)
 
-pub goes_by_put : {X E : Type 0} (name bytes : List ℕ) → IsNotOwn name → (old new : Option Trace) (result : Result X E) → OnOk result (Performs (real.Put name bytes) old new) → OnErr result (FailsToPut name bytes old new) → GoesOn old new
-goes_by_put name bytes spares old new result ok err =
+pub goes_by_put : {X E : Type 0} (packs : Bool) (name bytes : List ℕ) → IsNotOwn packs name → (old new : Option Trace) (result : Result X E) → OnOk result (Performs (real.Put name bytes) old new) → OnErr result (FailsToPut name bytes old new) → GoesOn packs old new
+goes_by_put packs name bytes spares old new result ok err =
     ⊎_elim (λ same. inl same) (λ more. ⊎_elim (λ tried. inr (Attempted (real.Put name bytes), spares, tried)) (λ done. inr (Done (real.Put name done.0), spares, done.1)) more) (ended_put name bytes old new result ok err)
 
-pub goes_by_adoption : {X E : Type 0} (change : real.NameChange) → SparesOwn change → (old new : Option Trace) (without : Files → Files) (held left : Option Files) (result : Result X E)
-    → OnOk result (Performs change old new) → OnErr result (FailsToAdopt change old new without held left) → GoesOn old new
-goes_by_adoption change spares old new without held left result ok err = goes_at change spares old new (ended_adopt change old new without held left result ok err)
+pub goes_by_adoption : {X E : Type 0} (packs : Bool) (change : real.NameChange) → SparesOwn packs change → (old new : Option Trace) (without : Files → Files) (held left : Option Files) (result : Result X E)
+    → OnOk result (Performs change old new) → OnErr result (FailsToAdopt change old new without held left) → GoesOn packs old new
+goes_by_adoption packs change spares old new without held left result ok err = goes_at packs change spares old new (ended_adopt change old new without held left result ok err)
 
-pub goes_if_there : {E : Type 0} (change : real.NameChange) → SparesOwn change → (old new : Option Trace) (result : Result Bool E) → IfOk result (λ there. PerformsIfThere there change old new) → OnErr result (FailsAt change old new) → GoesOn old new
-goes_if_there change spares old new result ok err = goes_at change spares old new (ended_if_there change old new result ok err)
+pub goes_if_there : {E : Type 0} (packs : Bool) (change : real.NameChange) → SparesOwn packs change → (old new : Option Trace) (result : Result Bool E) → IfOk result (λ there. PerformsIfThere there change old new) → OnErr result (FailsAt change old new) → GoesOn packs old new
+goes_if_there packs change spares old new result ok err = goes_at packs change spares old new (ended_if_there change old new result ok err)
 
-own_next : (layout : Layout) (since now : Since) (old new : Option Trace) → now ≡ since → GoesOn old new → OwnFilesLast layout since old → OwnFilesLast layout now new
+own_next : (layout : Layout) (since now : Since) (old new : Option Trace) → now ≡ since → GoesOn since.packs old new → OwnFilesLast layout since old → OwnFilesLast layout now new
 own_next layout since now old new same goes own = subst (λ n. OwnFilesLast layout n new) (sym same) (⊎_elim
     (λ is. subst (λ o. OwnFilesLast layout since o) (sym is) own)
     (λ more. subst (λ o. OwnFilesLast layout since o) (sym more.2) (added old more.0 more.1 own)) goes)
   where
-    added : (told : Option Trace) (op : Operation) → SparesOwn (change_of op) → OwnFilesLast layout since told → OwnFilesLast layout since (option_map (add_operation op) told)
+    added : (told : Option Trace) (op : Operation) → SparesOwn since.packs (change_of op) → OwnFilesLast layout since told → OwnFilesLast layout since (option_map (add_operation op) told)
     added None op spares own = tt
     added (Some t) op spares own = own_last layout since t op spares own
 
@@ -181,7 +192,7 @@ pub no_shorter : (h g : List Recorded) → Begins g h → length h ≤ length g
 no_shorter h g b = let long : length g ≡ length h + length b.0 = ap length b.1 ∙ length-append h b.0 in omega (arith, long)
 
 -- what the pass knows after a turn
-module _ (layout : Layout) (low young : ℕ) (stuck : Option DiskPlace) (old new : Option Trace) (goes : GoesOn old new) (v : View) (known : KnowsAlone layout low young stuck old v) where
+module _ (layout : Layout) (low young : ℕ) (stuck : Option DiskPlace) (old new : Option Trace) (v : View) (goes : GoesOn v.since.packs old new) (known : KnowsAlone layout low young stuck old v) where
   -- one that added no revision, and by which no section came to be in doubt but by a fault that isn't harmless
   then_known : (u : View) → Knows layout low young stuck new u → length u.seen ≡ length v.seen → u.opened ≡ v.opened → u.since ≡ v.since → u.pass.mine ≡ v.pass.mine → u.pass.stuck ≡ v.pass.stuck → (are_harmless u.pass.faults ≡ true → are_harmless v.pass.faults ≡ true)
       → (are_harmless u.pass.faults ≡ true → is_doubtful_at v.section ≡ false → is_doubtful_at u.section ≡ false) → KnowsAlone layout low young stuck new u
@@ -251,8 +262,8 @@ module _ (layout : Layout) (low young : ℕ) (stuck : Option DiskPlace) (old new
   give_alone step w = (w.0, leaves w.0 w.1 (ap {A = View} (λ z. z.seen) w.2.is) (ap {A = View} (λ z. z.opened) w.2.is) (ap {A = View} (λ z. z.since) w.2.is) (ap {A = View} (λ z. z.pass.mine) w.2.is) (ap {A = View} (λ z. z.pass.stuck) w.2.is) (ap {A = View} (λ z. z.pass.faults) w.2.is) (λ s. ap {A = View} (λ z. is_doubtful_at z.section) w.2.is), w.2)
 
   -- it is left stuck only where the section was in doubt
-  pub stick_alone : (place : DiskPlace) (x : Coming) (step : Step) → v.section ≡ Some (Doubtful place x) → (u : View) × Knows layout low young (Some place) new u × LockGiven step v u → (u : View) × KnowsAlone layout low young (Some place) new u × LockGiven step v u
-  stick_alone place x step at w = (
+  pub stick_alone : (place : DiskPlace) (step : Step) → MustStick place v → (u : View) × Knows layout low young (Some place) new u × LockGiven step v u → (u : View) × KnowsAlone layout low young (Some place) new u × LockGiven step v u
+  stick_alone place step must w = (
     w.0,
     (
       w.1,
@@ -277,8 +288,13 @@ module _ (layout : Layout) (low young : ℕ) (stuck : Option DiskPlace) (old new
       found : w.0.pass.stuck ≡ v.pass.stuck
       found = ap {A = View} (λ z. z.pass.stuck) w.2.is
 
+      must_doubt : MustStick place v → is_doubtful_at v.section ≡ true
+      must_doubt must = ⊎_elim
+          (λ (d : (x : Coming) × (v.section ≡ Some (Doubtful place x))). ap (λ o. is_doubtful_at o) d.1)
+          (λ (at : v.section ≡ Some (FloorDoubtful place)). ap (λ o. is_doubtful_at o) at) must
+
       doubtless : are_harmless w.0.pass.faults ≡ true → Some place ≡ None
-      doubtless few = let both : false ≡ true = sym (known.1.sound (sym faults ∙ few)) ∙ ap (λ o. is_doubtful_at o) at in absurd cc
+      doubtless few = let both : false ≡ true = sym (known.1.sound (sym faults ∙ few)) ∙ must_doubt must in absurd cc
 
   adopted_alone : (txn : Txn) (properties : List (List ℕ × List ℕ)) (next : Revision) (bytes : List ℕ) (went : Went) (u : View) → Knows layout low young stuck new u → Adopted txn properties next bytes went v u → KnowsAlone layout low young stuck new u
   adopted_alone txn properties next bytes went u now a =
@@ -331,9 +347,9 @@ module _ (layout : Layout) (low young : ℕ) (stuck : Option DiskPlace) (old new
   props_alone r x result Read w = (w.0, w.1, w.2, learned disk.Read w.1 w.0 w.3 w.5.grows (ap {A = View} (λ z. z.opened) w.5.is) (ap {A = View} (λ z. z.since) w.5.is) (ap {A = View} (λ z. z.pass.mine) w.5.is) (ap {A = View} (λ z. z.pass.stuck) w.5.is) (ap {A = View} (λ z. z.pass.faults) w.5.is) (λ few. same_at w.0 (ap {A = View} (λ z. z.section) w.5.is)), w.4, w.5, w.6, w.7)
 
   pub floor_alone : {X E : Type 0} (result : Result X E) (Read : List ℕ → Type 0)
-      → (u : View) × (went : Went) × (floor : ℕ) × (text : List ℕ) × Knows layout low young stuck new u × Answers result went × FloorRead floor went v u × IsRevLine text floor × Read text
-      → (u : View) × (went : Went) × (floor : ℕ) × (text : List ℕ) × KnowsAlone layout low young stuck new u × Answers result went × FloorRead floor went v u × IsRevLine text floor × Read text
-  floor_alone result Read w = (w.0, w.1, w.2, w.3, learned disk.Read w.1 w.0 w.4 w.6.grows (ap {A = View} (λ z. z.opened) w.6.is) (ap {A = View} (λ z. z.since) w.6.is) (ap {A = View} (λ z. z.pass.mine) w.6.is) (ap {A = View} (λ z. z.pass.stuck) w.6.is) (ap {A = View} (λ z. z.pass.faults) w.6.is) (λ few. same_at w.0 (ap {A = View} (λ z. z.section) w.6.is)), w.5, w.6, w.7, w.8)
+      → (u : View) × (went : Went) × (floor : ℕ) × (text : List ℕ) × Knows layout low young stuck new u × Answers result went × FloorRead floor went v u × IsWhole v.layout floor × IsRevLine text floor × Read text
+      → (u : View) × (went : Went) × (floor : ℕ) × (text : List ℕ) × KnowsAlone layout low young stuck new u × Answers result went × FloorRead floor went v u × IsWhole v.layout floor × IsRevLine text floor × Read text
+  floor_alone result Read w = (w.0, w.1, w.2, w.3, learned disk.Read w.1 w.0 w.4 w.6.grows (ap {A = View} (λ z. z.opened) w.6.is) (ap {A = View} (λ z. z.since) w.6.is) (ap {A = View} (λ z. z.pass.mine) w.6.is) (ap {A = View} (λ z. z.pass.stuck) w.6.is) (ap {A = View} (λ z. z.pass.faults) w.6.is) (λ few. same_at w.0 (ap {A = View} (λ z. z.section) w.6.is)), w.5, w.6, w.7, w.8, w.9)
 
   -- what it knew
   pub same_alone : Knows layout low young stuck new v → KnowsAlone layout low young stuck new v
@@ -367,3 +383,19 @@ module _ (layout : Layout) (low young : ℕ) (stuck : Option DiskPlace) (old new
 
   pub spent_alone : {X E : Type 0} (name : ℕ) (result : Result X E) → (u : View) × (went : Went) × Knows layout low young stuck new u × Answers result went × SpentPurged name went v u → (u : View) × (went : Went) × KnowsAlone layout low young stuck new u × Answers result went × SpentPurged name went v u
   spent_alone name result w = (w.0, w.1, learned disk.Remove w.1 w.0 w.2 w.4.grows (ap {A = View} (λ z. z.opened) w.4.is) (ap {A = View} (λ z. z.since) w.4.is) (ap {A = View} (λ z. z.pass.mine) w.4.is) (ap {A = View} (λ z. z.pass.stuck) w.4.is) (ap {A = View} (λ z. z.pass.faults) w.4.is) (λ few. same_at w.0 (ap {A = View} (λ z. z.section) w.4.is)), w.3, w.4)
+
+  -- a call beside the section
+  beside_known : (place : DiskPlace) (went : Went) (u : View) → Knows layout low young stuck new u → DoneBeside place went v u → KnowsAlone layout low young stuck new u
+  beside_known place went u now b = learned place went u now b.grows (ap {A = View} (λ z. z.opened) b.is) (ap {A = View} (λ z. z.since) b.is) (ap {A = View} (λ z. z.pass.mine) b.is) (ap {A = View} (λ z. z.pass.stuck) b.is) (ap {A = View} (λ z. z.pass.faults) b.is) (λ few. same_at u (ap {A = View} (λ z. z.section) b.is))
+
+  pub beside_alone : {X E : Type 0} (place : DiskPlace) (result : Result X E) → (u : View) × (went : Went) × Knows layout low young stuck new u × Answers result went × DoneBeside place went v u → (u : View) × (went : Went) × KnowsAlone layout low young stuck new u × Answers result went × DoneBeside place went v u
+  beside_alone place result w = (w.0, w.1, beside_known place w.1 w.0 w.2 w.4, w.3, w.4)
+
+  -- the own file of a packed revision goes
+  removed_known : (r : ℕ) (went : Went) (u : View) → Knows layout low young stuck new u → OldRemoved r went v u → KnowsAlone layout low young stuck new u
+  removed_known r went u now o = learned disk.Remove went u now o.grows (ap {A = View} (λ z. z.opened) o.is) (ap {A = View} (λ z. z.since) o.is) (ap {A = View} (λ z. z.pass.mine) o.is) (ap {A = View} (λ z. z.pass.stuck) o.is) (ap {A = View} (λ z. z.pass.faults) o.is) (λ few. same_at u (ap {A = View} (λ z. z.section) o.is))
+
+  pub removal_alone : {E : Type 0} (r : ℕ) (result : Result Bool E) → (u : View) × (went : Went) × Knows layout low young stuck new u × Answers result went × Removal result r went v u → (u : View) × (went : Went) × KnowsAlone layout low young stuck new u × Answers result went × Removal result r went v u
+  removal_alone r (Ok true) w = (w.0, w.1, removed_known r w.1 w.0 w.2 w.4, w.3, w.4)
+  removal_alone r (Ok false) w = (w.0, w.1, beside_known disk.Remove w.1 w.0 w.2 w.4, w.3, w.4)
+  removal_alone r (Err e) w = (w.0, w.1, removed_known r w.1 w.0 w.2 w.4, w.3, w.4)

@@ -133,15 +133,15 @@ module _ (first : Files) (labels : List Label) (before : List Operation) (date :
   whole = record { packs = new.packs; place = zero-mod (shard_size new.layout) }
 
   view : View
-  view = record { layout = new.layout; since = opened_at first before; opened = 1; number = 0; pass = first_pass 1 0; seen = new_revision date ∷ []; section = None; sure = false; left = None; given = []; full = false }
+  view = record { layout = new.layout; since = opened_at first before; opened = 1; number = 0; pass = first_pass 1 0; seen = new_revision date ∷ []; section = None; sure = false; firm = None; left = None; given = []; full = false }
 
   store : IsStore new.layout 0 0 None (record { first = first; labels = labels; operations = Done real.FirmNames ∷ before }) world
   unfolding world disk
-  store = record { trace = Opening before disk read; size = refl; whole = whole; kept = kept_bare world kept; shown = all_show; coming = tt; low_is = refl; floor_is = refl; level = refl; young_is = refl; stuck_is = refl }
+  store = record { trace = Opening before disk read; size = refl; whole = whole; kept = kept_bare world kept; shown = all_show; coming = tt; low_is = refl; young_is = refl; stuck_is = refl }
 
   sees : Sees world view
   unfolding world view
-  sees = record { pass = refl; seen = refl; section = refl; up = refl; sure = λ e. absurd cc; whole = λ z e. absurd cc; given = λ k i. absurd i; opened = omega arith; shown = all_show; names = record { full = λ e. absurd cc; drawing = λ z e. absurd cc } }
+  sees = record { pass = refl; seen = refl; section = refl; up = refl; sure = λ e. absurd cc; whole = λ z e. absurd cc; given = λ k i. absurd i; opened = omega arith; shown = all_show; names = record { full = λ e. absurd cc; drawing = λ z e. absurd cc }; firm = λ z f e is. absurd cc }
 
   safe : Safe new.layout (opened_at first before) (record { first = first; labels = labels; operations = Done real.FirmNames ∷ before }) 1 (new_revision date ∷ []) None
   unfolding disk

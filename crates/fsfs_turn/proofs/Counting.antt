@@ -33,6 +33,7 @@ use Rattle.fsfs_turn.specs.Views.{View, KnowsNames, Sees, with_txns, Answers}
 use Rattle.fsfs_turn.specs.Learning.{drawn_of, CounterRead, ReadsCounter}
 use Rattle.fsfs_turn.specs.Standing.{no_others, IsStore}
 use Rattle.fsfs_turn.proofs.Names.{names_full, names_stay}
+use Rattle.fsfs_turn.proofs.FloorsRise.{floor_kept}
 use Rattle.fsfs_turn.proofs.TurnEnds.{section_leaves, IsAfter, Comes}
 use Rattle.fsfs_turn.proofs.Stepping.{kept_bare, at_itself, held_here, lock_is, take_drop}
 use Rattle.fsfs_turn.proofs.Due.{at_found}
@@ -88,12 +89,6 @@ module _ (layout : Layout) (low young : ℕ) (stuck : Option DiskPlace) (t : Tra
   stuck_then : (went : Went) → stuck_place (Held v.number (either went (CountRead (drawn_of base counter.0)) Over)) ≡ stuck
   stuck_then went = sym (ap stuck_place lock) ∙ store.stuck_is
 
-  level_then : (went : Went) → may_rise (Held v.number (either went (CountRead (drawn_of base counter.0)) Over)) ≡ false
-  level_then Fine = refl
-  level_then Before = refl
-  level_then After = refl
-  level_then (Torn any) = refl
-
   coming_then : (went : Went) → IfSome (coming (Held v.number (either went (CountRead (drawn_of base counter.0)) Over))) (λ y. BytesShow (with_next w.history y))
   coming_then Fine = tt
   coming_then Before = tt
@@ -117,7 +112,7 @@ module _ (layout : Layout) (low young : ℕ) (stuck : Option DiskPlace) (t : Tra
     };
     all = refl;
     safe = safe_then;
-    leaves = section_leaves w (world went) v.number (learns (length w.history) (Begin begin.Read) went) Begun (either went (CountRead (drawn_of base counter.0)) Over) went refl refl refl refl refl lock refl refl (λ last. last);
+    leaves = section_leaves w (world went) v.number (learns (length w.history) (Begin begin.Read) went) Begun (either went (CountRead (drawn_of base counter.0)) Over) went refl refl refl refl lock refl refl (λ last. last) (floor_kept w.disk w.disk refl);
     layout_is = refl;
     since_is = refl;
     opened_is = refl;
@@ -146,10 +141,11 @@ module _ (layout : Layout) (low young : ℕ) (stuck : Option DiskPlace) (t : Tra
         opened = sees.opened;
         shown = store.shown;
         names = names_then went;
+        firm = λ s f at e. sees.firm Begun f begun e;
       }
 
       now : IsStore layout low young stuck t (world went)
-      now = record { trace = store.trace; size = store.size; whole = store.whole; kept = kept; shown = store.shown; coming = coming_then went; low_is = store.low_is; floor_is = store.floor_is; level = level_then went; young_is = store.young_is; stuck_is = stuck_then went }
+      now = record { trace = store.trace; size = store.size; whole = store.whole; kept = kept; shown = store.shown; coming = coming_then went; low_is = store.low_is; young_is = store.young_is; stuck_is = stuck_then went }
 
       safe_then : Safe layout v.since t v.opened w.history (doubt (Held v.number (either went (CountRead (drawn_of base counter.0)) Over)))
       safe_then = subst (λ d. Safe layout v.since t v.opened w.history d) (doubtless went) (subst (λ l. Safe layout v.since t v.opened w.history (doubt l)) lock safe)
@@ -167,6 +163,7 @@ module _ (layout : Layout) (low young : ℕ) (stuck : Option DiskPlace) (t : Tra
     opened = sees.opened;
     shown = sees.shown;
     names = names_full v.section w.disk v.full (counter.0, counter.1, many) sees.names;
+    firm = sees.firm;
   }
 
   pub counter_comes : {X E : Type 0} (told : Option Trace) → told ≡ Some t → counter.0 < last_name → (result : Result X E) → Comes layout low young stuck told w v result (λ went u. CounterRead base counter.0 went v u)

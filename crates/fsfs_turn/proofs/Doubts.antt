@@ -7,23 +7,23 @@ use Rattle.fsfs_machine.specs.declared.machine.Step.{Step}
 use Rattle.fsfs_machine.specs.declared.machine.Went.{Went}
 use Rattle.fsfs_machine.specs.declared.machine.Went.TheVariants.{Fine, Before, After, Torn}
 use Rattle.fsfs_machine.specs.Machine.{either}
-use Rattle.fsfs_turn.specs.Alone.{BringsNoDoubt, are_harmless, brings_doubt}
+use Rattle.fsfs_turn.specs.Alone.{BringsNoDoubt, are_harmless, leaves_stuck}
 use Rattle.fsfs_turn.specs.Views.{View, Looked, LockTaken, FoundStuck, LockGiven}
 use Rattle.fsfs_turn.specs.Learning.{PropsRead}
 
 -- ---- lists of faults
 
 -- one more of them
-pub harmless_more : (places : List DiskPlace) (place : DiskPlace) → are_harmless places ≡ true → brings_doubt place ≡ false → are_harmless (places ++ place ∷ []) ≡ true
+pub harmless_more : (places : List DiskPlace) (place : DiskPlace) → are_harmless places ≡ true → leaves_stuck place ≡ false → are_harmless (places ++ place ∷ []) ≡ true
 harmless_more [] place few none = ap (λ b. cond b false true) none
-harmless_more (x ∷ places) place few none = by_test (brings_doubt x) few (λ less. harmless_more places place less none)
+harmless_more (x ∷ places) place few none = by_test (leaves_stuck x) few (λ less. harmless_more places place less none)
   where
     by_test : (b : Bool) → cond b false (are_harmless places) ≡ true → (are_harmless places ≡ true → are_harmless (places ++ place ∷ []) ≡ true) → cond b false (are_harmless (places ++ place ∷ [])) ≡ true
     by_test true e rest = absurd cc
     by_test false e rest = rest e
 
 -- where the call at this place failed, or not
-harmless_either : (went : Went) (places : List DiskPlace) (place : DiskPlace) → are_harmless places ≡ true → brings_doubt place ≡ false → are_harmless (either went places (places ++ place ∷ [])) ≡ true
+harmless_either : (went : Went) (places : List DiskPlace) (place : DiskPlace) → are_harmless places ≡ true → leaves_stuck place ≡ false → are_harmless (either went places (places ++ place ∷ [])) ≡ true
 harmless_either Fine places place few none = few
 harmless_either Before places place few none = harmless_more places place few none
 harmless_either After places place few none = harmless_more places place few none
@@ -34,7 +34,7 @@ harmless_either (Torn any) places place few none = harmless_more places place fe
 pub same_faults : (v u : View) → u.pass.faults ≡ v.pass.faults → BringsNoDoubt v u
 same_faults v u same = λ few. ap (λ l. are_harmless l) same ∙ few
 
-pub fault_more : (place : DiskPlace) (v u : View) → u.pass.faults ≡ v.pass.faults ++ place ∷ [] → brings_doubt place ≡ false → BringsNoDoubt v u
+pub fault_more : (place : DiskPlace) (v u : View) → u.pass.faults ≡ v.pass.faults ++ place ∷ [] → leaves_stuck place ≡ false → BringsNoDoubt v u
 fault_more place v u is none = λ few. ap (λ l. are_harmless l) is ∙ harmless_more v.pass.faults place few none
 
 pub looked_doubtless : (young : ℕ) (v u : View) → Looked young v u → BringsNoDoubt v u

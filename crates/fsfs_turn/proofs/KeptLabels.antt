@@ -1,9 +1,9 @@
 -- Calls that change names alone keep the labels.
-use Rattle.std.proofs.Common.{◌≡◌, ℕ, List, false, ⊎_elim, refl, ap, ◌∙◌}
-use Rattle.std.specs.Prelude.{Option, Some, None, Result, Ok, Err, OnOk, OnErr, option_map}
+use Rattle.std.proofs.Common.{◌≡◌, ℕ, List, true, false, ⊎_elim, refl, ap, ◌∙◌}
+use Rattle.std.specs.Prelude.{Bool, Option, Some, None, Result, Ok, Err, OnOk, OnErr, IfOk, option_map}
 use Rattle.fsfs_base.specs.Files.{Files}
 use Rattle.fsfs_disk.specs.Labels.{Label}
-use Rattle.fsfs_disk.specs.Trace.{Trace, labels_now, Performs, FailsAt, FailsToPut, FailsToAdopt}
+use Rattle.fsfs_disk.specs.Trace.{Trace, labels_now, Performs, PerformsIfThere, FailsAt, FailsToPut, FailsToAdopt}
 use Rattle.fsfs_disk.specs.Trace as real
 use Rattle.fsfs_turn.specs.Labels.{KeepsLabels}
 use Rattle.fsfs_turn.proofs.Knowing.{tried_labels}
@@ -31,3 +31,9 @@ pub keeps_at_adoption : {X E : Type 0} (change : real.NameChange) → IsOfNames 
 keeps_at_adoption change names old new without held left (Ok x) ok err = λ free. done_labels change names old new ok
 keeps_at_adoption change names old new without held left (Err e) ok err = λ free.
     ⊎_elim (λ stays. ⊎_elim (λ same. ap (λ o. option_map labels_now o) same) (λ tried. tried_labels change old new tried) stays.0) (λ gone. done_labels change names old new gone.0) err
+
+pub keeps_if_there : {E : Type 0} (change : real.NameChange) → IsOfNames change → (old new : Option Trace) (result : Result Bool E) → IfOk result (λ there. PerformsIfThere there change old new) → OnErr result (FailsAt change old new) → KeepsLabels false (option_map labels_now old) (option_map labels_now new)
+keeps_if_there change names old new (Ok true) ok err = λ free. done_labels change names old new ok
+keeps_if_there change names old new (Ok false) ok err = λ free. ap (λ o. option_map labels_now o) ok
+keeps_if_there change names old new (Err e) ok err = λ free. ⊎_elim (λ same. ap (λ o. option_map labels_now o) same)
+    (λ more. ⊎_elim (λ tried. tried_labels change old new tried) (λ done. done_labels change names old new done) more) err

@@ -19,22 +19,26 @@ use Rattle.fsfs_machine.specs.declared.machine.Coming.{Coming}
 use Rattle.fsfs_machine.specs.declared.machine.Drawn.{Drawn}
 use Rattle.fsfs_machine.specs.declared.machine.Txn.{Txn}
 use Rattle.fsfs_base.specs.declared.places.place.DiskPlace.{DiskPlace}
-use Rattle.fsfs_machine.specs.declared.machine.Section.TheVariants.{Begun, CurrentFirm, Doubtful}
+use Rattle.fsfs_base.specs.declared.places.place.DiskPlace.TheVariants as disk
+use Rattle.fsfs_machine.specs.declared.machine.Section.TheVariants.{Begun, CurrentFirm}
 use Rattle.fsfs_machine.specs.declared.machine.Step.TheVariants as step
 use Rattle.fsfs_machine.specs.declared.machine.Went.{Went}
 use Rattle.fsfs_machine.specs.declared.machine.Went.TheVariants.{Before}
 use Rattle.fsfs_machine.specs.Kept.{IsIn}
-use Rattle.fsfs_turn.specs.Views.{View, rev_name, props_name, IsDue, MayAdopt, MayGive, Answers, Called, Adopted, Looked, LockTaken, FoundStuck, LockGiven, Revealed}
+use Rattle.fsfs_turn.specs.Views.{View, rev_name, props_name, IsDue, MayAdopt, MayGive, Answers, Called, Adopted, Looked, LockTaken, FoundStuck, MustStick, LockGiven, Revealed}
 use Rattle.fsfs_turn.specs.Learning.{PropsRead, FloorRead, CounterRead, ReadsCounter, Listed, MayMake, BenchMade, MayPurge, Purged, SpentPurged}
 use Rattle.fsfs_turn.specs.Labels.{Relabels, MayRelabel, Drops}
+use Rattle.fsfs_turn.specs.Past.{IsWhole}
 use Rattle.fsfs_turn.specs.Standing.{Knows}
 use Rattle.fsfs_turn.proofs.TurnEnds.{known_after, known_comes}
-use Rattle.fsfs_turn.proofs.Due.{put_comes, rename_comes, firm_comes, folder_fails}
+use Rattle.fsfs_turn.specs.Packing.{DoneBeside, MayRemove, Removal}
+use Rattle.fsfs_turn.proofs.Due.{put_comes, rename_comes, firm_comes, folder_fails, part_fails, part_comes}
 use Rattle.fsfs_turn.proofs.Locking.{looks, takes, finds_stuck, gives_lock, sticks, reveals_it}
 use Rattle.fsfs_turn.proofs.Adopting.{adopt_comes, adopt_file_comes, adopt_fails}
-use Rattle.fsfs_turn.proofs.SmallFiles.{floor_comes, floor_line, props_comes, props_text}
+use Rattle.fsfs_turn.proofs.SmallFiles.{disk_floor, floor_whole, floor_comes, floor_line, props_comes, props_text}
 use Rattle.fsfs_turn.proofs.Counting.{counter, counter_comes, counter_reads, full_sees}
 use Rattle.fsfs_turn.proofs.Labelling.{list_turns, make_comes, purge_comes, spent_comes}
+use Rattle.fsfs_turn.proofs.Packing.{keep_comes, drop_comes, folder_comes, removal_comes}
 
 -- what was put is in use
 pub put_used : {X E : Type 0} (old new : Option Trace) (name bytes : List ℕ) (result : Result X E) → OnOk result (Performs (real.Put name bytes) old new) → OnOk result (IfSome new (λ t. IsSome (file_at t name)))
@@ -166,9 +170,9 @@ module _ (layout : Layout) (low young : ℕ) (stuck : Option DiskPlace) where
   give_known None v known may = absurd known
   give_known (Some t) v known may = gives_lock layout low young stuck t known.0 v known.1 known.2 known.3 known.4 known.5 known.6 known.7 may.inside may.is may.quiet
 
-  pub stick_known : (told : Option Trace) (place : DiskPlace) (v : View) (x : Coming) → Knows layout low young stuck told v → v.section ≡ Some (Doubtful place x) → (u : View) × Knows layout low young (Some place) told u × LockGiven (step.StickLock v.number) v u
-  stick_known None place v x known is = absurd known
-  stick_known (Some t) place v x known is = sticks layout low young stuck t known.0 v known.1 known.2 known.3 known.4 known.5 known.6 known.7 place x is
+  pub stick_known : (told : Option Trace) (place : DiskPlace) (v : View) → Knows layout low young stuck told v → MustStick place v → (u : View) × Knows layout low young (Some place) told u × LockGiven (step.StickLock v.number) v u
+  stick_known None place v known must = absurd known
+  stick_known (Some t) place v known must = sticks layout low young stuck t known.0 v known.1 known.2 known.3 known.4 known.5 known.6 known.7 place must
 
   pub reveal_known : (told : Option Trace) (rev : ℕ) (v : View) (x : Coming) → Knows layout low young stuck told v → v.section ≡ Some (CurrentFirm x) → rev ≡ length v.seen → (u : View) × Knows layout low rev stuck told u × Revealed x v u
   reveal_known None rev v x known is rev_is = absurd known
@@ -185,12 +189,12 @@ module _ (layout : Layout) (low young : ℕ) (stuck : Option DiskPlace) where
 
   pub floor_known : {E : Type 0} (old new : Option Trace) → new ≡ old → (offset : ℕ) (name buffer filled : List ℕ) (result : Result (Option ℕ) E) → IfSome old (λ t. IfOk result (IsRead (file_at t name) offset buffer filled))
       → (v : View) → Knows layout low young stuck old v → name ≡ only_name only.MinUnpackedRev
-      → (u : View) × (went : Went) × (floor : ℕ) × (text : List ℕ) × Knows layout low young stuck new u × Answers result went × FloorRead floor went v u × IsRevLine text floor × IfOk result (IsRead (Some text) offset buffer filled)
+      → (u : View) × (went : Went) × (floor : ℕ) × (text : List ℕ) × Knows layout low young stuck new u × Answers result went × FloorRead floor went v u × IsWhole v.layout floor × IsRevLine text floor × IfOk result (IsRead (Some text) offset buffer filled)
   floor_known None new same offset name buffer filled result read v known named = absurd known
   floor_known (Some t) new same offset name buffer filled result read v known named =
-      let k = known_comes layout low young stuck new known.0 v result (λ went u. FloorRead low went v u) known.3 known.4 known.6 known.7 (floor_comes layout low young stuck t known.0 v known.1 known.2 known.3 known.5 new same result) in
+      let k = known_comes layout low young stuck new known.0 v result (λ went u. FloorRead (disk_floor layout low young stuck t known.0 v known.1 known.2 known.3 known.5) went v u) known.3 known.4 known.6 known.7 (floor_comes layout low young stuck t known.0 v known.1 known.2 known.3 known.5 new same result) in
       let line = floor_line layout low young stuck t known.0 v known.1 known.2 known.3 known.5 offset name buffer filled named result read in
-      (k.0, k.1, low, line.0, k.2, k.3, k.4, line.1, line.2)
+      (k.0, k.1, disk_floor layout low young stuck t known.0 v known.1 known.2 known.3 known.5, line.0, k.2, k.3, k.4, floor_whole layout low young stuck t known.0 v known.1 known.2 known.3 known.5, line.1, line.2)
 
   pub counter_known : {E : Type 0} (old new : Option Trace) → new ≡ old → (name buffer filled : List ℕ) (result : Result (Option ℕ) E) → IfSome old (λ t. IfOk result (IsRead (file_at t name) 0 buffer filled))
       → name ≡ only_name only.TxnCurrent → (v : View) (base : ℕ) → Knows layout low young stuck old v → v.section ≡ Some Begun → base ≤ v.pass.least
@@ -238,3 +242,41 @@ module _ (layout : Layout) (low young : ℕ) (stuck : Option DiskPlace) where
   adopt_file_known (Some t) new name bytes without held left result ok err v txn properties next known may named =
       known_comes layout low young stuck new known.0 v result (λ went u. Adopted txn properties next bytes went v u) known.3 known.4 known.6 known.7
       (adopt_file_comes layout low young stuck t known.0 v known.1 known.2 known.3 known.5 txn properties next bytes may (left ≡ held) (left ≡ option_map without held) new name result named ok err)
+
+  -- ---- packs
+
+  pub part_known : {X E : Type 0} (old new : Option Trace) (name bytes : List ℕ) (without : Files → Files) (held left : Option Files) (result : Result X E) → OnOk result (Performs (real.Adopt name bytes) old new)
+      → OnErr result (FailsToAdopt (real.Adopt name bytes) old new without held left)
+      → (v : View) (place : DiskPlace) → Knows layout low young stuck old v → IsDue v place (real.Adopt name bytes) → (u : View) × (went : Went) × Knows layout low young stuck new u × Answers result went × Called place went v u
+  part_known None new name bytes without held left result ok err v place known due = absurd known
+  part_known (Some t) new name bytes without held left result ok err v place known due =
+      known_comes layout low young stuck new known.0 v result (λ went u. Called place went v u) known.3 known.4 known.6 known.7
+      (part_comes layout low young stuck t known.0 v known.1 known.2 known.3 known.5 (left ≡ held) (left ≡ option_map without held) new place name bytes result due ok err)
+
+  pub part_not : (old new : Option Trace) → new ≡ old → (v : View) (place : DiskPlace) (name bytes : List ℕ) → Knows layout low young stuck old v → IsDue v place (real.Adopt name bytes) → (u : View) × Knows layout low young stuck new u × Called place Before v u
+  part_not None new same v place name bytes known due = absurd known
+  part_not (Some t) new same v place name bytes known due = known_after layout low young stuck t new known.0 v (λ u. Called place Before v u) same known.3 known.4 known.6 known.7
+      (part_fails layout low young stuck t known.0 v known.1 known.2 known.3 known.5 place name bytes due)
+
+  pub removal_known : {E : Type 0} (old new : Option Trace) (name : List ℕ) (result : Result Bool E) → IfOk result (λ there. PerformsIfThere there (real.Remove name) old new) → OnErr result (FailsAt (real.Remove name) old new)
+      → (v : View) (r : ℕ) → Knows layout low young stuck old v → MayRemove v r → name ≡ rev_name v r → (u : View) × (went : Went) × Knows layout low young stuck new u × Answers result went × Removal result r went v u
+  removal_known None new name result ok err v r known may named = absurd known
+  removal_known (Some t) new name result ok err v r known may named = known_comes layout low young stuck new known.0 v result (λ went u. Removal result r went v u) known.3 known.4 known.6 known.7
+      (removal_comes layout low young stuck t known.0 v known.1 known.2 known.5 known.3 r may new name result named ok err)
+
+  pub keep_known : {X E : Type 0} (old new : Option Trace) (l : Label) (result : Result X E) → OnOk result (Performs (KeepLabel l) old new) → OnErr result (FailsAt (KeepLabel l) old new)
+      → (v : View) → Knows layout low young stuck old v → (u : View) × (went : Went) × Knows layout low young stuck new u × Answers result went × DoneBeside disk.MakeBench went v u
+  keep_known None new l result ok err v known = absurd known
+  keep_known (Some t) new l result ok err v known = known_comes layout low young stuck new known.0 v result (λ went u. DoneBeside disk.MakeBench went v u) known.3 known.4 known.6 known.7
+      (keep_comes layout low young stuck t known.0 v known.1 known.2 known.5 new l result ok err)
+
+  pub drop_known : {E : Type 0} (old new : Option Trace) (l : Label) (result : Result Bool E) → IfOk result (λ there. PerformsIfThere there (DropLabel l) old new) → OnErr result (FailsAt (DropLabel l) old new)
+      → (v : View) → Knows layout low young stuck old v → (u : View) × (went : Went) × Knows layout low young stuck new u × Answers result went × DoneBeside disk.Remove went v u
+  drop_known None new l result ok err v known = absurd known
+  drop_known (Some t) new l result ok err v known = known_comes layout low young stuck new known.0 v result (λ went u. DoneBeside disk.Remove went v u) known.3 known.4 known.6 known.7
+      (drop_comes layout low young stuck t known.0 v known.1 known.2 known.5 new l result ok err)
+
+  pub beside_known : {X E : Type 0} (at : DiskPlace) (old new : Option Trace) → new ≡ old → (result : Result X E) → (v : View) → Knows layout low young stuck old v → (u : View) × (went : Went) × Knows layout low young stuck new u × Answers result went × DoneBeside at went v u
+  beside_known at None new same result v known = absurd known
+  beside_known at (Some t) new same result v known = known_comes layout low young stuck new known.0 v result (λ went u. DoneBeside at went v u) known.3 known.4 known.6 known.7
+      (folder_comes layout low young stuck t known.0 v known.1 known.2 known.5 at new same result)

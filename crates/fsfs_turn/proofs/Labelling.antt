@@ -118,22 +118,22 @@ module _ (layout : Layout) (low young : ℕ) (stuck : Option DiskPlace) (old : T
   -- ---- a call on a label, however it went
 
   -- a change that no image shows
-  record IsUnshown (change : real.NameChange) : Type 0 where
+  pub record IsUnshown (change : real.NameChange) : Type 0 where
     pub done : IsTraceOf layout no_others old.first (Done change ∷ old.operations) w.disk
     pub images : (m : Files) → IsImage old.first (Done change ∷ old.operations) m → IsImage old.first old.operations m
     pub middle : (m : Files) → (ImageAfter change (files_after old.first old.operations) (IsImage old.first old.operations) m) ⊎ (TornBy change (IsImage old.first old.operations) m) → IsImage old.first old.operations m
 
-  unshown_keep : (l : Label) → IsUnshown (KeepLabel l)
+  pub unshown_keep : (l : Label) → IsUnshown (KeepLabel l)
   unshown_keep l = record { done = KeepingLabel old.operations w.disk l store.trace; images = λ m i. i; middle = λ m c. ⊎_elim (λ i. i) (λ t. absurd t) c }
 
-  unshown_drop : (l : Label) → IsUnshown (DropLabel l)
+  pub unshown_drop : (l : Label) → IsUnshown (DropLabel l)
   unshown_drop l = record { done = DroppingLabel old.operations w.disk l store.trace; images = λ m i. i; middle = λ m c. ⊎_elim (λ i. i) (λ t. absurd t) c }
 
   -- what a turn comes to that leaves the machine's disk
-  abbrev Turn : (Went → View → Type 0) → Type 0
+  abbrev pub Turn : (Went → View → Type 0) → Type 0
   Turn P = (new : Trace) → IsTraceOf layout no_others new.first new.operations w.disk → Safe layout v.since new v.opened w.history (doubt w.lock) → (went : Went) → IsAfter layout low young stuck new w v (P went)
 
-  label_call : {X E : Type 0} (change : real.NameChange) → IsUnshown change → (P : Went → View → Type 0) (told : Option Trace) (result : Result X E)
+  pub label_call : {X E : Type 0} (change : real.NameChange) → IsUnshown change → (P : Went → View → Type 0) (told : Option Trace) (result : Result X E)
       → OnOk result ((told ≡ Some old) ⊎ Performs change (Some old) told) → OnErr result (FailsAt change (Some old) told) → Turn P
       → Comes layout low young stuck told w v result P
   label_call change unshown P told result ok err turn = by_result result ok err
@@ -182,7 +182,7 @@ module _ (layout : Layout) (low young : ℕ) (stuck : Option DiskPlace) (old : T
 
   -- ---- a label is dropped
 
-  dropped_so : {E : Type 0} (told : Option Trace) (l : Label) (result : Result Bool E) → IfOk result (λ there. PerformsIfThere there (DropLabel l) (Some old) told) → OnOk result ((told ≡ Some old) ⊎ Performs (DropLabel l) (Some old) told)
+  pub dropped_so : {E : Type 0} (told : Option Trace) (l : Label) (result : Result Bool E) → IfOk result (λ there. PerformsIfThere there (DropLabel l) (Some old) told) → OnOk result ((told ≡ Some old) ⊎ Performs (DropLabel l) (Some old) told)
   dropped_so told l (Ok true) done = inr done
   dropped_so told l (Ok false) done = inl done
   dropped_so told l (Err e) done = tt

@@ -22,12 +22,13 @@ use Rattle.fsfs_machine.proofs.Answering.{seen_of}
 use Rattle.fsfs_machine.proofs.Steps.{step_keeps}
 use Rattle.fsfs_machine.proofs.Whose.{length_at}
 use Rattle.fsfs_turn.specs.Bytes.{BytesShow, AllShow}
-use Rattle.fsfs_turn.specs.Views.{View, Turned, coming_at, is_held, Sees, with_txns, Looked, LockTaken, FoundStuck, left_by, outside, LockGiven, revealed_view, Revealed}
+use Rattle.fsfs_turn.specs.Views.{View, Turned, coming_at, is_held, Sees, with_txns, Looked, LockTaken, FoundStuck, left_by, outside, MustStick, LockGiven, revealed_view, Revealed}
 use Rattle.fsfs_turn.specs.Past.{doubt, stuck_with, Safe}
 pub use Rattle.fsfs_turn.specs.Found.{seen_within}
 use Rattle.fsfs_turn.specs.Standing.{IsStore, Knows}
 use Rattle.fsfs_turn.proofs.Moments.{begins_itself, quiet_doubt, safe_more, part_revealed}
 use Rattle.fsfs_turn.proofs.Names.{names_stay}
+use Rattle.fsfs_turn.proofs.FloorsRise.{floor_kept}
 use Rattle.fsfs_turn.proofs.Moves.{Spares, Moved, held_other, known_moved}
 use Rattle.fsfs_turn.proofs.TurnEnds.{at_other}
 use Rattle.fsfs_turn.proofs.Stepping.{kept_bare, at_itself, held_here, lock_is}
@@ -55,7 +56,7 @@ abbrev pub looked_view : ℕ → View → View
 looked_view young v = record v { pass = record v.pass { least = young }; sure = is_held v.section }
 
 abbrev pub locked_view : View → View
-locked_view v = record v { section = Some Begun; sure = false }
+locked_view v = record v { section = Some Begun; sure = false; firm = None }
 
 abbrev pub stuck_view : DiskPlace → View → View
 stuck_view place v = record v { pass = record v.pass { stuck = Some place } }
@@ -80,14 +81,14 @@ module _ (layout : Layout) (low young : ℕ) (stuck : Option DiskPlace) (t : Tra
   abbrev now : List Pass → Lock → World
   now passes lock = record (with_txns [] w) { passes = passes; lock = lock }
 
-  abbrev knowing : Pass → Option Section → Bool → Option Coming → View
-  knowing pass section sure left = record v { pass = pass; section = section; sure = sure; left = left }
+  abbrev knowing : Pass → Option Section → Bool → Option ℕ → Option Coming → View
+  knowing pass section sure firm left = record v { pass = pass; section = section; sure = sure; firm = firm; left = left }
 
-  moved_by : (s : Step) (o : Outcome) (passes : List Pass) (lock : Lock) (pass : Pass) (section : Option Section) (sure : Bool) (left : Option Coming) → Happens (with_txns [] w) s (did (now passes lock) o) → Sees (now passes lock) (knowing pass section sure left)
-      → IfSome (coming lock) (λ x. BytesShow (with_next w.history x)) → may_rise lock ≡ false → Safe layout v.since t v.opened w.history (doubt lock) → Spares v.number w (now passes lock) → Moved layout low young t w v (knowing pass section sure left) lock
-  moved_by s o passes lock pass section sure left happens seen next level safe spares = record {
+  moved_by : (s : Step) (o : Outcome) (passes : List Pass) (lock : Lock) (pass : Pass) (section : Option Section) (sure : Bool) (firm : Option ℕ) (left : Option Coming) → Happens (with_txns [] w) s (did (now passes lock) o) → Sees (now passes lock) (knowing pass section sure firm left)
+      → IfSome (coming lock) (λ x. BytesShow (with_next w.history x)) → Safe layout v.since t v.opened w.history (doubt lock) → Spares v.number w (now passes lock) → Moved layout low young t w v (knowing pass section sure firm left) lock
+  moved_by s o passes lock pass section sure firm left happens seen next safe spares = record {
     world = now passes lock;
-    store = record { trace = store.trace; size = store.size; whole = store.whole; kept = kept_by s o (now passes lock) happens; shown = store.shown; coming = next; low_is = store.low_is; floor_is = store.floor_is; level = level; young_is = store.young_is; stuck_is = refl };
+    store = record { trace = store.trace; size = store.size; whole = store.whole; kept = kept_by s o (now passes lock) happens; shown = store.shown; coming = next; low_is = store.low_is; young_is = store.young_is; stuck_is = refl };
     lock_is = refl;
     sees = seen;
     safe = safe;
@@ -100,11 +101,11 @@ module _ (layout : Layout) (low young : ℕ) (stuck : Option DiskPlace) (t : Tra
 
   -- it changes what its pass knows
   pass_spares : (f : Pass → Pass) → Spares v.number w (now (at_place w.passes v.number f) w.lock)
-  pass_spares f = record { passes = λ q apart. at_other w.passes v.number q f apart; count = length_at w.passes v.number f; grows = begins_itself w.history; locks = λ q apart. refl; still = λ q s apart held. (refl, refl); floor = refl; low = refl; given = λ k i. i; full = λ last. last; disk = λ q s apart held. refl }
+  pass_spares f = record { passes = λ q apart. at_other w.passes v.number q f apart; count = length_at w.passes v.number f; grows = begins_itself w.history; locks = λ q apart. refl; still = λ q s apart held. (refl, refl); floor = λ q s apart held. refl; shown = floor_kept w.disk w.disk refl; low = refl; given = λ k i. i; full = λ last. last; disk = λ q s apart held. refl }
 
   -- it moves the lock
   lock_spares : (lock : Lock) → ((q : ℕ) → (q ≡ v.number → ⊥) → held_by q lock ≡ held_by q w.lock) → Spares v.number w (now w.passes lock)
-  lock_spares lock locks = record { passes = λ q apart. refl; count = refl; grows = begins_itself w.history; locks = locks; still = λ q s apart held. (refl, refl); floor = refl; low = refl; given = λ k i. i; full = λ last. last; disk = λ q s apart held. refl }
+  lock_spares lock locks = record { passes = λ q apart. refl; count = refl; grows = begins_itself w.history; locks = locks; still = λ q s apart held. (refl, refl); floor = λ q s apart held. refl; shown = floor_kept w.disk w.disk refl; low = refl; given = λ k i. i; full = λ last. last; disk = λ q s apart held. refl }
 
   -- ---- a look
 
@@ -126,6 +127,7 @@ module _ (layout : Layout) (low young : ℕ) (stuck : Option DiskPlace) (t : Tra
     opened = sees.opened;
     shown = sees.shown;
     names = sees.names;
+    firm = sees.firm;
   }
 
   pub look_comes : Looked young v (looked_view young v) × Moved layout low young t w v (looked_view young v) w.lock
@@ -136,7 +138,7 @@ module _ (layout : Layout) (low young : ℕ) (stuck : Option DiskPlace) (t : Tra
       least = let up : w.young + 1 ≡ length w.history = store.kept.young sees.up in omega (arith, up, store.young_is, (seen_of (length w.history) w.low (most_floor (may_rise w.lock) w.size w.floor) w.passes v.number v.pass store.kept.seen sees.pass).least);
       seen = let up : w.young + 1 ≡ length w.history = store.kept.young sees.up in omega (arith, up, store.young_is, seen_within w v sees);
     },
-    moved_by (step.Look v.number) (outcome.Youngest w.young) (at_place w.passes v.number tells) w.lock (record v.pass { least = young }) v.section (is_held v.section) v.left look_happens look_sees store.coming store.level safe (pass_spares tells),
+    moved_by (step.Look v.number) (outcome.Youngest w.young) (at_place w.passes v.number tells) w.lock (record v.pass { least = young }) v.section (is_held v.section) v.firm v.left look_happens look_sees store.coming safe (pass_spares tells),
   )
 
   -- ---- the lock is taken, or found stuck
@@ -145,12 +147,12 @@ module _ (layout : Layout) (low young : ℕ) (stuck : Option DiskPlace) (t : Tra
   taken_at lock is = sym (ap (λ b. cond b (taken (with_txns [] w) v.number w.lock) (barred (with_txns [] w))) there ∙ ap (λ l. taken (with_txns [] w) v.number l) is)
 
   take_sees : Sees (now w.passes (Held v.number Begun)) (locked_view v)
-  take_sees = record { pass = sees.pass; seen = sees.seen; section = held_here v.number Begun; up = refl; sure = λ e. absurd cc; whole = λ x e. absurd cc; given = sees.given; opened = sees.opened; shown = sees.shown; names = names_stay v.full v.section (Some Begun) w.disk w.disk refl refl sees.names }
+  take_sees = record { pass = sees.pass; seen = sees.seen; section = held_here v.number Begun; up = refl; sure = λ e. absurd cc; whole = λ x e. absurd cc; given = sees.given; opened = sees.opened; shown = sees.shown; names = names_stay v.full v.section (Some Begun) w.disk w.disk refl refl sees.names; firm = λ s f at e. absurd cc }
 
   pub take_comes : w.lock ≡ Free → LockTaken v (locked_view v) × Moved layout low young t w v (locked_view v) (Held v.number Begun)
   take_comes free = (
     record { turned = turned_by (step.TakeLock v.number) outcome.Done (now w.passes (Held v.number Begun)) (locked_view v) (taken_at Free free) take_sees; is = refl },
-    moved_by (step.TakeLock v.number) outcome.Done w.passes (Held v.number Begun) v.pass (Some Begun) false v.left (taken_at Free free) take_sees tt refl (safe_as Free free)
+    moved_by (step.TakeLock v.number) outcome.Done w.passes (Held v.number Begun) v.pass (Some Begun) false None v.left (taken_at Free free) take_sees tt (safe_as Free free)
         (lock_spares (Held v.number Begun) (λ q apart. held_other v.number q Begun apart ∙ sym (ap (λ l. held_by q l) free))),
   )
 
@@ -158,7 +160,7 @@ module _ (layout : Layout) (low young : ℕ) (stuck : Option DiskPlace) (t : Tra
   learns_of place x = record x { stuck = Some place }
 
   find_sees : (place : DiskPlace) → Sees (now (at_place w.passes v.number (learns_of place)) w.lock) (stuck_view place v)
-  find_sees place = record { pass = at_itself w.passes v.number (learns_of place) v.pass sees.pass; seen = sees.seen; section = sees.section; up = sees.up; sure = sees.sure; whole = sees.whole; given = sees.given; opened = sees.opened; shown = sees.shown; names = sees.names }
+  find_sees place = record { pass = at_itself w.passes v.number (learns_of place) v.pass sees.pass; seen = sees.seen; section = sees.section; up = sees.up; sure = sees.sure; whole = sees.whole; given = sees.given; opened = sees.opened; shown = sees.shown; names = sees.names; firm = sees.firm }
 
   abbrev Finds : DiskPlace → Type 0
   Finds place = did (now (at_place w.passes v.number (learns_of place)) w.lock) (outcome.Stuck place) ≡ (if is_there (with_txns [] w) v.number then taken (with_txns [] w) v.number w.lock else barred (with_txns [] w))
@@ -171,7 +173,7 @@ module _ (layout : Layout) (low young : ℕ) (stuck : Option DiskPlace) (t : Tra
   pub find_comes : (place : DiskPlace) → stuck_place w.lock ≡ Some place → FoundStuck place v (stuck_view place v) × Moved layout low young t w v (stuck_view place v) w.lock
   find_comes place at = (
     record { turned = turned_by (step.TakeLock v.number) (outcome.Stuck place) (now (at_place w.passes v.number (learns_of place)) w.lock) (stuck_view place v) (find_happens place w.lock refl at) (find_sees place); is = refl },
-    moved_by (step.TakeLock v.number) (outcome.Stuck place) (at_place w.passes v.number (learns_of place)) w.lock (learns_of place v.pass) v.section v.sure v.left (find_happens place w.lock refl at) (find_sees place) store.coming store.level safe (pass_spares (learns_of place)),
+    moved_by (step.TakeLock v.number) (outcome.Stuck place) (at_place w.passes v.number (learns_of place)) w.lock (learns_of place v.pass) v.section v.sure v.firm v.left (find_happens place w.lock refl at) (find_sees place) store.coming safe (pass_spares (learns_of place)),
   )
 
   -- ---- it is given, or left stuck
@@ -184,7 +186,7 @@ module _ (layout : Layout) (low young : ℕ) (stuck : Option DiskPlace) (t : Tra
   others_none s is q apart = ap (λ l. held_by q l) (held_in s is) ∙ held_other v.number q s apart
 
   outside_sees : (lock : Lock) → held_by v.number lock ≡ None → is_up lock ≡ true → Sees (now w.passes lock) (outside v)
-  outside_sees lock none up = record { pass = sees.pass; seen = sees.seen; section = none; up = up; sure = λ e. absurd cc; whole = λ x e. absurd cc; given = sees.given; opened = sees.opened; shown = sees.shown; names = names_stay v.full v.section None w.disk w.disk refl refl sees.names }
+  outside_sees lock none up = record { pass = sees.pass; seen = sees.seen; section = none; up = up; sure = λ e. absurd cc; whole = λ x e. absurd cc; given = sees.given; opened = sees.opened; shown = sees.shown; names = names_stay v.full v.section None w.disk w.disk refl refl sees.names; firm = λ s f at e. absurd cc }
 
   give_happens : (s : Section) → v.section ≡ Some s → is_quiet s ≡ true → did (now w.passes Free) outcome.Done ≡ inside (with_txns [] w) (let_go (with_txns [] w)) (held_by v.number w.lock)
   give_happens s is quiet = sym (ap (λ o. inside (with_txns [] w) (let_go (with_txns [] w)) o) (sees.section ∙ is) ∙ ap (λ b. cond b (did (now w.passes Free) outcome.Done) (barred (with_txns [] w))) quiet)
@@ -192,7 +194,7 @@ module _ (layout : Layout) (low young : ℕ) (stuck : Option DiskPlace) (t : Tra
   pub give_comes : (s : Section) → v.section ≡ Some s → is_quiet s ≡ true → LockGiven (step.GiveLock v.number) v (outside v) × Moved layout low young t w v (outside v) Free
   give_comes s is quiet = (
     record { turned = turned_by (step.GiveLock v.number) outcome.Done (now w.passes Free) (outside v) (give_happens s is quiet) (outside_sees Free refl refl); is = refl },
-    moved_by (step.GiveLock v.number) outcome.Done w.passes Free v.pass None false (left_by v.section v.left) (give_happens s is quiet) (outside_sees Free refl refl) tt refl
+    moved_by (step.GiveLock v.number) outcome.Done w.passes Free v.pass None false v.firm (left_by v.section v.left) (give_happens s is quiet) (outside_sees Free refl refl) tt
         (subst (λ d. Safe layout v.since t v.opened w.history d) (quiet_doubt s quiet) (safe_as (Held v.number s) (held_in s is)))
         (lock_spares Free (λ q apart. sym (others_none s is q apart))),
   )
@@ -207,9 +209,20 @@ module _ (layout : Layout) (low young : ℕ) (stuck : Option DiskPlace) (t : Tra
   pub stick_comes : (place : DiskPlace) (x : Coming) → v.section ≡ Some (Doubtful place x) → LockGiven (step.StickLock v.number) v (outside v) × Moved layout low young t w v (outside v) (Stuck place x)
   stick_comes place x is = (
     record { turned = turned_by (step.StickLock v.number) outcome.Done (now w.passes (Stuck place x)) (outside v) (stick_happens place x is) (outside_sees (Stuck place x) refl refl); is = refl },
-    moved_by (step.StickLock v.number) outcome.Done w.passes (Stuck place x) v.pass None false (left_by v.section v.left) (stick_happens place x is) (outside_sees (Stuck place x) refl refl) (next_shows (Doubtful place x) x is refl) refl
+    moved_by (step.StickLock v.number) outcome.Done w.passes (Stuck place x) v.pass None false v.firm (left_by v.section v.left) (stick_happens place x is) (outside_sees (Stuck place x) refl refl) (next_shows (Doubtful place x) x is refl)
         (safe_as (Held v.number (Doubtful place x)) (held_in (Doubtful place x) is))
         (lock_spares (Stuck place x) (λ q apart. sym (others_none (Doubtful place x) is q apart))),
+  )
+
+  stick_floor_happens : (place : DiskPlace) → v.section ≡ Some (FloorDoubtful place) → did (now w.passes (StuckFloor place)) outcome.Done ≡ inside (with_txns [] w) (stuck_at (with_txns [] w)) (held_by v.number w.lock)
+  stick_floor_happens place is = sym (ap (λ o. inside (with_txns [] w) (stuck_at (with_txns [] w)) o) (sees.section ∙ is))
+
+  pub stick_floor_comes : (place : DiskPlace) → v.section ≡ Some (FloorDoubtful place) → LockGiven (step.StickLock v.number) v (outside v) × Moved layout low young t w v (outside v) (StuckFloor place)
+  stick_floor_comes place is = (
+    record { turned = turned_by (step.StickLock v.number) outcome.Done (now w.passes (StuckFloor place)) (outside v) (stick_floor_happens place is) (outside_sees (StuckFloor place) refl refl); is = refl },
+    moved_by (step.StickLock v.number) outcome.Done w.passes (StuckFloor place) v.pass None false v.firm (left_by v.section v.left) (stick_floor_happens place is) (outside_sees (StuckFloor place) refl refl) tt
+        (safe_as (Held v.number (FloorDoubtful place)) (held_in (FloorDoubtful place) is))
+        (lock_spares (StuckFloor place) (λ q apart. sym (others_none (FloorDoubtful place) is q apart))),
   )
 
   -- ---- its revision joins the history
@@ -242,6 +255,7 @@ module _ (layout : Layout) (low young : ℕ) (stuck : Option DiskPlace) (t : Tra
       opened = let e : length (with_next w.history x) ≡ length w.history + 1 = grind (arith, length-append) in omega (arith, e, sees.opened);
       shown = subst (λ h. AllShow (with_next h x)) (sym all) all_show;
       names = names_stay v.full v.section (Some Over) w.disk w.disk refl refl sees.names;
+      firm = λ s f at e. sees.firm (CurrentFirm x) f is e;
     }
 
     reveal_spares : Spares v.number w shown_on
@@ -251,7 +265,8 @@ module _ (layout : Layout) (low young : ℕ) (stuck : Option DiskPlace) (t : Tra
       grows = (recorded x ∷ [], refl);
       locks = λ q apart. held_other v.number q Over apart ∙ sym (others_none (CurrentFirm x) is q apart);
       still = λ q s apart held. let none : held_by q w.lock ≡ None = others_none (CurrentFirm x) is q apart in absurd cc;
-      floor = refl;
+      floor = λ q s apart held. refl;
+      shown = floor_kept w.disk w.disk refl;
       low = refl;
       given = λ k i. i;
       full = λ last. last;
@@ -263,7 +278,7 @@ module _ (layout : Layout) (low young : ℕ) (stuck : Option DiskPlace) (t : Tra
       record { turned = turned_by (step.Reveal v.number) outcome.Done shown_on (revealed_view x v) reveal_happens reveal_sees; is = refl },
       record {
         world = shown_on;
-        store = record { trace = store.trace; size = store.size; whole = store.whole; kept = kept_by (step.Reveal v.number) outcome.Done shown_on reveal_happens; shown = all_show; coming = tt; low_is = store.low_is; floor_is = store.floor_is; level = refl; young_is = ap length (sym all) ∙ sym rev_is; stuck_is = refl };
+        store = record { trace = store.trace; size = store.size; whole = store.whole; kept = kept_by (step.Reveal v.number) outcome.Done shown_on reveal_happens; shown = all_show; coming = tt; low_is = store.low_is; young_is = ap length (sym all) ∙ sym rev_is; stuck_is = refl };
         lock_is = refl;
         sees = reveal_sees;
         safe = safe_more layout v.since v.opened t w.history (with_next w.history x) (Some x) None (λ g q. part_revealed w.history x g q) (safe_as (Held v.number (CurrentFirm x)) (held_in (CurrentFirm x) is));
@@ -359,8 +374,10 @@ module _ (layout : Layout) (low young : ℕ) (stuck : Option DiskPlace) (t : Tra
   pub gives_lock : (s : Section) → v.section ≡ Some s → is_quiet s ≡ true → (u : View) × Knows layout low young stuck (Some t) u × LockGiven (step.GiveLock v.number) v u
   gives_lock s is quiet = known_so young stuck (outside v) Free (λ u. LockGiven (step.GiveLock v.number) v u) (unstuck s is) (none_left s is ∙ sym (ap (λ o. left_by o v.left) is ∙ quiet_left s v.left quiet)) (give_comes layout low young stuck t w v store sees safe s is quiet)
 
-  pub sticks : (place : DiskPlace) (x : Coming) → v.section ≡ Some (Doubtful place x) → (u : View) × Knows layout low young (Some place) (Some t) u × LockGiven (step.StickLock v.number) v u
-  sticks place x is = known_so young (Some place) (outside v) (Stuck place x) (λ u. LockGiven (step.StickLock v.number) v u) refl (sym (ap (λ o. left_by o v.left) is)) (stick_comes layout low young stuck t w v store sees safe place x is)
+  pub sticks : (place : DiskPlace) → MustStick place v → (u : View) × Knows layout low young (Some place) (Some t) u × LockGiven (step.StickLock v.number) v u
+  sticks place must = ⊎_elim
+      (λ (d : (x : Coming) × (v.section ≡ Some (Doubtful place x))). known_so young (Some place) (outside v) (Stuck place d.0) (λ u. LockGiven (step.StickLock v.number) v u) refl (sym (ap (λ o. left_by o v.left) d.1)) (stick_comes layout low young stuck t w v store sees safe place d.0 d.1))
+      (λ (is : v.section ≡ Some (FloorDoubtful place)). known_so young (Some place) (outside v) (StuckFloor place) (λ u. LockGiven (step.StickLock v.number) v u) refl (none_left (FloorDoubtful place) is ∙ sym (ap (λ o. left_by o v.left) is)) (stick_floor_comes layout low young stuck t w v store sees safe place is)) must
 
   pub reveals_it : (x : Coming) (rev : ℕ) → v.section ≡ Some (CurrentFirm x) → rev ≡ length v.seen → (u : View) × Knows layout low rev stuck (Some t) u × Revealed x v u
   reveals_it x rev is rev_is = known_so rev stuck (revealed_view x v) (Held v.number Over) (λ u. Revealed x v u) (unstuck (CurrentFirm x) is) (none_left (CurrentFirm x) is) (reveal_comes layout low young stuck t w v store sees safe x is rev rev_is)

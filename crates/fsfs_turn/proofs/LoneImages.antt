@@ -13,7 +13,7 @@ use Rattle.fsfs_machine.specs.Kept.{Follows}
 use Rattle.fsfs_turn.specs.Past.{doubt, IsPart}
 use Rattle.fsfs_turn.specs.Views.{View}
 use Rattle.fsfs_turn.specs.Whole.{HasHistory}
-use Rattle.fsfs_turn.specs.Alone.{KnowsAlone, LoneImages, LoneImagesStand, NothingInDoubt}
+use Rattle.fsfs_turn.specs.Alone.{KnowsAlone, LoneImages, LoneImagesStand, NothingInDoubt, NoneLeftStands}
 use Rattle.fsfs_turn.proofs.Stepping.{take_drop}
 use Rattle.fsfs_turn.proofs.Locking.{free, doubt_left}
 use Rattle.fsfs_turn.proofs.Wholeness.{has_history, part_shown, if_doubtful}
@@ -81,3 +81,10 @@ nothing_in_doubt layout low young stuck t v known outside harmless =
           let same : s.0 ≡ v.seen = all_of_it v.seen s.0 l.doubt (l.certain outside unstuck) s.1 s.2 in
           (subst (λ g. HasHistory layout m g) same s.3, subst (λ g. StandsFor m (revisions g)) same s.4),
     )
+
+pub none_left_stands : NoneLeftStands
+none_left_stands layout low young stuck t v known outside none m image =
+    let l = lone_images layout low young stuck t v known in
+    let s = l.now m image in
+    let same : s.0 ≡ v.seen = all_of_it v.seen s.0 l.doubt (l.left outside ∙ none) s.1 s.2 in
+    (subst (λ g. HasHistory layout m g) same s.3, subst (λ g. StandsFor m (revisions g)) same s.4)

@@ -12,11 +12,12 @@ use Rattle.fsfs_machine.specs.Kept.{IsIn}
 use Rattle.fsfs_turn.specs.Views.{View, IsFull, Sees, Begins}
 use Rattle.fsfs_turn.specs.Past.{doubt, stuck_with, Safe}
 use Rattle.fsfs_turn.specs.Standing.{IsStore, Knows}
+use Rattle.fsfs_turn.proofs.FloorsRise.{FloorGrows}
 use Rattle.fsfs_turn.proofs.Moments.{begins_itself}
 use Rattle.fsfs_turn.proofs.TurnEnds.{StaysWith, Leaves, IsAfter}
 
 -- How a step of pass p may change the state, as the other passes see it: they are as they were, nobody else takes or loses the lock, the
--- history may have more revisions, and no floor moves and no name is forgotten.
+-- history may have more revisions, and no name is forgotten.
 pub record Spares (p : ℕ) (w after : World) : Type 0 where
   pub passes : (q : ℕ) → (q ≡ p → ⊥) → slice_get after.passes q ≡ slice_get w.passes q
   pub count : length after.passes ≡ length w.passes
@@ -24,7 +25,10 @@ pub record Spares (p : ℕ) (w after : World) : Type 0 where
   pub locks : (q : ℕ) → (q ≡ p → ⊥) → held_by q after.lock ≡ held_by q w.lock
   -- while another holds the lock no revision comes
   pub still : (q : ℕ) (s : Section) → (q ≡ p → ⊥) → held_by q w.lock ≡ Some s → (after.young ≡ w.young) × (after.history ≡ w.history)
-  pub floor : after.floor ≡ w.floor
+  -- nor does the floor move
+  pub floor : (q : ℕ) (s : Section) → (q ≡ p → ⊥) → held_by q w.lock ≡ Some s → after.floor ≡ w.floor
+  -- the floor that the disk shows doesn't fall
+  pub shown : FloorGrows w.disk after.disk
   pub low : after.low ≡ w.low
   pub given : (k : ℕ) → IsIn k w.given → IsIn k after.given
   -- where no name was left none is
@@ -64,6 +68,10 @@ disk_stays : (p q : ℕ) (w after : World) (s : Section) → (after.disk ≡ w.d
 disk_stays p q w after s (inl same) apart held = same
 disk_stays p q w after s (inr holds) apart held = let none : held_by q w.lock ≡ None = ap (λ l. held_by q l) holds.1 ∙ held_other p q holds.0 apart in absurd cc
 
+floor_stays : (p q : ℕ) (w after : World) (s : Section) → (after.floor ≡ w.floor) ⊎ ((t : Section) × (w.lock ≡ Held p t)) → (q ≡ p → ⊥) → held_by q w.lock ≡ Some s → after.floor ≡ w.floor
+floor_stays p q w after s (inl same) apart held = same
+floor_stays p q w after s (inr holds) apart held = let none : held_by q w.lock ≡ None = ap (λ l. held_by q l) holds.1 ∙ held_other p q holds.0 apart in absurd cc
+
 call_spares : (p : ℕ) (w after : World) → Leaves p w after → Spares p w after
 call_spares p w after l = record {
   passes = l.passes;
@@ -71,7 +79,8 @@ call_spares p w after l = record {
   grows = ((begins_itself w.history).0, l.history ∙ (begins_itself w.history).1);
   locks = λ q apart. locks_stay p q w.lock after.lock l.lock apart;
   still = λ q s apart held. (l.young, l.history);
-  floor = l.floor;
+  floor = λ q s apart held. floor_stays p q w after s l.floor apart held;
+  shown = l.shown;
   low = l.low;
   given = l.given;
   full = l.full;
@@ -81,7 +90,7 @@ call_spares p w after l = record {
 pub call_moved : (layout : Layout) (low young : ℕ) (stuck : Option DiskPlace) (t : Trace) (w : World) (v : View) (P : View → Type 0) (a : IsAfter layout low young stuck t w v P) → Moved layout low young t w v a.view a.world.lock
 call_moved layout low young stuck t w v P a = record {
   world = a.world;
-  store = record { trace = a.store.trace; size = a.store.size; whole = a.store.whole; kept = a.store.kept; shown = a.store.shown; coming = a.store.coming; low_is = a.store.low_is; floor_is = a.store.floor_is; level = a.store.level; young_is = a.store.young_is; stuck_is = refl };
+  store = record { trace = a.store.trace; size = a.store.size; whole = a.store.whole; kept = a.store.kept; shown = a.store.shown; coming = a.store.coming; low_is = a.store.low_is; young_is = a.store.young_is; stuck_is = refl };
   lock_is = refl;
   sees = a.sees;
   safe = a.safe;
@@ -99,4 +108,4 @@ pub known_moved : (layout : Layout) (low young : ℕ) (stuck : Option DiskPlace)
     → Moved layout low young t w v u lock → Knows layout low young stuck (Some t) u
 known_moved layout low young stuck t w v u lock layout_is number_is alone stuck_is left_is m =
     let s = m.store in
-    (m.world, record { trace = s.trace; size = s.size; whole = s.whole; kept = s.kept; shown = s.shown; coming = s.coming; low_is = s.low_is; floor_is = s.floor_is; level = s.level; young_is = s.young_is; stuck_is = s.stuck_is ∙ stuck_is }, m.sees, m.layout_is ∙ layout_is, m.number_is ∙ number_is, m.safe, m.spares.count ∙ alone, ap (λ l. stuck_with l) m.lock_is ∙ left_is)
+    (m.world, record { trace = s.trace; size = s.size; whole = s.whole; kept = s.kept; shown = s.shown; coming = s.coming; low_is = s.low_is; young_is = s.young_is; stuck_is = s.stuck_is ∙ stuck_is }, m.sees, m.layout_is ∙ layout_is, m.number_is ∙ number_is, m.safe, m.spares.count ∙ alone, ap (λ l. stuck_with l) m.lock_is ∙ left_is)

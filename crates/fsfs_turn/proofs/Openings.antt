@@ -669,16 +669,16 @@ module _ (first : Files) (labels : List Label) (before : List Operation) (h : Li
   }
 
   abbrev view : View
-  view = record { layout = layout; since = opened_at first before; opened = length g; number = 0; pass = first_pass (length g) f; seen = g; section = None; sure = false; left = None; given = given_before s.opened.next_txn.number; full = false }
+  view = record { layout = layout; since = opened_at first before; opened = length g; number = 0; pass = first_pass (length g) f; seen = g; section = None; sure = false; firm = None; left = None; given = given_before s.opened.next_txn.number; full = false }
 
   abbrev trace : Trace
   trace = record { first = first; labels = labels; operations = Done real.FirmNames ∷ before }
 
   store : IsStore layout f s.opened.youngest None trace world
-  store = record { trace = Opening before disk read; size = refl; whole = whole; kept = kept_bare world kept; shown = all_show; coming = tt; low_is = refl; floor_is = refl; level = refl; young_is = refl; stuck_is = refl }
+  store = record { trace = Opening before disk read; size = refl; whole = whole; kept = kept_bare world kept; shown = all_show; coming = tt; low_is = refl; young_is = refl; stuck_is = refl }
 
   sees : Sees world view
-  sees = record { pass = refl; seen = sym (take_all (length g) g (omega arith)); section = refl; up = refl; sure = λ e. absurd cc; whole = λ z e. absurd cc; given = λ q i. i; opened = omega arith; shown = all_show; names = record { full = λ e. absurd cc; drawing = λ z e. absurd cc } }
+  sees = record { pass = refl; seen = sym (take_all (length g) g (omega arith)); section = refl; up = refl; sure = λ e. absurd cc; whole = λ z e. absurd cc; given = λ q i. i; opened = omega arith; shown = all_show; names = record { full = λ e. absurd cc; drawing = λ z e. absurd cc }; firm = λ z f e is. absurd cc }
 
   safe : Safe layout (opened_at first before) trace (length g) g None
   safe z i =

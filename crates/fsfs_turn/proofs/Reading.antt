@@ -13,8 +13,9 @@ course_on v m u (More txns step outcome _ k _ turned rest) more = More txns step
 
 pub reads_on : (v m u : View) → ReadOnly v m → ReadOnly m u → ReadOnly v u
 reads_on v m u a b = record {
-  is = b.is ∙ ap {A = View} (λ z. record z { pass = record z.pass { seen = u.pass.seen; faults = u.pass.faults; floor = u.pass.floor }; seen = u.seen }) a.is;
+  is = b.is ∙ ap {A = View} (λ z. record z { pass = record z.pass { seen = u.pass.seen; faults = u.pass.faults; floor = u.pass.floor }; seen = u.seen; firm = u.firm }) a.is;
   grows = begins_on v.seen m.seen u.seen a.grows b.grows;
+  firm = λ f e. b.firm f (a.firm f e);
   doubtless = λ few. b.doubtless (a.doubtless few);
   shown = b.shown;
   within = λ sure le.

@@ -1,7 +1,8 @@
 -- A call of a section is one step of the machine, and what the pass knows after it.
-use Rattle.std.proofs.Common.{◌≡◌, ◌==◌, ℕ, suc, zero, List, [], ◌∷◌, ◌++◌, length, Bool, true, false, cond, inl, inr, ⊎_elim, refl, sym, ap, subst, ◌∙◌, arith, take, drop}
+use Rattle.std.proofs.Common.{◌≡◌, ◌==◌, ◌+◌, ℕ, suc, zero, List, [], ◌∷◌, ◌++◌, length, Bool, true, false, cond, inl, inr, ⊎_elim, refl, sym, ap, subst, ◌∙◌, arith, take, drop}
 use Rattle.std.specs.Prelude.{Option, Some, None, IfSome, slice_get}
 use Rattle.std.proofs.lemmas.List.{take_all, take-append-drop}
+use Rattle.fsfs_layout.specs.Layouts.{shard_size}
 use Rattle.fsfs_layout.specs.declared.layout.Layout.{Layout}
 use Rattle.fsfs_disk.specs.Trace.{Trace}
 use Rattle.fsfs_machine.specs.declared.contents.NameChange.{NameChange}
@@ -16,15 +17,17 @@ use Rattle.fsfs_machine.specs.declared.machine.Went.{Went}
 use Rattle.fsfs_machine.specs.declared.machine.Went.TheVariants.{Fine, Before, After, Torn}
 use Rattle.fsfs_machine.specs.declared.machine.Step.TheVariants as step
 use Rattle.fsfs_machine.specs.Machine.{World, did, barred, either, answer, learns, disk_after, at_place, at_call, after, spoiled, gives, called, called_by, due, is_due, held_by, inside, with_next, stuck_place}
-use Rattle.fsfs_machine.specs.Kept.{Kept, IsIn, coming_in, coming, rises}
+use Rattle.fsfs_machine.specs.Kept.{Kept, IsIn, coming_in, coming}
 use Rattle.fsfs_machine.proofs.Steps.{step_keeps}
 use Rattle.fsfs_images.specs.Shown.{IsTraceOf}
 use Rattle.fsfs_turn.specs.Bytes.{BytesShow, AllShow}
-use Rattle.fsfs_turn.specs.Views.{View, KnowsNames, Sees, with_txns, given_by, called_view, Called}
-use Rattle.fsfs_turn.specs.Past.{doubt_in, Safe}
+use Rattle.fsfs_turn.specs.Views.{View, KnowsNames, Sees, with_txns, given_by, firm_by, called_view, Called}
+use Rattle.fsfs_turn.specs.Past.{IsWhole, doubt_in, Safe}
 pub use Rattle.fsfs_turn.specs.Found.{get_taken}
+use Rattle.fsfs_turn.specs.Found.{whole_raised}
 use Rattle.fsfs_turn.specs.Standing.{no_others, IsStore}
 use Rattle.fsfs_turn.proofs.Names.{full_after, names_after}
+use Rattle.fsfs_turn.proofs.FloorsRise.{floor_after}
 use Rattle.fsfs_turn.proofs.TurnEnds.{section_leaves, IsAfter}
 
 -- no transaction is laid in
@@ -60,68 +63,38 @@ abbrev pub named_by : Section → Went → List Drawn → List Drawn
 named_by (CountRenamed x) Fine named = named ++ x ∷ []
 named_by s went named = named
 
--- the two calls that bring the next floor
-abbrev pub brings_floor : Section → Bool
-brings_floor FloorPut = true
-brings_floor FloorRenamed = true
-brings_floor s = false
+-- the floor that is firm after a call of a section
+abbrev pub floor_by : Section → Went → ℕ → ℕ → ℕ
+floor_by FloorRenamed Fine size floor = floor + size
+floor_by s went size floor = floor
 
-gives_is : (s : Section) (went : Went) (w : World) → brings_floor s ≡ false → gives s went w ≡ record w { given = given_by s went w.given; named = named_by s went w.named }
-gives_is (CountRenamed x) Fine w level = refl
-gives_is (CountRenamed x) Before w level = refl
-gives_is (CountRenamed x) After w level = refl
-gives_is (CountRenamed x) (Torn any) w level = refl
-gives_is FloorRenamed went w level = absurd cc
-gives_is s went w level = refl
+gives_is : (s : Section) (went : Went) (w : World) → gives s went w ≡ record w { given = given_by s went w.given; named = named_by s went w.named; floor = floor_by s went w.size w.floor }
+gives_is (CountRenamed x) Fine w = refl
+gives_is (CountRenamed x) Before w = refl
+gives_is (CountRenamed x) After w = refl
+gives_is (CountRenamed x) (Torn any) w = refl
+gives_is FloorRenamed Fine w = refl
+gives_is FloorRenamed Before w = refl
+gives_is FloorRenamed After w = refl
+gives_is FloorRenamed (Torn any) w = refl
+gives_is s went w = refl
 
-level_fine : (s : Section) → brings_floor s ≡ false → rises (after s) ≡ false
-level_fine Begun e = refl
-level_fine (CountRead x) e = refl
-level_fine (CountPut x) e = refl
-level_fine (CountRenamed x) e = refl
-level_fine (RevPut x) e = refl
-level_fine (PropsPut x) e = refl
-level_fine (RevFirm x) e = refl
-level_fine (CurrentPut x) e = refl
-level_fine (CurrentRenamed x) e = refl
-level_fine (CurrentFirm x) e = refl
-level_fine (Doubtful place x) e = refl
-level_fine PackPut e = refl
-level_fine ManifestPut e = refl
-level_fine PackFirm e = refl
-level_fine FloorPut e = absurd cc
-level_fine FloorRenamed e = absurd cc
-level_fine Packed e = refl
-level_fine (FloorDoubtful place) e = refl
-level_fine Over e = refl
+-- who knew the firm floor knows it then
+firm_after : (s : Section) (went : Went) (size floor f : ℕ) (firm : Option ℕ) → ((g : ℕ) → firm ≡ Some g → floor ≡ g) → firm_by s went size firm ≡ Some f → floor_by s went size floor ≡ f
+firm_after FloorRenamed Fine size floor f None known e = absurd cc
+firm_after FloorRenamed Fine size floor f (Some g) known e = let same : g + size ≡ f = cc in ap (λ n. n + size) (known g refl) ∙ same
+firm_after FloorRenamed Before size floor f firm known e = known f e
+firm_after FloorRenamed After size floor f firm known e = known f e
+firm_after FloorRenamed (Torn any) size floor f firm known e = known f e
+firm_after s went size floor f firm known e = known f e
 
-level_spoiled : (s : Section) → brings_floor s ≡ false → rises (spoiled s) ≡ false
-level_spoiled Begun e = refl
-level_spoiled (CountRead x) e = refl
-level_spoiled (CountPut x) e = refl
-level_spoiled (CountRenamed x) e = refl
-level_spoiled (RevPut x) e = refl
-level_spoiled (PropsPut x) e = refl
-level_spoiled (RevFirm x) e = refl
-level_spoiled (CurrentPut x) e = refl
-level_spoiled (CurrentRenamed x) e = refl
-level_spoiled (CurrentFirm x) e = refl
-level_spoiled (Doubtful place x) e = refl
-level_spoiled PackPut e = refl
-level_spoiled ManifestPut e = refl
-level_spoiled PackFirm e = refl
-level_spoiled FloorPut e = absurd cc
-level_spoiled FloorRenamed e = absurd cc
-level_spoiled Packed e = refl
-level_spoiled (FloorDoubtful place) e = refl
-level_spoiled Over e = refl
-
--- the others leave the floor as it is
-pub level_after : (s : Section) (went : Went) → brings_floor s ≡ false → rises (either went (after s) (spoiled s)) ≡ false
-level_after s Fine e = level_fine s e
-level_after s Before e = level_spoiled s e
-level_after s After e = level_spoiled s e
-level_after s (Torn any) e = level_spoiled s e
+-- it is of whole shards
+pub whole_after : (layout : Layout) (s : Section) (went : Went) (w : World) → w.size ≡ shard_size layout → IsWhole layout w.floor → IsWhole layout (floor_by s went w.size w.floor)
+whole_after layout FloorRenamed Fine w size whole = whole_raised layout w size whole
+whole_after layout FloorRenamed Before w size whole = whole
+whole_after layout FloorRenamed After w size whole = whole
+whole_after layout FloorRenamed (Torn any) w size whole = whole
+whole_after layout s went w size whole = whole
 
 in_given : (s : Section) (went : Went) (k : ℕ) (a b : List ℕ) → (IsIn k a → IsIn k b) → IsIn k (given_by s went a) → IsIn k (given_by s went b)
 in_given (CountRenamed x) Fine k a b more i = ⊎_elim (λ e. inl e) (λ e. inr (more e)) i
@@ -181,23 +154,23 @@ coming_either (Torn any) s P i = coming_spoiled s P i
 -- the store after the call
 abbrev pub called_store : World → ℕ → DiskPlace → Went → Section → NameChange → World
 called_store w p place went s change =
-    record w { given = given_by s went w.given; named = named_by s went w.named; disk = disk_after went change w.disk; lock = Held p (either went (after s) (spoiled s)); passes = at_place w.passes p (learns (length w.history) place went) }
+    record w { given = given_by s went w.given; named = named_by s went w.named; floor = floor_by s went w.size w.floor; disk = disk_after went change w.disk; lock = Held p (either went (after s) (spoiled s)); passes = at_place w.passes p (learns (length w.history) place went) }
 
-pub happens_so : (w : World) (p : ℕ) (place : DiskPlace) (went : Went) (s : Section) (change : NameChange) → brings_floor s ≡ false → held_by p w.lock ≡ Some s → is_due s place ≡ true → due w s ≡ Some change
+pub happens_so : (w : World) (p : ℕ) (place : DiskPlace) (went : Went) (s : Section) (change : NameChange) → held_by p w.lock ≡ Some s → is_due s place ≡ true → due w s ≡ Some change
     → did (called_store w p place went s change) (answer went) ≡ inside w (called w p place went) (held_by p w.lock)
-happens_so w p place went s change level held is change_is =
+happens_so w p place went s change held is change_is =
     sym (ap (λ o. inside w (called w p place went) o) held
     ∙ ap (λ b. cond b (called_by w p place went s (due w s)) (barred w)) is
     ∙ ap (λ o. called_by w p place went s o) change_is
-    ∙ ap (λ z. did (at_call z p place change (after s) (spoiled s) went) (answer went)) (gives_is s went w level))
+    ∙ ap (λ z. did (at_call z p place change (after s) (spoiled s) went) (answer went)) (gives_is s went w))
 
 -- transactions are no part of what is known
 pub sees_bare : (w : World) (v : View) → Sees w v → Sees (with_txns [] w) v
-sees_bare w v sees = record { pass = sees.pass; seen = sees.seen; section = sees.section; up = sees.up; sure = sees.sure; whole = sees.whole; given = sees.given; opened = sees.opened; shown = sees.shown; names = sees.names }
+sees_bare w v sees = record { pass = sees.pass; seen = sees.seen; section = sees.section; up = sees.up; sure = sees.sure; whole = sees.whole; given = sees.given; opened = sees.opened; shown = sees.shown; names = sees.names; firm = sees.firm }
 
-sees_after : (w : World) (v : View) (place : DiskPlace) (went : Went) (s : Section) (change : NameChange) (named : List Drawn) → AllShow w.history → v.section ≡ Some s → due w s ≡ Some change → Sees w v
+sees_after : (w : World) (v : View) (place : DiskPlace) (went : Went) (s : Section) (change : NameChange) (named : List Drawn) → w.size ≡ shard_size v.layout → AllShow w.history → v.section ≡ Some s → due w s ≡ Some change → Sees w v
     → Sees (called_store w v.number place went s change) (called_view w.history place went s v)
-sees_after w v place went s change named shown at due_is sees = record {
+sees_after w v place went s change named size shown at due_is sees = record {
   pass = at_itself w.passes v.number (learns (length w.history) place went) v.pass sees.pass;
   seen = sym (take_all (length w.history) w.history (omega arith));
   section = held_here v.number (either went (after s) (spoiled s));
@@ -208,32 +181,31 @@ sees_after w v place went s change named shown at due_is sees = record {
   opened = sees.opened;
   shown = shown;
   names = names_after v.full w s change went due_is (subst (λ o. KnowsNames v.full o w.disk) at sees.names);
+  firm = λ t f inside known. ap (λ n. floor_by s went n w.floor) size ∙ firm_after s went (shard_size v.layout) w.floor f v.firm (λ g. sees.firm s g at) known;
 }
 
-pub kept_called : (w : World) (p : ℕ) (place : DiskPlace) (went : Went) (s : Section) (change : NameChange) → brings_floor s ≡ false → Kept (with_txns [] w) → held_by p w.lock ≡ Some s → is_due s place ≡ true → due w s ≡ Some change → Kept (with_txns [] (called_store (with_txns [] w) p place went s change))
-kept_called w p place went s change level kept held is change_is =
+pub kept_called : (w : World) (p : ℕ) (place : DiskPlace) (went : Went) (s : Section) (change : NameChange) → Kept (with_txns [] w) → held_by p w.lock ≡ Some s → is_due s place ≡ true → due w s ≡ Some change → Kept (with_txns [] (called_store (with_txns [] w) p place went s change))
+kept_called w p place went s change kept held is change_is =
     kept_bare (called_store (with_txns [] w) p place went s change)
-    (step_keeps (with_txns [] w) (step.Call p place went) (did (called_store (with_txns [] w) p place went s change) (answer went)) (happens_so (with_txns [] w) p place went s change level held is change_is) kept).kept
+    (step_keeps (with_txns [] w) (step.Call p place went) (did (called_store (with_txns [] w) p place went s change) (answer went)) (happens_so (with_txns [] w) p place went s change held is change_is) kept).kept
 
 -- what a call of a section comes to
 pub call_turns : (layout : Layout) (low young : ℕ) (stuck : Option DiskPlace) (old new : Trace) (w : World) (v : View) (place : DiskPlace) (went : Went) (s : Section) (change : NameChange)
-    → brings_floor s ≡ false → IsStore layout low young stuck old w → Sees w v → v.section ≡ Some s → is_due s place ≡ true → due w s ≡ Some change
+    → IsStore layout low young stuck old w → Sees w v → v.layout ≡ layout → v.section ≡ Some s → is_due s place ≡ true → due w s ≡ Some change
     → IsTraceOf layout no_others new.first new.operations (disk_after went change w.disk)
     → Safe layout v.since new v.opened w.history (doubt_in (either went (after s) (spoiled s)))
     → IsAfter layout low young stuck new w v (λ u. Called place went v u)
-call_turns layout low young stuck old new w v place went s change level store sees section is due_is trace safe = record {
+call_turns layout low young stuck old new w v place went s change store sees layout_is section is due_is trace safe = record {
   world = world;
   view = view;
   store = record {
     trace = trace;
     size = store.size;
-    whole = store.whole;
+    whole = whole_after layout s went w store.size store.whole;
     kept = kept;
     shown = store.shown;
     coming = coming_either went s (λ x. BytesShow (with_next w.history x)) (subst (λ l. IfSome (coming l) (λ x. BytesShow (with_next w.history x))) lock store.coming);
     low_is = store.low_is;
-    floor_is = store.floor_is;
-    level = level_after s went level;
     young_is = store.young_is;
     stuck_is = sym (ap stuck_place lock) ∙ store.stuck_is;
   };
@@ -248,7 +220,7 @@ call_turns layout low young stuck old new w v place went s change level store se
   };
   all = refl;
   safe = safe;
-  leaves = section_leaves w world v.number (learns (length w.history) place went) s (either went (after s) (spoiled s)) went refl refl refl refl refl lock refl refl (λ last. (full_after v.full w s change went due_is (subst (λ o. KnowsNames v.full o w.disk) section sees.names) last));
+  leaves = section_leaves w world v.number (learns (length w.history) place went) s (either went (after s) (spoiled s)) went refl refl refl refl lock refl refl (λ last. (full_after v.full w s change went due_is (subst (λ o. KnowsNames v.full o w.disk) section sees.names) last)) (floor_after (with_txns [] w) v.number s change went store.kept lock due_is);
   layout_is = refl;
   since_is = refl;
   opened_is = refl;
@@ -266,10 +238,10 @@ call_turns layout low young stuck old new w v place went s change level store se
     lock = lock_is v.number w.lock s (sees.section ∙ section)
 
     happens : did world (answer went) ≡ inside (with_txns [] w) (called (with_txns [] w) v.number place went) (held_by v.number w.lock)
-    happens = happens_so (with_txns [] w) v.number place went s change level (sees.section ∙ section) is due_is
+    happens = happens_so (with_txns [] w) v.number place went s change (sees.section ∙ section) is due_is
 
     kept : Kept (with_txns [] world)
-    kept = kept_called w v.number place went s change level store.kept (sees.section ∙ section) is due_is
+    kept = kept_called w v.number place went s change store.kept (sees.section ∙ section) is due_is
 
     seen : Sees world view
-    seen = sees_after (with_txns [] w) v place went s change [] store.shown section due_is (sees_bare w v sees)
+    seen = sees_after (with_txns [] w) v place went s change [] (store.size ∙ sym (ap shard_size layout_is)) store.shown section due_is (sees_bare w v sees)

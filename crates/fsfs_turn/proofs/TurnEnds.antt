@@ -14,6 +14,9 @@ use Rattle.fsfs_machine.specs.declared.machine.Went.TheVariants.{Fine, Before, A
 use Rattle.fsfs_machine.specs.Machine.{World, at_place}
 use Rattle.fsfs_machine.specs.Kept.{IsIn}
 use Rattle.fsfs_machine.proofs.Whose.{length_at}
+use Rattle.fsfs_machine.specs.Disk.{found}
+use Rattle.fsfs_machine.specs.declared.contents.FileName.TheVariants.{Floor}
+use Rattle.fsfs_turn.proofs.FloorsRise.{FloorGrows, floor_kept}
 use Rattle.fsfs_turn.specs.Views.{IsFull, View, Sees, given_by, Answers}
 use Rattle.fsfs_turn.specs.Past.{doubt, stuck_with, Safe}
 use Rattle.fsfs_turn.specs.Standing.{IsStore, Knows}
@@ -31,13 +34,14 @@ abbrev pub StaysWith : ℕ → Lock → Lock → Type 0
 StaysWith p before after = (after ≡ before) ⊎ ((s : Section) × (t : Section) × (before ≡ Held p s) × (after ≡ Held p t))
 
 -- How a call of the disk by pass p changes the state, as the other passes see it: they are as they were, no revision is revealed, nobody
--- takes or gives the lock, and no name is forgotten.
+-- takes or gives the lock, only its holder raises the floor, and no name is forgotten.
 pub record Leaves (p : ℕ) (w after : World) : Type 0 where
   pub passes : (q : ℕ) → (q ≡ p → ⊥) → slice_get after.passes q ≡ slice_get w.passes q
   pub count : length after.passes ≡ length w.passes
   pub history : after.history ≡ w.history
   pub young : after.young ≡ w.young
-  pub floor : after.floor ≡ w.floor
+  pub floor : (after.floor ≡ w.floor) ⊎ ((s : Section) × (w.lock ≡ Held p s))
+  pub shown : FloorGrows w.disk after.disk
   pub low : after.low ≡ w.low
   pub lock : StaysWith p w.lock after.lock
   pub given : (k : ℕ) → IsIn k w.given → IsIn k after.given
@@ -77,14 +81,15 @@ given_more (CountRenamed x) (Torn any) k given i = i
 given_more s went k given i = i
 
 -- after a call of its section
-pub section_leaves : (w after : World) (p : ℕ) (f : Pass → Pass) (s t : Section) (went : Went) → after.passes ≡ at_place w.passes p f → after.history ≡ w.history → after.young ≡ w.young → after.floor ≡ w.floor → after.low ≡ w.low
-    → w.lock ≡ Held p s → after.lock ≡ Held p t → after.given ≡ given_by s went w.given → (IsFull w.disk → IsFull after.disk) → Leaves p w after
-section_leaves w after p f s t went passes history young floor low held holds given full = record {
+pub section_leaves : (w after : World) (p : ℕ) (f : Pass → Pass) (s t : Section) (went : Went) → after.passes ≡ at_place w.passes p f → after.history ≡ w.history → after.young ≡ w.young → after.low ≡ w.low
+    → w.lock ≡ Held p s → after.lock ≡ Held p t → after.given ≡ given_by s went w.given → (IsFull w.disk → IsFull after.disk) → FloorGrows w.disk after.disk → Leaves p w after
+section_leaves w after p f s t went passes history young low held holds given full shown = record {
   passes = λ q apart. ap (λ xs. slice_get xs q) passes ∙ at_other w.passes p q f apart;
   count = ap length passes ∙ length_at w.passes p f;
   history = history;
   young = young;
-  floor = floor;
+  floor = inr (s, held);
+  shown = shown;
   low = low;
   lock = inr (s, t, held, holds);
   given = λ k i. subst (λ ks. IsIn k ks) (sym given) (given_more s went k w.given i);
@@ -99,7 +104,8 @@ pass_leaves w after p f passes history young floor low lock given disk = record 
   count = ap length passes ∙ length_at w.passes p f;
   history = history;
   young = young;
-  floor = floor;
+  floor = inl floor;
+  shown = floor_kept w.disk after.disk (ap (λ d. found d Floor) disk);
   low = low;
   lock = inl lock;
   given = λ k i. subst (λ ks. IsIn k ks) (sym given) i;

@@ -141,7 +141,7 @@ known_from_now layout low young stuck t v known =
     let w = known.0 in
     let store = known.1 in
     let sees = known.2 in
-    (w, store, record { pass = sees.pass; seen = sees.seen; section = sees.section; up = sees.up; sure = sees.sure; whole = sees.whole; given = sees.given; opened = seen_within w v sees; shown = sees.shown; names = sees.names }, known.3, known.4, safe, known.6, known.7)
+    (w, store, record { pass = sees.pass; seen = sees.seen; section = sees.section; up = sees.up; sure = sees.sure; whole = sees.whole; given = sees.given; opened = seen_within w v sees; shown = sees.shown; names = sees.names; firm = sees.firm }, known.3, known.4, safe, known.6, known.7)
   where
     past : (m : Files) → real.IsImage t.first t.operations m → WasLeft layout (length v.seen) known.0.history (doubt known.0.lock) m
     past m i =
@@ -152,5 +152,5 @@ known_from_now layout low young stuck t v known =
     now first [] m i = i
     now first (op ∷ ops) m i = ⊎_elim (λ a. a) (λ b. absurd (omega (arith, b.0))) i
 
-    safe : Safe layout (record { operations = length t.operations; files = files_now t }) t (length v.seen) known.0.history (doubt known.0.lock)
+    safe : Safe layout (record v.since { operations = length t.operations; files = files_now t }) t (length v.seen) known.0.history (doubt known.0.lock)
     safe m i = past m (now t.first t.operations m i)

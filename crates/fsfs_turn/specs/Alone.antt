@@ -5,12 +5,13 @@ use Rattle.fsfs_layout.specs.declared.layout.Layout.{Layout}
 use Rattle.fsfs_disk.specs.Trace.{Trace, IsImage, ImageSince}
 use Rattle.fsfs_stands.specs.Files.{StandsFor}
 use Rattle.fsfs_base.specs.declared.places.place.DiskPlace.{DiskPlace}
-use Rattle.fsfs_base.specs.declared.places.place.DiskPlace.TheVariants.{Commit}
+use Rattle.fsfs_base.specs.declared.places.place.DiskPlace.TheVariants.{Commit, Pack}
 use Rattle.fsfs_base.specs.declared.places.place.CommitPlace.TheVariants.{RenameCurrent, FirmCurrent}
+use Rattle.fsfs_base.specs.declared.places.place.PackPlace.TheVariants.{RenameFloor, FirmFloor}
 use Rattle.fsfs_machine.specs.declared.machine.Recorded.{Recorded}
 use Rattle.fsfs_machine.specs.declared.machine.Coming.{Coming}
 use Rattle.fsfs_machine.specs.declared.machine.Section.{Section}
-use Rattle.fsfs_machine.specs.declared.machine.Section.TheVariants.{Doubtful}
+use Rattle.fsfs_machine.specs.declared.machine.Section.TheVariants.{Doubtful, FloorDoubtful}
 use Rattle.fsfs_machine.specs.Machine.{revisions}
 use Rattle.fsfs_machine.specs.Kept.{Follows}
 use Rattle.fsfs_turn.specs.Past.{IsPart}
@@ -19,24 +20,27 @@ use Rattle.fsfs_turn.specs.Standing.{Knows}
 use Rattle.fsfs_turn.specs.Stands.{OwnFilesLast}
 use Rattle.fsfs_turn.specs.Whole.{HasHistory}
 
--- a fault there leaves the revision that a commit was to add in doubt
-abbrev pub brings_doubt : DiskPlace → Bool
-brings_doubt (Commit RenameCurrent) = true
-brings_doubt (Commit FirmCurrent) = true
-brings_doubt place = false
+-- A fault there leaves the lock stuck: in doubt is the revision that a commit was to add, or which of two floors a crash leaves.
+abbrev pub leaves_stuck : DiskPlace → Bool
+leaves_stuck (Commit RenameCurrent) = true
+leaves_stuck (Commit FirmCurrent) = true
+leaves_stuck (Pack RenameFloor) = true
+leaves_stuck (Pack FirmFloor) = true
+leaves_stuck place = false
 
 -- none of these faults does
 abbrev pub are_harmless : List DiskPlace → Bool
 are_harmless [] = true
-are_harmless (place ∷ places) = if brings_doubt place then false else are_harmless places
+are_harmless (place ∷ places) = if leaves_stuck place then false else are_harmless places
 
--- none of the faults that came leaves a revision in doubt
+-- none of the faults that came leaves it so
 abbrev pub BringsNoDoubt : View → View → Type 0
 BringsNoDoubt v u = are_harmless v.pass.faults ≡ true → are_harmless u.pass.faults ≡ true
 
 -- the lock is to be left stuck
 abbrev pub is_doubtful : Section → Bool
 is_doubtful (Doubtful place x) = true
+is_doubtful (FloorDoubtful place) = true
 is_doubtful s = false
 
 abbrev pub is_doubtful_at : Option Section → Bool
@@ -44,7 +48,7 @@ is_doubtful_at None = false
 is_doubtful_at (Some s) = is_doubtful s
 
 -- It has seen all revisions that there are, and those added since the opening are its own. The lock is stuck, or is to be, by a fault of
--- its own alone, one that leaves a revision in doubt.
+-- its own alone, one that leaves it so.
 pub record IsAlone (young : ℕ) (stuck : Option DiskPlace) (v : View) : Type 0 where
   pub all : length v.seen ≡ young + 1
   pub own : length v.seen ≡ v.opened + length v.pass.mine
@@ -57,6 +61,14 @@ pub record IsAlone (young : ℕ) (stuck : Option DiskPlace) (v : View) : Type 0 
 -- moment since the opening
 abbrev pub KnowsAlone : Layout → ℕ → ℕ → Option DiskPlace → Option Trace → View → Type 0
 KnowsAlone layout low young stuck told v = Knows layout low young stuck told v × IsAlone young stuck v × OwnFilesLast layout v.since told
+
+-- the same, of a pass that may pack
+abbrev pub packing : View → View
+packing v = record v { since = record v.since { packs = true } }
+
+-- An owned store may be taken for one whose pass packs: then no more is said of the oldest revision that isn't packed.
+abbrev pub MayPackAlone : Type 0
+MayPackAlone = (layout : Layout) (low young : ℕ) (stuck : Option DiskPlace) (told : Option Trace) (v : View) → KnowsAlone layout low young stuck told v → KnowsAlone layout low young stuck told (packing v)
 
 -- Behind calls by which a pass that is alone added nothing it has seen what it had seen, and the youngest revision is the one that it was.
 abbrev pub AloneStays : Type 0
@@ -82,7 +94,12 @@ pub record LoneImages (layout : Layout) (stuck : Option DiskPlace) (t : Trace) (
 abbrev pub LoneImagesStand : Type 0
 LoneImagesStand = (layout : Layout) (low young : ℕ) (stuck : Option DiskPlace) (t : Trace) (v : View) → KnowsAlone layout low young stuck (Some t) v → LoneImages layout stuck t v
 
--- So it is where none of the pass's faults left a revision in doubt: then the lock isn't stuck.
+-- So it is where none of the pass's faults left the lock stuck: then it isn't.
 abbrev pub NothingInDoubt : Type 0
 NothingInDoubt = (layout : Layout) (low young : ℕ) (stuck : Option DiskPlace) (t : Trace) (v : View) → KnowsAlone layout low young stuck (Some t) v → v.section ≡ None → are_harmless v.pass.faults ≡ true
     → (stuck ≡ None) × ((m : Files) → IsImage t.first t.operations m → HasHistory layout m v.seen × StandsFor m (revisions v.seen))
+
+-- And where it left none in doubt: also with the lock stuck by a fault of a pack, which leaves in doubt only which of two floors a crash leaves.
+abbrev pub NoneLeftStands : Type 0
+NoneLeftStands = (layout : Layout) (low young : ℕ) (stuck : Option DiskPlace) (t : Trace) (v : View) → KnowsAlone layout low young stuck (Some t) v → v.section ≡ None → v.left ≡ None
+    → (m : Files) → IsImage t.first t.operations m → HasHistory layout m v.seen × StandsFor m (revisions v.seen)

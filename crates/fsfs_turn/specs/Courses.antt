@@ -1,5 +1,5 @@
 -- Steps of a pass, one after another, and what reading alone comes to.
-use Rattle.std.specs.Prelude.{◌≡◌, ◌≤◌, ◌+◌, List, length, true}
+use Rattle.std.specs.Prelude.{◌≡◌, ◌≤◌, ◌+◌, ℕ, List, length, true, Some}
 use Rattle.fsfs_machine.specs.declared.machine.Outcome.{Outcome}
 use Rattle.fsfs_machine.specs.declared.machine.Step.{Step}
 use Rattle.fsfs_machine.specs.declared.machine.Txn.{Txn}
@@ -14,8 +14,10 @@ pub data Course : View → View → Type 0 where
 
 -- only reads: more of the history was seen, and faults of reads came
 pub record ReadOnly (v u : View) : Type 0 where
-  pub is : u ≡ record v { pass = record v.pass { seen = u.pass.seen; faults = u.pass.faults; floor = u.pass.floor }; seen = u.seen }
+  pub is : u ≡ record v { pass = record v.pass { seen = u.pass.seen; faults = u.pass.faults; floor = u.pass.floor }; seen = u.seen; firm = u.firm }
   pub grows : Begins u.seen v.seen
+  -- the firm floor that it knew stays firm
+  pub firm : (f : ℕ) → v.firm ≡ Some f → u.firm ≡ Some f
   pub doubtless : BringsNoDoubt v u
   -- the bytes beside what it has seen show it
   pub shown : AllShow u.seen

@@ -22,7 +22,7 @@ use Rattle.fsfs_machine.specs.declared.machine.Step.TheVariants as step
 use Rattle.fsfs_machine.specs.Machine.{World, Did, Happens, either, answer, learns, sees_floor, last_name}
 use Rattle.fsfs_machine.specs.Kept.{Kept, AllBelow, IsIn}
 use Rattle.fsfs_turn.specs.Bytes.{AllShow}
-use Rattle.fsfs_turn.specs.Views.{View, Sees, Begins, Turned, with_txns, Answers, IsTxnOver}
+use Rattle.fsfs_turn.specs.Views.{View, Sees, Begins, Turned, with_txns, Answers, IsTxnOver, firm_read}
 
 -- a turn is one step of the machine from the store as it is laid out here: with names, transactions and labels of its own
 pub record TurnedFrom (lay : World → World) (step : Step) (outcome : Outcome) (v u : View) : Type 0 where
@@ -35,10 +35,10 @@ pub record TurnedFrom (lay : World → World) (step : Step) (outcome : Outcome) 
   pub after : Kept (with_txns [] did.world)
   pub leaves : Sees did.world u
 
--- by this step the pass saw the history as it is then, and learned so much of it
-pub record Learned (lay : World → World) (step : Step) (outcome : Outcome) (tell : ℕ → Pass → Pass) (v u : View) : Type 0 where
+-- by this step the pass saw the history as it is then, and learned so much of it, and of the firm floor
+pub record LearnedFirm (lay : World → World) (step : Step) (outcome : Outcome) (tell : ℕ → Pass → Pass) (firm : Option ℕ) (v u : View) : Type 0 where
   pub turned : TurnedFrom lay step outcome v u
-  pub is : u ≡ record v { pass = tell (length u.seen) v.pass; seen = u.seen }
+  pub is : u ≡ record v { pass = tell (length u.seen) v.pass; seen = u.seen; firm = firm }
   pub grows : Begins u.seen v.seen
   -- while the pass is sure there is no more to be seen
   pub within : v.sure ≡ true → length u.seen ≤ v.pass.least + 1
@@ -46,13 +46,18 @@ pub record Learned (lay : World → World) (step : Step) (outcome : Outcome) (te
   pub all : v.pass.least < length u.seen
   pub shown : AllShow u.seen
 
+-- of the firm floor nothing
+abbrev pub Learned : (World → World) → Step → Outcome → (ℕ → Pass → Pass) → View → View → Type 0
+Learned lay step outcome tell v u = LearnedFirm lay step outcome tell v.firm v u
+
 -- the property file of revision r, which is x, was read
 abbrev pub PropsRead : ℕ → Recorded → Went → View → View → Type 0
 PropsRead r x went v u = Learned (with_txns []) (step.ReadProps v.number r went) (either went (outcome.Properties x.revision.properties) outcome.Failed) (λ n. learns n place.Read went) v u
 
--- `min-unpacked-rev` was read: the pass knows this floor, or the one that it knew before, where that is greater
+-- `min-unpacked-rev` was read: the pass knows this floor, or the one that it knew before, where that is greater. With the lock held it is
+-- the firm one.
 abbrev pub FloorRead : ℕ → Went → View → View → Type 0
-FloorRead floor went v u = Learned (with_txns []) (step.ReadFloor v.number went) (either went (outcome.Floor floor) outcome.Failed) (λ n. sees_floor n went (Some floor)) v u
+FloorRead floor went v u = LearnedFirm (with_txns []) (step.ReadFloor v.number went) (either went (outcome.Floor floor) outcome.Failed) (λ n. sees_floor n went (Some floor)) (firm_read v.section went floor v.firm) v u
 
 -- a begin's first call: `txn-current` was read, in which this number stands
 abbrev pub drawn_of : ℕ → ℕ → Drawn

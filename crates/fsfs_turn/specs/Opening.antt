@@ -1,5 +1,5 @@
 -- Which stores are known as they are opened.
-use Rattle.std.specs.Prelude.{◌≡◌, ◌+◌, ℕ, zero, suc, List, [], ◌∷◌, length, Some, None}
+use Rattle.std.specs.Prelude.{◌≡◌, ◌+◌, ℕ, zero, suc, List, [], ◌∷◌, length, false, Some, None}
 use Rattle.fsfs_base.specs.Files.{Files}
 use Rattle.fsfs_base.specs.FirstRevision.{first_bytes}
 use Rattle.fsfs_tree.specs.Dated.{date_name}
@@ -14,9 +14,9 @@ use Rattle.fsfs_turn.specs.declared.since.Since.{Since}
 use Rattle.fsfs_turn.specs.Views.{View}
 use Rattle.fsfs_turn.specs.Alone.{KnowsAlone}
 
--- the moment behind an opening, which made the names firm after these operations
+-- the moment behind an opening, which made the names firm after these operations; whose passes don't pack
 abbrev pub opened_at : Files → List Operation → Since
-opened_at first before = record { operations = length before + 1; files = files_after first before }
+opened_at first before = record { operations = length before + 1; files = files_after first before; packs = false }
 
 -- revision 0, with the bytes beside it
 abbrev pub new_revision : List ℕ → Recorded

@@ -48,7 +48,7 @@ mounting_same a b same = ap mounting_of same
 
 -- no read comes to no more than what was known
 pub reads_nothing : (v : View) → AllShow v.seen → ReadOnly v v
-reads_nothing v shown = record { is = refl; grows = ([], sym (append-nil v.seen)); doubtless = λ few. few; shown = shown; within = λ sure le. le; course = End v }
+reads_nothing v shown = record { is = refl; grows = ([], sym (append-nil v.seen)); firm = λ f e. e; doubtless = λ few. few; shown = shown; within = λ sure le. le; course = End v }
 
 seen_shows : (layout : Layout) (low young : ℕ) (stuck : Option DiskPlace) (told : Option Trace) (v : View) → Knows layout low young stuck told v → AllShow v.seen
 seen_shows layout low young stuck None v known = absurd known

@@ -5,7 +5,7 @@ use Rattle.fsfs_layout.specs.declared.layout.Layout.{Layout}
 use Rattle.fsfs_disk.specs.Trace.{Trace}
 use Rattle.fsfs_base.specs.declared.places.place.DiskPlace.{DiskPlace}
 use Rattle.fsfs_machine.specs.Machine.{World, stuck_place, with_next}
-use Rattle.fsfs_machine.specs.Kept.{Kept, coming, may_rise}
+use Rattle.fsfs_machine.specs.Kept.{Kept, coming}
 use Rattle.fsfs_images.specs.Shown.{IsTraceOf}
 use Rattle.fsfs_turn.specs.Bytes.{BytesShow, AllShow}
 use Rattle.fsfs_turn.specs.Views.{View, Sees, with_txns}
@@ -25,10 +25,7 @@ pub record IsStore (layout : Layout) (low young : ℕ) (stuck : Option DiskPlace
   -- the bytes beside the history show it; so do those with the revision to come
   pub shown : AllShow w.history
   pub coming : IfSome (coming w.lock) (λ x. BytesShow (with_next w.history x))
-  -- no turn packs: the floor stays that of the opening
   pub low_is : w.low ≡ low
-  pub floor_is : w.floor ≡ low
-  pub level : may_rise w.lock ≡ false
   pub young_is : w.young ≡ young
   pub stuck_is : stuck_place w.lock ≡ stuck
 

@@ -1,5 +1,5 @@
 -- What the images of a store stand for, in the words of files.
-use Rattle.std.specs.Prelude.{◌≡◌, ◌≤◌, ℕ, List, length, Bool, true, false, Option, Some, IfSome}
+use Rattle.std.specs.Prelude.{◌≡◌, ◌≤◌, ℕ, List, length, Bool, true, false, not, Option, Some, IfSome}
 use Rattle.std.specs.FinMap.{get}
 use Rattle.fsfs_base.specs.Files.{Files}
 use Rattle.fsfs_layout.specs.FileNames.{only_name}
@@ -26,27 +26,27 @@ pub record HasOwnFiles (files : Files) (layout : Layout) : Type 0 where
   pub format : SaysFormat (small_texts files) (Known layout)
   pub uuid : (uuid : List ℕ) × IsUuid (text_at files (only_name only.Uuid)) uuid
 
--- The files that no turn changes: the formats, the kind of store, the identifier, and the oldest revision that isn't packed. Turns pack
--- nothing, so the floor neither falls nor rises.
-abbrev pub is_lasting : OnlyFile → Bool
-is_lasting only.RepositoryFormat = true
-is_lasting only.Format = true
-is_lasting only.FsType = true
-is_lasting only.Uuid = true
-is_lasting only.MinUnpackedRev = true
-is_lasting f = false
+-- The files that no turn changes: the formats, the kind of store, the identifier; and the oldest revision that isn't packed, where no pass
+-- may pack.
+abbrev pub is_lasting : Bool → OnlyFile → Bool
+is_lasting packs only.RepositoryFormat = true
+is_lasting packs only.Format = true
+is_lasting packs only.FsType = true
+is_lasting packs only.Uuid = true
+is_lasting packs only.MinUnpackedRev = not packs
+is_lasting packs f = false
 
--- they have the bytes that they had before
-abbrev pub AreLasting : Files → Files → Type 0
-AreLasting before files = (f : OnlyFile) → is_lasting f ≡ true → get files (only_name f) ≡ get before (only_name f)
+-- they have the bytes that they had then
+abbrev pub AreLasting : Since → Files → Type 0
+AreLasting since files = (f : OnlyFile) → is_lasting since.packs f ≡ true → get files (only_name f) ≡ get since.files (only_name f)
 
--- they are in their formats, and have the bytes that they had before
-abbrev pub KeepsOwnFiles : Layout → Files → Files → Type 0
-KeepsOwnFiles layout before files = HasOwnFiles files layout × AreLasting before files
+-- they are in their formats, and have the bytes that they had then
+abbrev pub KeepsOwnFiles : Layout → Since → Files → Type 0
+KeepsOwnFiles layout since files = HasOwnFiles files layout × AreLasting since files
 
 -- where the disk tells its files, so it is in each image of each moment since then, in the middle of a call too
 abbrev pub OwnFilesLast : Layout → Since → Option Trace → Type 0
-OwnFilesLast layout since told = IfSome told (λ t. (m : Files) → ImageSince since.operations t.first t.operations m → KeepsOwnFiles layout since.files m)
+OwnFilesLast layout since told = IfSome told (λ t. (m : Files) → ImageSince since.operations t.first t.operations m → KeepsOwnFiles layout since m)
 
 -- Each image now stands for a first part of the history (which begins with what the pass has seen) that has at least all that the pass
 -- has seen, or for the history with the revision in doubt, which follows it by the landing of an entry.

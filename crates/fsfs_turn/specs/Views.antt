@@ -1,10 +1,12 @@
 -- What one pass knows of the store, and what a turn is: one step of the machine.
-use Rattle.std.specs.Prelude.{◌≡◌, ◌+◌, ◌<◌, ◌≤◌, ◌^◌, ℕ, List, [], ◌∷◌, ◌++◌, length, map, take, Bool, true, false, Option, Some, None, slice_get, Result, Ok, Err}
+use Rattle.std.specs.Prelude.{◌≡◌, ◌⊎◌, ◌+◌, ◌/◌, ◌<◌, ◌≤◌, ◌^◌, if◌then◌else◌, ℕ, List, [], ◌∷◌, ◌++◌, length, map, take, Bool, true, false, Option, Some, None, slice_get, Result, Ok, Err}
 use Rattle.std.specs.FinMap.{get}
 use Rattle.fsfs_tree.specs.Revisions.{Revision, tree_of}
 use Rattle.fsfs_model.specs.Flat.Transactions.{IsTransaction, IsNext}
 use Rattle.fsfs_tree.specs.Dated.{IsDated, last_of}
 use Rattle.fsfs_layout.specs.FileNames.{file_name, only_name}
+use Rattle.fsfs_layout.specs.Layouts.{shard_size}
+use Rattle.fsfs_layout.specs.Manifest.{IsManifest}
 use Rattle.fsfs_layout.specs.declared.layout.Layout.{Layout}
 use Rattle.fsfs_layout.specs.declared.only_file.OnlyFile.TheVariants as only
 use Rattle.fsfs_layout.specs.declared.repository_file.RepositoryFile.TheVariants as file
@@ -13,17 +15,19 @@ use Rattle.fsfs_layout.specs.Hash.Dump.{IsDump}
 use Rattle.fsfs_disk.specs.Trace as real
 use Rattle.fsfs_machine.specs.declared.contents.Contents.TheVariants.{Number}
 use Rattle.fsfs_machine.specs.declared.contents.FileName.TheVariants.{Counter}
+use Rattle.fsfs_machine.specs.declared.contents.Part.{Part}
 use Rattle.fsfs_machine.specs.Disk.{Disk, found}
 use Rattle.fsfs_machine.specs.declared.machine.Recorded.{Recorded}
 use Rattle.fsfs_machine.specs.declared.machine.Coming.{Coming}
 use Rattle.fsfs_machine.specs.declared.machine.Drawn.{Drawn}
 use Rattle.fsfs_machine.specs.declared.machine.Txn.{Txn}
 use Rattle.fsfs_base.specs.declared.places.place.DiskPlace.{DiskPlace}
-use Rattle.fsfs_base.specs.declared.places.place.DiskPlace.TheVariants.{Begin, Commit}
+use Rattle.fsfs_base.specs.declared.places.place.DiskPlace.TheVariants.{Begin, Commit, Pack}
 use Rattle.fsfs_base.specs.declared.places.place.BeginPlace.TheVariants as begin
 use Rattle.fsfs_base.specs.declared.places.place.CommitPlace.TheVariants.{PutRev, PutProps, FirmRev, PutCurrent, RenameCurrent, FirmCurrent}
+use Rattle.fsfs_base.specs.declared.places.place.PackPlace.TheVariants as pack
 use Rattle.fsfs_machine.specs.declared.machine.Section.{Section}
-use Rattle.fsfs_machine.specs.declared.machine.Section.TheVariants.{Begun, CountRead, CountPut, CountRenamed, RevPut, PropsPut, RevFirm, CurrentPut, CurrentRenamed, Doubtful, Over}
+use Rattle.fsfs_machine.specs.declared.machine.Section.TheVariants.{Begun, CountRead, CountPut, CountRenamed, RevPut, PropsPut, RevFirm, CurrentPut, CurrentRenamed, Doubtful, PackPut, ManifestPut, PackFirm, FloorPut, FloorRenamed, Packed, FloorDoubtful, Over}
 use Rattle.fsfs_machine.specs.declared.machine.Pass.{Pass}
 use Rattle.fsfs_machine.specs.declared.machine.Went.{Went}
 use Rattle.fsfs_machine.specs.declared.machine.Went.TheVariants.{Fine}
@@ -31,8 +35,9 @@ use Rattle.fsfs_machine.specs.declared.machine.Outcome.{Outcome}
 use Rattle.fsfs_machine.specs.declared.machine.Outcome.TheVariants as outcome
 use Rattle.fsfs_machine.specs.declared.machine.Step.{Step}
 use Rattle.fsfs_machine.specs.declared.machine.Step.TheVariants as step
-use Rattle.fsfs_machine.specs.Machine.{World, Did, Happens, held_by, is_up, is_fine_in, is_quiet, either, answer, learns, reveals, after, spoiled, entry_of, revisions, with_next, last_name}
-use Rattle.fsfs_machine.specs.Kept.{Kept, IsIn, coming_in}
+use Rattle.fsfs_machine.specs.Machine.{World, Did, Happens, held_by, is_up, is_fine_in, is_quiet, either, answer, learns, reveals, after, spoiled, entry_of, revisions, with_next, last_name, parts_from, starts}
+use Rattle.fsfs_machine.specs.Kept.{Kept, IsIn, coming_in, rises}
+use Rattle.fsfs_images.specs.Shown.{IsCut}
 use Rattle.fsfs_turn.specs.Bytes.{BytesShow, AllShow}
 use Rattle.fsfs_turn.specs.declared.since.Since.{Since}
 
@@ -54,6 +59,8 @@ pub record View : Type 0 where
   pub section : Option Section
   -- since it took the lock it was told the youngest number, and that is still the youngest
   pub sure : Bool
+  -- the firm floor, where it holds the lock and was told since it took it
+  pub firm : Option ℕ
   -- the revision that it left in doubt, with the lock stuck
   pub left : Option Coming
   -- transaction names that it knows to be given
@@ -104,6 +111,7 @@ pub record Sees (w : World) (v : View) : Type 0 where
   -- the bytes beside what it has seen show it, and each first part of it
   pub shown : AllShow v.seen
   pub names : KnowsNames v.full v.section w.disk
+  pub firm : (s : Section) (f : ℕ) → v.section ≡ Some s → v.firm ≡ Some f → w.floor ≡ f
 
 abbrev pub txn_names : List Txn → List ℕ
 txn_names xs = map (λ x. x.name) xs
@@ -131,7 +139,31 @@ rev_name v r = file_name v.layout (file.Revision r)
 abbrev pub props_name : View → ℕ → List ℕ
 props_name v r = file_name v.layout (file.Props r)
 
--- The call of the disk that is due in the pass's section, by its place: the table of a begin's section and of a commit's.
+-- ---- what is packed next
+
+-- The pass may pack, and the shard at the firm floor is full, as far as it has seen.
+pub record IsFullShard (v : View) (f : ℕ) : Type 0 where
+  pub packs : v.since.packs ≡ true
+  pub firm : v.firm ≡ Some f
+  pub full : f + shard_size v.layout ≤ length v.seen
+  pub fits : f < 2 ^ 32
+
+-- its revisions, as they stand one behind another
+abbrev pub shard_parts : View → ℕ → List Part
+shard_parts v f = parts_from (shard_size v.layout) f v.seen
+
+-- the names of its pack and of the manifest beside it
+abbrev pub pack_name : View → ℕ → List ℕ
+pack_name v f = file_name v.layout (file.Pack (f / shard_size v.layout))
+
+abbrev pub manifest_name : View → ℕ → List ℕ
+manifest_name v f = file_name v.layout (file.Manifest (f / shard_size v.layout))
+
+-- a pack begins: the pass has just taken the lock, or the shard before is packed
+abbrev pub MayPack : Option Section → Type 0
+MayPack at = (at ≡ Some Begun) ⊎ (at ≡ Some Packed)
+
+-- The call of the disk that is due in the pass's section, by its place: the table of a begin's section, of a commit's and of a pack's.
 abbrev pub IsDue : View → DiskPlace → real.NameChange → Type 0
 IsDue v (Begin begin.Put) (real.Put name bytes) = (x : Drawn) × (v.section ≡ Some (CountRead x)) × (name ≡ only_name only.TxnCurrentNext) × IsBase36Line bytes x.next
 IsDue v (Begin begin.Rename) (real.Rename from to) = (x : Drawn) × (v.section ≡ Some (CountPut x)) × (from ≡ only_name only.TxnCurrentNext) × (to ≡ only_name only.TxnCurrent)
@@ -141,6 +173,12 @@ IsDue v (Commit FirmRev) real.FirmNames = (x : Coming) × (v.section ≡ Some (P
 IsDue v (Commit PutCurrent) (real.Put name bytes) = (x : Coming) × (v.section ≡ Some (RevFirm x)) × (name ≡ only_name only.CurrentNext) × IsRevLine bytes (length v.seen)
 IsDue v (Commit RenameCurrent) (real.Rename from to) = (x : Coming) × (v.section ≡ Some (CurrentPut x)) × (from ≡ only_name only.CurrentNext) × (to ≡ only_name only.Current)
 IsDue v (Commit FirmCurrent) real.FirmNames = (x : Coming) × (v.section ≡ Some (CurrentRenamed x))
+IsDue v (Pack pack.AdoptPack) (real.Adopt name bytes) = (f : ℕ) × IsFullShard v f × MayPack v.section × (name ≡ pack_name v f) × IsCut (starts 0 (shard_parts v f)) bytes (shard_parts v f)
+IsDue v (Pack pack.AdoptManifest) (real.Adopt name bytes) = (f : ℕ) × IsFullShard v f × (v.section ≡ Some PackPut) × (name ≡ manifest_name v f) × IsManifest (shard_size v.layout) bytes (starts 0 (shard_parts v f))
+IsDue v (Pack pack.FirmPack) real.FirmNames = v.section ≡ Some ManifestPut
+IsDue v (Pack pack.PutFloor) (real.Put name bytes) = (f : ℕ) × (v.firm ≡ Some f) × (v.section ≡ Some PackFirm) × (name ≡ only_name only.MinUnpackedRevNext) × IsRevLine bytes (f + shard_size v.layout)
+IsDue v (Pack pack.RenameFloor) (real.Rename from to) = (v.section ≡ Some FloorPut) × (from ≡ only_name only.MinUnpackedRevNext) × (to ≡ only_name only.MinUnpackedRev) × (v.since.packs ≡ true)
+IsDue v (Pack pack.FirmFloor) real.FirmNames = v.section ≡ Some FloorRenamed
 IsDue v place change = ⊥
 
 -- the answer of a call says how it went
@@ -153,9 +191,19 @@ abbrev pub given_by : Section → Went → List ℕ → List ℕ
 given_by (CountRenamed x) Fine given = x.name ∷ given
 given_by s went given = given
 
+-- the firm floor that a pass knows, after a call of its section: with the name of the floor's file firm the next is
+abbrev pub firm_by : Section → Went → ℕ → Option ℕ → Option ℕ
+firm_by FloorRenamed Fine size (Some f) = Some (f + size)
+firm_by s went size firm = firm
+
+-- after `min-unpacked-rev` was read: what stands there is firm, but where its renaming isn't
+abbrev pub firm_read : Option Section → Went → ℕ → Option ℕ → Option ℕ
+firm_read (Some s) Fine floor firm = if rises s then firm else Some floor
+firm_read at went floor firm = firm
+
 -- the pass after a call of its section s, by which it saw the history h
 abbrev pub called_view : List Recorded → DiskPlace → Went → Section → View → View
-called_view h place went s v = record v { pass = learns (length h) place went v.pass; seen = h; section = Some (either went (after s) (spoiled s)); given = given_by s went v.given }
+called_view h place went s v = record v { pass = learns (length h) place went v.pass; seen = h; section = Some (either went (after s) (spoiled s)); firm = firm_by s went (shard_size v.layout) v.firm; given = given_by s went v.given }
 
 -- the later history begins with the earlier
 abbrev pub Begins : List Recorded → List Recorded → Type 0
@@ -212,12 +260,16 @@ pub record Looked (young : ℕ) (v u : View) : Type 0 where
 -- the pass has taken the lock
 pub record LockTaken (v u : View) : Type 0 where
   pub turned : Turned [] (step.TakeLock v.number) outcome.Done v u
-  pub is : u ≡ record v { section = Some Begun; sure = false }
+  pub is : u ≡ record v { section = Some Begun; sure = false; firm = None }
 
 -- or found it stuck
 pub record FoundStuck (place : DiskPlace) (v u : View) : Type 0 where
   pub turned : Turned [] (step.TakeLock v.number) (outcome.Stuck place) v u
   pub is : u ≡ record v { pass = record v.pass { stuck = Some place } }
+
+-- the lock is to be left stuck at this place: `current` may name the revision to come, or `min-unpacked-rev` the next floor
+abbrev pub MustStick : DiskPlace → View → Type 0
+MustStick place v = ((x : Coming) × (v.section ≡ Some (Doubtful place x))) ⊎ (v.section ≡ Some (FloorDoubtful place))
 
 -- the lock may be given
 pub record MayGive (v : View) : Type 0 where

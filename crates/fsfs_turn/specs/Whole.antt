@@ -63,4 +63,4 @@ EachMomentStands = (layout : Layout) (low young : ℕ) (stuck : Option DiskPlace
 -- From any moment on it is known that images have all that the pass has seen by then: what was acknowledged is whole in each image of
 -- each later moment.
 abbrev pub KnownFromNow : Type 0
-KnownFromNow = (layout : Layout) (low young : ℕ) (stuck : Option DiskPlace) (t : Trace) (v : View) → Knows layout low young stuck (Some t) v → Knows layout low young stuck (Some t) (record v { since = record { operations = length t.operations; files = files_now t }; opened = length v.seen })
+KnownFromNow = (layout : Layout) (low young : ℕ) (stuck : Option DiskPlace) (t : Trace) (v : View) → Knows layout low young stuck (Some t) v → Knows layout low young stuck (Some t) (record v { since = record v.since { operations = length t.operations; files = files_now t }; opened = length v.seen })

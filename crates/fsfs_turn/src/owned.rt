@@ -61,13 +61,15 @@ impl<R, D: Disk> Turns<R> for Owned<D> {
     ghost use Rattle.fsfs_turn.specs.Telling.{OwnedState, state_of, owned_view};
     ghost use Rattle.fsfs_turn.specs.OwnedLemmas.{owned_tells, owned_benches_tell, never_bound};
     ghost use Rattle.fsfs_fetch.specs.OwnedShort.{owned_short};
-    ghost use Rattle.std.specs.Prelude.{ℕ, List, false, IfOk, OnErr, MatchOption};
+    ghost use Rattle.std.specs.Prelude.{ℕ, List, true, false, IfOk, OnErr, MatchOption};
     ghost use Rattle.fsfs_base.specs.Failures.{HasCause};
-    ghost use Rattle.fsfs_disk.specs.Labels.{Txn as TxnLabel, label_of, without_label};
+    ghost use Rattle.fsfs_disk.specs.Labels.{Txn as TxnLabel, Pack as PackLabel, label_of, without_label};
+    ghost use Rattle.fsfs_base.specs.declared.places.place.DiskPlace.TheVariants.{Remove};
     ghost use Rattle.fsfs_machine.specs.declared.machine.Txn.{Txn};
     ghost use Rattle.fsfs_machine.specs.declared.machine.Went.{Went};
     ghost use Rattle.fsfs_machine.specs.Kept.{IsIn};
-    ghost use Rattle.fsfs_turn.specs.Views.{Answers};
+    ghost use Rattle.fsfs_turn.specs.Views.{Answers, is_held};
+    ghost use Rattle.fsfs_turn.specs.Packing.{DoneBeside};
     ghost use Rattle.fsfs_turn.specs.Labels.{MayRelabel, Drops};
     ghost use Rattle.fsfs_turn.specs.Learning.{MayPurge, Purged, SpentPurged};
     ghost use Rattle.fsfs_turn.specs.Mountings.{RoseBy};
@@ -164,6 +166,10 @@ impl<R, D: Disk> Turns<R> for Owned<D> {
         self.disk.make_folder(name)
     }
 
+    fn make_pack_folder(&mut self, _rt: &R, folder: &Name) -> Result<(), Failed> {
+        self.disk.make_folder(folder)
+    }
+
     fn adopt_file(
         &mut self,
         _rt: &R,
@@ -173,6 +179,24 @@ impl<R, D: Disk> Turns<R> for Owned<D> {
         _about: &Note<Option<Adoption>>,
     ) -> Result<(), Failed> {
         self.disk.adopt(bench, file, to)
+    }
+
+    fn adopt_part(
+        &mut self,
+        _rt: &R,
+        bench: &mut D::Bench,
+        part: &Name,
+        to: &Name,
+    ) -> Result<(), Failed> {
+        self.disk.adopt(bench, part, to)
+    }
+
+    fn remove(&mut self, _rt: &R, name: &Name) -> Result<bool, Failed> {
+        self.disk.remove(name)
+    }
+
+    fn drop_folder(&mut self, _rt: &R, name: &Name) -> Result<(), Failed> {
+        self.disk.drop_folder(name)
     }
 
     fn size(&mut self, _rt: &R, name: &Name) -> Result<Option<u64>, Failed> {
@@ -197,6 +221,8 @@ impl<R, D: Disk> Turns<R> for Owned<D> {
             → (u : View) × (went : Went) × KnowsAlone self.new.layout self.new.floor self.new.young self.new.stuck (D.trace self.new.disk) u × Answers result went × Purged txn went v u }
         ensures spent { (v : View) (name base : ℕ) → KnowsAlone self.old.layout self.old.floor self.old.young self.old.stuck (D.trace self.old.disk) v → v.section ≡ None → IsIn name v.given → label_of label.now ≡ TxnLabel base name
             → (u : View) × (went : Went) × KnowsAlone self.new.layout self.new.floor self.new.young self.new.stuck (D.trace self.new.disk) u × Answers result went × SpentPurged name went v u }
+        ensures beside { (v : View) (k : ℕ) → KnowsAlone self.old.layout self.old.floor self.old.young self.old.stuck (D.trace self.old.disk) v → is_held v.section ≡ true → label_of label.now ≡ PackLabel k
+            → (u : View) × (went : Went) × KnowsAlone self.new.layout self.new.floor self.new.young self.new.stuck (D.trace self.new.disk) u × Answers result went × DoneBeside Remove went v u }
         ensures mounted { D.mount_path self.new.disk ≡ D.mount_path self.old.disk }
         ensures duty { false ≡ false }
         ensures dropped { IfOk result (λ there. Drops false (label_of label.now) there (option_map labels_now (D.trace self.old.disk)) (option_map labels_now (D.trace self.new.disk))) }

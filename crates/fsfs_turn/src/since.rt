@@ -17,8 +17,9 @@ impl Model for Held {
     ghost view = { λ _. empty };
 }
 
-/// How many operations the disk had done then, and the files that it held.
+/// How many operations the disk had done then, and the files that it held; and whether the passes of this opening may pack.
 pub struct Since {
     pub operations: u64,
     pub files: Held,
+    pub packs: bool,
 }

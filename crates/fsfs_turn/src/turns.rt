@@ -1,5 +1,5 @@
 //! What a section is written over.
-ghost use Rattle.std.specs.Prelude.{◌≡◌, ◌⊎◌, ◌<◌, ◌≤◌, ◌^◌, ℕ, List, Bool, true, false, Option, Some, None, length, slice_get, option_map, OnOk, OnErr, IfOk, IfErr, IfSome, IsErrOf, IsSome, MatchOption};
+ghost use Rattle.std.specs.Prelude.{◌≡◌, ◌≢◌, ◌⊎◌, ◌<◌, ◌≤◌, ◌^◌, ℕ, List, Bool, true, false, Option, Some, None, length, slice_get, option_map, OnOk, OnErr, IfOk, IfErr, IfSome, IsErrOf, IsSome, MatchOption};
 ghost use Rattle.std.specs.FinMap.{get, empty};
 ghost use Rattle.fsfs_tree.specs.Revisions.{Revision};
 ghost use Rattle.fsfs_base.specs.Failures.{HasCause, Rose};
@@ -7,27 +7,30 @@ ghost use Rattle.fsfs_layout.specs.FileNames.{only_name};
 ghost use Rattle.fsfs_layout.specs.Small.{IsRevLine};
 ghost use Rattle.fsfs_layout.specs.declared.only_file.OnlyFile.TheVariants.{MinUnpackedRev, TxnCurrent};
 ghost use Rattle.fsfs_layout.specs.Hash.Dump.{IsDump};
-ghost use Rattle.fsfs_disk.specs.Labels.{Label as KeptLabel, Txn as TxnLabel, label_of, with_label, without_label, IsListing};
+ghost use Rattle.fsfs_disk.specs.Labels.{Label as KeptLabel, Txn as TxnLabel, Pack as PackLabel, label_of, with_label, without_label, IsListing};
 ghost use Rattle.fsfs_disk.specs.Benches.{removed, bytes_on, IsFirmFile, HasShortFiles};
-ghost use Rattle.fsfs_disk.specs.Trace.{Put, Rename, FirmNames, IsRead, IsSize};
+ghost use Rattle.fsfs_disk.specs.Trace.{Put, Adopt, Rename, FirmNames, IsRead, IsSize};
 ghost use Rattle.fsfs_machine.specs.declared.machine.Recorded.{Recorded};
 ghost use Rattle.fsfs_machine.specs.declared.machine.Coming.{Coming};
 ghost use Rattle.fsfs_machine.specs.declared.machine.Drawn.{Drawn};
 ghost use Rattle.fsfs_machine.specs.declared.machine.Txn.{Txn};
 ghost use Rattle.fsfs_base.specs.declared.places.place.DiskPlace.{DiskPlace as SpecPlace};
-ghost use Rattle.fsfs_machine.specs.declared.machine.Section.TheVariants.{Begun, CurrentFirm, Doubtful};
+ghost use Rattle.fsfs_base.specs.declared.places.place.DiskPlace.TheVariants.{MakeBench, Remove};
+ghost use Rattle.fsfs_machine.specs.declared.machine.Section.TheVariants.{Begun, CurrentFirm, Packed};
 ghost use Rattle.fsfs_machine.specs.declared.machine.Step.TheVariants.{GiveLock, StickLock};
 ghost use Rattle.fsfs_machine.specs.declared.machine.Went.{Went};
 ghost use Rattle.fsfs_machine.specs.declared.machine.Went.TheVariants.{Fine, Before};
 ghost use Rattle.fsfs_machine.specs.Kept.{IsIn};
-ghost use Rattle.fsfs_turn.specs.Views.{View, rev_name, props_name, IsDue, MayAdopt, MayGive, Answers, Called, Adopted, Looked, LockTaken, FoundStuck, LockGiven, Revealed};
+ghost use Rattle.fsfs_turn.specs.Views.{View, is_held, rev_name, props_name, IsDue, MayAdopt, MayGive, Answers, Called, Adopted, Looked, LockTaken, FoundStuck, MustStick, LockGiven, Revealed};
 ghost use Rattle.fsfs_fetch.specs.Views.{View as StoreView, Later, IsYoungest, IsKnown};
+ghost use Rattle.fsfs_turn.specs.Past.{IsWhole};
 ghost use Rattle.fsfs_turn.specs.Courses.{ReadOnly};
 ghost use Rattle.fsfs_turn.specs.Telling.{TellsSeen};
 ghost use Rattle.fsfs_turn.specs.Labels.{KeepsLabels, Relabels, MayRelabel, Drops};
 ghost use Rattle.fsfs_turn.specs.Adoptions.{adoption, NeedsFolder};
 ghost use Rattle.fsfs_turn.specs.Mountings.{Mounting, RoseBy};
 ghost use Rattle.fsfs_turn.specs.Learning.{PropsRead, FloorRead, ReadsCounter, Listed, MayMake, BenchMade, MayPurge, Purged, SpentPurged};
+ghost use Rattle.fsfs_turn.specs.Packing.{DoneBeside, MayBenchPack, CanBench, CanDrop, MayRemove, Removal};
 
 use crate::adoption::Adoption;
 use fsfs_base::{DiskPlace, Failed, Name, Note, RevNum};
@@ -41,7 +44,7 @@ use std::alloc::Global;
 /// Where other passes rest on what this one does (`bound`), a call that changes the store asks that it is due: of what the pass knows then
 /// one view is there by which it is. Over one owner nobody else rests on it, and a call that isn't due costs what its own pass knows.
 pub trait Turns<R> {
-    /// What is made for a transaction to write in. Its calls are no turns.
+    /// What is made for a transaction or a pack to write in. Its calls are no turns.
     type Bench: Bench;
 
     /// What the pass knows, where the disk tells its files and these are a store: of some view it is known that it holds.
@@ -117,11 +120,11 @@ pub trait Turns<R> {
 
     /// Leaves the write lock stuck, after a fault at this place. It waits for nobody.
     fn stick(&mut self, place: DiskPlace)
-        requires due { bound self.old ≡ true → (v : View) × (x : Coming) × knows self.old v × (v.section ≡ Some (Doubtful place x)) }
+        requires due { bound self.old ≡ true → (v : View) × knows self.old v × MustStick place v }
         ensures mounted { mounting self.new ≡ mounting self.old }
         ensures duty { bound self.new ≡ bound self.old }
         ensures listed { KeepsLabels (bound self.old) (labels self.old) (labels self.new) }
-        ensures turned { (v : View) (x : Coming) → knows self.old v → v.section ≡ Some (Doubtful place x) → (u : View) × knows self.new u × LockGiven (StickLock v.number) v u }
+        ensures turned { (v : View) → knows self.old v → MustStick place v → (u : View) × knows self.new u × LockGiven (StickLock v.number) v u }
         ensures faults { faults self.new ≡ faults self.old };
 
     /// The revision that was written joins the history: it is the youngest now.
@@ -207,8 +210,48 @@ pub trait Turns<R> {
         ensures bench_same { Self.Bench.faults bench.new ≡ Self.Bench.faults bench.old }
         ensures cause { HasCause (faults self.old) (faults self.new) result };
 
+    /// A pack's call by which a firm file of its bench gets the name of a pack, or of a manifest: by one change, and the bench has it no
+    /// more.
+    fn adopt_part(
+        &mut self,
+        rt: &R,
+        bench: &mut Self::Bench,
+        file: &Name,
+        to: &Name,
+    ) -> Result<(), Failed>
+        requires firm { IsFirmFile (Self.Bench.contents bench.old) (Self.Bench.firm_to bench.old file.now) file.now }
+        requires due { bound self.old ≡ true → (v : View) × (place : SpecPlace) × knows self.old v × IsDue v place (Adopt to.now (bytes_on (Self.Bench.contents bench.old) file.now)) }
+        ensures mounted { mounting self.new ≡ mounting self.old }
+        ensures duty { bound self.new ≡ bound self.old }
+        ensures listed { KeepsLabels (bound self.old) (labels self.old) (labels self.new) }
+        ensures turned { (v : View) (place : SpecPlace) → knows self.old v → IsDue v place (Adopt to.now (bytes_on (Self.Bench.contents bench.old) file.now))
+            → (u : View) × (went : Went) × knows self.new u × Answers result went × Called place went v u }
+        ensures gone { OnOk result (Self.Bench.contents bench.new ≡ option_map (removed file.now) (Self.Bench.contents bench.old)) }
+        ensures left { OnErr result ((Self.Bench.contents bench.new ≡ Self.Bench.contents bench.old) ⊎ (Self.Bench.contents bench.new ≡ option_map (removed file.now) (Self.Bench.contents bench.old))) }
+        ensures others { (q : List ℕ) → q ≢ file.now → Self.Bench.firm_to bench.new q ≡ Self.Bench.firm_to bench.old q }
+        ensures bench_same { Self.Bench.faults bench.new ≡ Self.Bench.faults bench.old }
+        ensures cause { HasCause (faults self.old) (faults self.new) result };
+
+    /// Takes away the own file of a revision that is packed: the floor above it is firm. `false`: there was none.
+    fn remove(&mut self, rt: &R, name: &Name) -> Result<bool, Failed>
+        requires due { bound self.old ≡ true → (v : View) × (r : ℕ) × knows self.old v × MayRemove v r × (name.now ≡ rev_name v r) }
+        ensures mounted { mounting self.new ≡ mounting self.old }
+        ensures duty { bound self.new ≡ bound self.old }
+        ensures listed { KeepsLabels (bound self.old) (labels self.old) (labels self.new) }
+        ensures turned { (v : View) (r : ℕ) → knows self.old v → MayRemove v r → name.now ≡ rev_name v r → (u : View) × (went : Went) × knows self.new u × Answers result went × Removal result r went v u }
+        ensures cause { HasCause (faults self.old) (faults self.new) result };
+
+    /// Drops a folder that is empty, where the shard that it was of is packed.
+    fn drop_folder(&mut self, rt: &R, name: &Name) -> Result<(), Failed>
+        requires due { bound self.old ≡ true → (v : View) × knows self.old v × (v.section ≡ Some Packed) }
+        ensures mounted { mounting self.new ≡ mounting self.old }
+        ensures duty { bound self.new ≡ bound self.old }
+        ensures listed { KeepsLabels (bound self.old) (labels self.old) (labels self.new) }
+        ensures turned { (v : View) → knows self.old v → v.section ≡ Some Packed → (u : View) × (went : Went) × knows self.new u × Answers result went × DoneBeside Remove went v u }
+        ensures cause { HasCause (faults self.old) (faults self.new) result };
+
     /// Fills the buffer from an offset on, as far as the file goes. Of a revision that the pass has seen it gives the properties, where it is
-    /// asked for that file, and in the same way the floor. `None`: there is no such file.
+    /// asked for that file, and in the same way the floor, which is that of whole shards. `None`: there is no such file.
     fn read(
         &mut self,
         rt: &R,
@@ -227,7 +270,7 @@ pub trait Turns<R> {
         ensures properties { (v : View) (r : ℕ) (x : Recorded) → knows self.old v → slice_get v.seen r ≡ Some x → r < 2 ^ 32 → name.now ≡ props_name v r
             → (u : View) × (went : Went) × (text : List ℕ) × knows self.new u × Answers result went × PropsRead r x went v u × IsDump text x.revision.properties × IfOk result (IsRead (Some text) offset buffer.old buffer.new) }
         ensures floor { (v : View) → knows self.old v → name.now ≡ only_name MinUnpackedRev
-            → (u : View) × (went : Went) × (floor : ℕ) × (text : List ℕ) × knows self.new u × Answers result went × FloorRead floor went v u × IsRevLine text floor × IfOk result (IsRead (Some text) offset buffer.old buffer.new) }
+            → (u : View) × (went : Went) × (floor : ℕ) × (text : List ℕ) × knows self.new u × Answers result went × FloorRead floor went v u × IsWhole v.layout floor × IsRevLine text floor × IfOk result (IsRead (Some text) offset buffer.old buffer.new) }
         ensures cause { HasCause (faults self.old) (faults self.new) result };
 
     /// A begin's first call: reads `txn-current` from its beginning on, for a transaction on this revision. The number there is drawn.
@@ -267,40 +310,43 @@ pub trait Turns<R> {
         ensures rose { IsErrOf result ListFault.Failed → Rose (faults self.old) (faults self.new) }
         ensures wanting { IsErrOf result ListFault.Memory → faults self.new ≡ faults self.old };
 
-    /// A begin's last call: keeps the label of a transaction whose name was given, and makes an empty bench for it.
+    /// A begin's last call: keeps the label of a transaction whose name was given, and makes an empty bench for it. Or, with the lock held,
+    /// the label of the shard that is packed next, with its bench.
     fn bench(&mut self, rt: &R, label: &Label) -> Result<Self::Bench, Failed>
-        requires due { bound self.old ≡ true → (v : View) × (x : Drawn) × knows self.old v × MayMake v x × (label_of label.now ≡ TxnLabel x.base x.name) }
+        requires due { bound self.old ≡ true → (v : View) × knows self.old v × CanBench v (label_of label.now) }
         ensures mounted { mounting self.new ≡ mounting self.old }
         ensures duty { bound self.new ≡ bound self.old }
         ensures turned { (v : View) (x : Drawn) → knows self.old v → MayMake v x → label_of label.now ≡ TxnLabel x.base x.name
             → (u : View) × (went : Went) × knows self.new u × Answers result went × BenchMade x went v u }
+        ensures beside { (v : View) (k : ℕ) → knows self.old v → MayBenchPack v k → label_of label.now ≡ PackLabel k → (u : View) × (went : Went) × knows self.new u × Answers result went × DoneBeside MakeBench went v u }
         ensures kept { OnOk result (Relabels (bound self.old) (with_label (label_of label.now)) (labels self.old) (labels self.new)) }
         ensures left { OnErr result (MayRelabel (bound self.old) (with_label (label_of label.now)) (labels self.old) (labels self.new)) }
         ensures empty { IfOk result (λ bench. Self.Bench.contents bench ≡ option_map (λ _. empty) (labels self.new)) }
         ensures new { IfOk result (λ bench. Self.Bench.faults bench ≡ 0) }
         ensures cause { HasCause (faults self.old) (faults self.new) result };
 
-    /// Drops what a label's bench holds, and then the label: that of a transaction under way, or of one that is no more. `false`: the
-    /// label isn't kept. Whatever is answered, the bench is no more, and its faults are counted.
+    /// Drops what a label's bench holds, and then the label: that of a transaction under way, or of one that is no more; or of a pack, by who
+    /// holds the lock. `false`: the label isn't kept. Whatever is answered, the bench is no more, and its faults are counted.
     fn drop_bench(
         &mut self,
         rt: &R,
         label: &Label,
         bench: Option<Self::Bench>,
     ) -> Result<bool, Failed>
-        requires due { bound self.old ≡ true → (v : View) × (name : ℕ) × (base : ℕ) × knows self.old v × (v.section ≡ None) × IsIn name v.given × (label_of label.now ≡ TxnLabel base name) }
+        requires due { bound self.old ≡ true → (v : View) × knows self.old v × CanDrop v (label_of label.now) }
         ensures mounted { (mounting self.new).mount ≡ (mounting self.old).mount }
         ensures duty { bound self.new ≡ bound self.old }
         ensures purged { (v : View) (txn : Txn) (base : ℕ) → knows self.old v → MayPurge v txn → label_of label.now ≡ TxnLabel base txn.name
             → (u : View) × (went : Went) × knows self.new u × Answers result went × Purged txn went v u }
         ensures spent { (v : View) (name base : ℕ) → knows self.old v → v.section ≡ None → IsIn name v.given → label_of label.now ≡ TxnLabel base name
             → (u : View) × (went : Went) × knows self.new u × Answers result went × SpentPurged name went v u }
+        ensures beside { (v : View) (k : ℕ) → knows self.old v → is_held v.section ≡ true → label_of label.now ≡ PackLabel k → (u : View) × (went : Went) × knows self.new u × Answers result went × DoneBeside Remove went v u }
         ensures dropped { IfOk result (λ there. Drops (bound self.old) (label_of label.now) there (labels self.old) (labels self.new)) }
         ensures left { OnErr result (MayRelabel (bound self.old) (without_label (label_of label.now)) (labels self.old) (labels self.new)) }
         ensures benches { MatchOption bench ((mounting self.new).bench_faults ≡ (mounting self.old).bench_faults) (λ b. RoseBy (Self.Bench.faults b) (mounting self.old).bench_faults (mounting self.new).bench_faults) }
         ensures cause { HasCause (faults self.old) (faults self.new) result };
 
-    /// Makes a folder and those above it. It is no step; its fault is one of the call that is due.
+    /// Makes a folder and those above it, for a file that is to be put. It is no step; its fault is one of the call that is due.
     fn make_folder(&mut self, rt: &R, name: &Name) -> Result<(), Failed>
         requires due { bound self.old ≡ true → (v : View) × knows self.old v × NeedsFolder v }
         ensures mounted { mounting self.new ≡ mounting self.old }
@@ -310,6 +356,16 @@ pub trait Turns<R> {
         ensures failed { (v : View) (place : SpecPlace) (file bytes : List ℕ) → knows self.old v → IsDue v place (Put file bytes) → OnErr result ((u : View) × knows self.new u × Called place Before v u) }
         ensures failed_first { (v : View) (txn : Txn) (properties : List (List ℕ × List ℕ)) (next : Revision) (bytes : List ℕ) → knows self.old v → MayAdopt v txn properties next bytes
             → OnErr result ((u : View) × knows self.new u × Adopted txn properties next bytes Before v u) }
+        ensures cause { HasCause (faults self.old) (faults self.new) result };
+
+    /// Makes the folder of a pack, and those above it. It is no step; its fault is one of the call that is due.
+    fn make_pack_folder(&mut self, rt: &R, name: &Name) -> Result<(), Failed>
+        requires due { bound self.old ≡ true → (v : View) × (place : SpecPlace) × (file : List ℕ) × (bytes : List ℕ) × knows self.old v × IsDue v place (Adopt file bytes) }
+        ensures mounted { mounting self.new ≡ mounting self.old }
+        ensures duty { bound self.new ≡ bound self.old }
+        ensures listed { KeepsLabels (bound self.old) (labels self.old) (labels self.new) }
+        ensures done { (v : View) → knows self.old v → OnOk result (knows self.new v) }
+        ensures failed { (v : View) (place : SpecPlace) (file bytes : List ℕ) → knows self.old v → IsDue v place (Adopt file bytes) → OnErr result ((u : View) × knows self.new u × Called place Before v u) }
         ensures cause { HasCause (faults self.old) (faults self.new) result };
 
     /// Where other passes rest on it, one view is known.

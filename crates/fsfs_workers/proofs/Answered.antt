@@ -11,10 +11,10 @@ use Rattle.fsfs_machine.specs.Kept.{IsIn}
 use Rattle.fsfs_machine.specs.Machine.{revisions}
 use Rattle.fsfs_turn.specs.Views.{View}
 use Rattle.fsfs_turn.proofs.Alone.{no_shorter}
-use Rattle.fsfs_repo.specs.Txns.Commits.{IfFailed, Meets}
-use Rattle.fsfs_repo.specs.declared.txns.answers.CommitAnswer.{CommitAnswer}
-use Rattle.fsfs_repo.specs.declared.txns.answers.CommitAnswer.TheVariants as replies
-use Rattle.fsfs_repo.specs.declared.txns.answers.CommitBar.{CommitBar}
+use Rattle.fsfs_job_run.specs.TxnCommits.{IfFailed, Meets}
+use Rattle.fsfs_job_run.specs.CommitAnswer.{CommitAnswer}
+use Rattle.fsfs_job_run.specs.CommitAnswer.TheVariants as replies
+use Rattle.fsfs_job_run.specs.CommitBar.{CommitBar}
 use Rattle.fsfs_cli.specs.declared.faults.fault.Fault.TheVariants.{Outside}
 use Rattle.fsfs_cli.specs.declared.faults.outside_fault.OutsideFault.TheVariants as outside
 use Rattle.fsfs_script.specs.declared.job_lines.job.CommitJob.{CommitJob}

@@ -1,6 +1,6 @@
 -- What two workers need of the first pass of a repository that was just opened, and what they come to.
 use Rattle.std.proofs.Common.{◌≡◌, ℕ, zero, suc, arith, List, [], length, true, false, refl, sym, ap, subst, ◌∙◌}
-use Rattle.std.specs.Prelude.{Option, Some, None, IfSome, is_some, option_map}
+use Rattle.std.specs.Prelude.{Bool, Option, Some, None, IfSome, is_some, option_map}
 use Rattle.fsfs_tree.specs.Dated.{last_of}
 use Rattle.fsfs_tree.specs.Revisions.{Revision}
 use Rattle.fsfs_layout.specs.declared.layout.Layout.{Layout}
@@ -14,8 +14,8 @@ use Rattle.fsfs_pass.specs.Met.{ground_of}
 use Rattle.fsfs_pass.specs.OtherLabels.{IsAboveAll, KeepsOthersOf}
 use Rattle.fsfs_pass.specs.Seats.{IsSitting}
 use Rattle.fsfs_pass.specs.Tells.{TellsIt}
-use Rattle.fsfs_repo.specs.Known.{HoldBytes}
-use Rattle.fsfs_repo.specs.Shared.FirstPass.{SeesAll}
+use Rattle.fsfs_job_run.specs.Known.{HoldBytes}
+use Rattle.fsfs_job_run.specs.FirstPass.{SeesAll}
 use Rattle.fsfs_script.specs.declared.job_lines.job.Job.{Job}
 use Rattle.fsfs_jobs.specs.declared.answer.JobAnswer.{JobAnswer}
 use Rattle.fsfs_job_run.specs.Workers.Beside.{IsOfOne}
@@ -76,15 +76,15 @@ beside_over (Some t) left v seen same moment js answers youngest ran = (revision
 -- ---- the labels
 
 -- a name that isn't above the names before a number is less than it
-from_before : (n : ℕ) (l : Label) → (IsFrom n l → ⊥) → IsAboveAll (given_before n) l → ⊥
+from_before : (n : ℕ) (l : Label) → (IsFrom n l → ⊥) → IsAboveAll false (given_before n) l → ⊥
 from_before zero (TxnLabel base name) other above = other (omega arith)
 from_before (suc n) (TxnLabel base name) other above = let less = above.0 in other (omega (arith, less))
-from_before n (Pack shard) other above = above
+from_before n (Pack shard) other above = let no : false ≡ true = above in absurd cc
 from_before n HotCopy other above = above
 
 -- those that the table left as they were, where it began behind the opening
-pub keeps_earlier : (n : ℕ) (names : List ℕ) (before told began left : Option Trace) → Performs FirmNames before told → began ≡ told → IfSome before (λ t. names ≡ given_before n) → KeepsOthersOf names began left → KeepsEarlier n (option_map labels_now before) (option_map labels_now left)
-keeps_earlier n names None told began left firm is given keeps = tt
-keeps_earlier n names (Some t) told began None firm is given keeps = tt
-keeps_earlier n names (Some t) told began (Some z) firm is given keeps = λ l other.
-    (subst (λ (ks : List ℕ). KeepsOthersOf ks (Some (add_operation (Done FirmNames) t)) (Some z)) given (subst (λ o. KeepsOthersOf names o (Some z)) (is ∙ firm) keeps)) l (from_before n l other)
+pub keeps_earlier : (n : ℕ) (packs : Bool) (names : List ℕ) (before told began left : Option Trace) → Performs FirmNames before told → began ≡ told → IfSome before (λ t. (names ≡ given_before n) × (packs ≡ false)) → KeepsOthersOf packs names began left → KeepsEarlier n (option_map labels_now before) (option_map labels_now left)
+keeps_earlier n packs names None told began left firm is given keeps = tt
+keeps_earlier n packs names (Some t) told began None firm is given keeps = tt
+keeps_earlier n packs names (Some t) told began (Some z) firm is given keeps = λ l other.
+    (subst (λ (y : Bool × List ℕ). KeepsOthersOf y.0 y.1 (Some (add_operation (Done FirmNames) t)) (Some z)) (λ i. (given.1 i, given.0 i)) (subst (λ o. KeepsOthersOf packs names o (Some z)) (is ∙ firm) keeps)) l (from_before n l other)

@@ -7,7 +7,7 @@ use Rattle.fsfs_tree.specs.Revisions.{Revision}
 use Rattle.fsfs_machine.specs.declared.machine.Coming.{Coming}
 use Rattle.fsfs_machine.specs.declared.machine.Recorded.{Recorded}
 use Rattle.fsfs_machine.specs.Machine.{either_place, revisions}
-use Rattle.fsfs_turn.specs.Alone.{BringsNoDoubt, are_harmless, brings_doubt}
+use Rattle.fsfs_turn.specs.Alone.{BringsNoDoubt, are_harmless, leaves_stuck}
 use Rattle.fsfs_turn.specs.Views.{View, Begins}
 use Rattle.fsfs_pass.specs.declared.seats.seat_view.Kin.{Kin}
 use Rattle.fsfs_pass.specs.declared.seats.seat_view.SeatView.{SeatView}
@@ -49,7 +49,7 @@ knows_less u w begins least = let long = grown_long u.seen w.seen begins in omeg
 
 both_harmless : (a b : List DiskPlace) → are_harmless a ≡ true → are_harmless b ≡ true → are_harmless (a ++ b) ≡ true
 both_harmless [] b few less = less
-both_harmless (x ∷ a) b few less = by_test (brings_doubt x) few (λ rest. both_harmless a b rest less)
+both_harmless (x ∷ a) b few less = by_test (leaves_stuck x) few (λ rest. both_harmless a b rest less)
   where
     by_test : (doubt : Bool) → cond doubt false (are_harmless a) ≡ true → (are_harmless a ≡ true → are_harmless (a ++ b) ≡ true) → cond doubt false (are_harmless (a ++ b)) ≡ true
     by_test true e on = absurd cc

@@ -7,10 +7,10 @@ use Rattle.fsfs_machine.specs.declared.machine.Recorded.{Recorded}
 use Rattle.fsfs_machine.specs.Machine.{revisions}
 use Rattle.fsfs_turn.specs.Bytes.{AllShow, BytesShow, bytes_of}
 use Rattle.fsfs_turn.specs.Views.{View}
-use Rattle.fsfs_repo.specs.SeenLemmas.{bytes_same}
+use Rattle.fsfs_job_run.specs.SeenLemmas.{bytes_same}
 use Rattle.fsfs_turn.specs.Seen.{TellsUpTo}
 use Rattle.fsfs_turn.proofs.Moments.{begins_take}
-use Rattle.fsfs_repo.proofs.Shown.{part_shows}
+use Rattle.fsfs_job_run.proofs.Shown.{part_shows}
 use Rattle.fsfs_workers.specs.Working.{up_to}
 use Rattle.fsfs_workers.proofs.Lines.{last_is}
 use Rattle.fsfs_workers.proofs.Parts.{part_length}

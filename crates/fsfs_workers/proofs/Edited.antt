@@ -14,7 +14,7 @@ use Rattle.fsfs_turn.specs.Views.{View, Begins}
 use Rattle.fsfs_turn.proofs.Reading.{begins_on}
 use Rattle.fsfs_turn.proofs.Moments.{begins_take}
 use Rattle.fsfs_turn.proofs.Alone.{no_shorter}
-use Rattle.fsfs_repo.specs.StayingLemmas.{txn_stays}
+use Rattle.fsfs_job_run.specs.StayingLemmas.{txn_stays}
 use Rattle.fsfs_jobs.specs.JobEdits.Editing.{IsEditedWhole}
 use Rattle.fsfs_script.specs.declared.job_lines.job.CommitJob.{CommitJob}
 use Rattle.fsfs_script.specs.declared.job_lines.job.Job.{Job}

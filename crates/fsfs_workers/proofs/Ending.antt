@@ -3,7 +3,7 @@ use Rattle.std.proofs.Common.{◌≡◌, ◌≤◌, ◌+◌, ℕ, List, [], ◌�
 use Rattle.std.specs.BTreeMap.{insert_entry}
 use Rattle.std.specs.Cmp.Lexicographic.{slice_cmp}
 use Rattle.std.specs.Ordering.{nat_cmp}
-use Rattle.std.specs.Prelude.{Option, Some, None}
+use Rattle.std.specs.Prelude.{None}
 use Rattle.fsfs_base.specs.declared.fields.txn_name.TxnName.{TxnName}
 use Rattle.fsfs_base.specs.declared.places.place.DiskPlace.{DiskPlace}
 use Rattle.fsfs_tree.specs.Dated.{date_name, last_of}
@@ -12,18 +12,18 @@ use Rattle.fsfs_draft.specs.Drafts.{Folder}
 use Rattle.fsfs_machine.specs.declared.machine.Recorded.{Recorded}
 use Rattle.fsfs_machine.specs.declared.machine.Txn.{Txn}
 use Rattle.fsfs_machine.specs.Machine.{revisions}
-use Rattle.fsfs_turn.specs.Alone.{BringsNoDoubt, brings_doubt}
+use Rattle.fsfs_turn.specs.Alone.{BringsNoDoubt}
 use Rattle.fsfs_turn.specs.Views.{View, Begins, IsTxnOver}
 use Rattle.fsfs_turn.proofs.Longer.{txn_later}
 use Rattle.fsfs_turn.proofs.Reading.{begins_on}
 use Rattle.fsfs_turn.proofs.Moments.{begins_take}
 use Rattle.fsfs_turn.proofs.Alone.{no_shorter}
-use Rattle.fsfs_repo.specs.Replies.{Committed, LeavesDoubt, Moved, Wrote}
-use Rattle.fsfs_repo.specs.Works.{Landings}
-use Rattle.fsfs_repo.specs.Dating.{IsDatedAt}
-use Rattle.fsfs_repo.specs.Txns.Commits.{Bars, IsDropped}
-use Rattle.fsfs_repo.specs.declared.txns.answers.CommitBar.{CommitBar}
-use Rattle.fsfs_repo.specs.declared.txns.answers.CommitBar.TheVariants as bars
+use Rattle.fsfs_job_run.specs.Replies.{Committed, LeavesDoubt, Moved, Wrote, brings_doubt}
+use Rattle.fsfs_job_run.specs.Works.{Landings}
+use Rattle.fsfs_job_run.specs.Dating.{IsDatedAt}
+use Rattle.fsfs_job_run.specs.TxnCommits.{Bars, IsDropped}
+use Rattle.fsfs_job_run.specs.CommitBar.{CommitBar}
+use Rattle.fsfs_job_run.specs.CommitBar.TheVariants as bars
 use Rattle.fsfs_cli.specs.declared.faults.fault.Fault.TheVariants.{Outside}
 use Rattle.fsfs_cli.specs.declared.faults.outside_fault.OutsideFault.TheVariants as outside
 use Rattle.fsfs_script.specs.declared.job_lines.job.CommitJob.{CommitJob}

@@ -6,7 +6,7 @@ use Rattle.fsfs_base.specs.declared.small_fault.SmallFile.TheVariants.{Current}
 use Rattle.fsfs_disk.specs.Trace.{Trace, FirmNames, FailsAt, labels_now}
 use Rattle.fsfs_base.specs.declared.places.open_fault.OpenFault.{OpenFault}
 use Rattle.fsfs_layout.specs.declared.opened.Opened.{Opened}
-use Rattle.fsfs_repo.specs.OpenFaults.{OpensBecause}
+use Rattle.fsfs_job_run.specs.OpenFaults.{OpensBecause}
 use Rattle.fsfs_script.specs.declared.job_lines.job.Job.{Job}
 use Rattle.fsfs_script.specs.Errors.{IfReadFault}
 use Rattle.fsfs_script.specs.Whole.{ReadsScript, EndsSource}

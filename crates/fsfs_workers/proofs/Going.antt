@@ -10,22 +10,22 @@ use Rattle.fsfs_machine.specs.declared.machine.Step.TheVariants.{PurgeSpent}
 use Rattle.fsfs_machine.specs.declared.machine.Went.{Went}
 use Rattle.fsfs_machine.specs.declared.machine.Went.TheVariants.{Fine, Before, After, Torn}
 use Rattle.fsfs_machine.specs.Kept.{IsIn}
-use Rattle.fsfs_machine.specs.Machine.{World, either, revisions}
-use Rattle.fsfs_turn.specs.Alone.{BringsNoDoubt, are_harmless, brings_doubt}
+use Rattle.fsfs_machine.specs.Machine.{World, either}
+use Rattle.fsfs_turn.specs.Alone.{BringsNoDoubt, are_harmless, leaves_stuck}
 use Rattle.fsfs_turn.specs.Courses.{ReadOnly}
 use Rattle.fsfs_turn.specs.Learning.{FloorRead, with_spent}
 use Rattle.fsfs_turn.specs.Views.{View, Looked}
 use Rattle.fsfs_turn.proofs.Doubts.{same_faults, fault_more, harmless_more}
 use Rattle.fsfs_turn.proofs.Reading.{begins_on}
 use Rattle.fsfs_turn.proofs.Alone.{no_shorter}
-use Rattle.fsfs_repo.specs.BeginSteps.{Moved}
-use Rattle.fsfs_repo.specs.BeginPurged.{HasPurged, HasNotPurged, Purges}
-use Rattle.fsfs_repo.specs.PurgeFault.{PurgeFault}
-use Rattle.fsfs_repo.specs.PurgeFault.TheVariants.{DiskFault}
+use Rattle.fsfs_job_run.specs.BeginSteps.{Moved}
+use Rattle.fsfs_job_run.specs.BeginPurged.{HasPurged, HasNotPurged, Purges}
+use Rattle.fsfs_job_run.specs.PurgeFault.{PurgeFault}
+use Rattle.fsfs_job_run.specs.PurgeFault.TheVariants.{DiskFault}
 use Rattle.fsfs_base.specs.declared.places.place.DiskPlace.TheVariants.{Read, Remove}
-use Rattle.fsfs_repo.specs.Replies.{Moved as CommitMoved}
-use Rattle.fsfs_repo.specs.Txns.Begun.{BeginsTxnAmong}
-use Rattle.fsfs_repo.specs.Txns.Commits.{IsDropped}
+use Rattle.fsfs_job_run.specs.Replies.{Moved as CommitMoved}
+use Rattle.fsfs_job_run.specs.TxnBegun.{BeginsTxnAmong}
+use Rattle.fsfs_job_run.specs.TxnCommits.{IsDropped}
 use Rattle.fsfs_script.specs.declared.job_lines.job.CommitJob.{CommitJob}
 use Rattle.fsfs_script.specs.declared.job_lines.job.Job.{Job}
 use Rattle.fsfs_jobs.specs.declared.answer.JobAnswer.{JobAnswer}
@@ -207,7 +207,7 @@ by_purge lay step v u none p = record {
   full = λ full. ap {A = View} (λ z. z.full) p.is ∙ full;
 }
 
-by_no_purge : (place : DiskPlace) (lay : World → World) (step : Step) (v u : View) → brings_doubt place ≡ false → v.section ≡ None → HasNotPurged place lay step v u → GoesOn v u
+by_no_purge : (place : DiskPlace) (lay : World → World) (step : Step) (v u : View) → leaves_stuck place ≡ false → v.section ≡ None → HasNotPurged place lay step v u → GoesOn v u
 by_no_purge place lay step v u harmless none p = record {
   number = ap {A = View} (λ z. z.number) p.is;
   since = ap {A = View} (λ z. z.since) p.is;
@@ -226,7 +226,7 @@ by_no_purge place lay step v u harmless none p = record {
 pub by_purging : (knows : View → Type 0) (lay : World → World) (step : Went → Step) (result : Result (Unit {0}) PurgeFault) (v : View) → v.section ≡ None → Purges knows lay step result v → GoesOnKnown knows v
 by_purging knows lay step (Ok done) v none p = (p.0, p.1, by_purge lay (step Fine) v p.0 none p.2, ap {A = View} (λ z. z.pass.stuck) p.2.is)
 by_purging knows lay step (Err (DiskFault place)) v none p =
-    (p.1, p.3, by_no_purge place lay (step p.2) v p.1 (ap brings_doubt p.0) none p.5, ap {A = View} (λ z. z.pass.stuck) p.5.is)
+    (p.1, p.3, by_no_purge place lay (step p.2) v p.1 (ap leaves_stuck p.0) none p.5, ap {A = View} (λ z. z.pass.stuck) p.5.is)
 
 pub by_dropping : (knows : View → Type 0) (gone : Bool) (name : ℕ) (m : View) → m.section ≡ None → IsDropped knows gone name m → GoesOnKnown knows m
 by_dropping knows true name m none d = (d.0, d.1, by_purge (with_spent name) (PurgeSpent m.number 0 Fine) m d.0 none d.2, ap {A = View} (λ z. z.pass.stuck) d.2.is)

@@ -8,8 +8,8 @@ use Rattle.fsfs_machine.specs.declared.machine.Recorded.{Recorded}
 use Rattle.fsfs_machine.specs.Machine.{revisions}
 use Rattle.fsfs_machine.proofs.Growing.{revisions_length}
 use Rattle.fsfs_turn.specs.Bytes.{bytes_of, AllShow, BytesShow}
-use Rattle.fsfs_repo.specs.SeenLemmas.{shown_trees}
-use Rattle.fsfs_repo.proofs.Shown.{seen_shows}
+use Rattle.fsfs_job_run.specs.SeenLemmas.{shown_trees}
+use Rattle.fsfs_job_run.proofs.Shown.{seen_shows}
 
 pub revisions_shown : (h : List Recorded) → BytesShow h → 0 < length h → AreRevisions (tree_of (revisions h)) (last_of (revisions h))
 revisions_shown h shows some = shown_revisions (bytes_of h) (last_of (revisions h)) (tree_of (revisions h)) (shown_trees h some shows)

@@ -22,9 +22,9 @@ use Rattle.fsfs_turn.proofs.Longer.{tree_first}
 use Rattle.fsfs_turn.proofs.Reading.{begins_on}
 use Rattle.fsfs_turn.proofs.Moments.{begins_take}
 use Rattle.fsfs_turn.proofs.Alone.{no_shorter}
-use Rattle.fsfs_repo.specs.Replies.{Committed, Wrote}
-use Rattle.fsfs_repo.specs.Works.{Landings}
-use Rattle.fsfs_repo.specs.Refusals.{IsClashAt}
+use Rattle.fsfs_job_run.specs.Replies.{Committed, Wrote}
+use Rattle.fsfs_job_run.specs.Works.{Landings}
+use Rattle.fsfs_job_run.specs.Refusals.{IsClashAt}
 use Rattle.fsfs_cli.specs.declared.faults.fault.Fault.{Fault}
 use Rattle.fsfs_cli.specs.declared.faults.fault.Fault.TheVariants.{Request, Limit}
 use Rattle.fsfs_cli.specs.declared.faults.limit_fault.LimitFault.TheVariants.{RevsFull}

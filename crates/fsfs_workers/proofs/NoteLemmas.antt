@@ -5,11 +5,11 @@ use Rattle.fsfs_base.specs.declared.fields.txn_name.TxnName.{TxnName}
 use Rattle.fsfs_draft.specs.Drafts.{Folder}
 use Rattle.fsfs_machine.specs.declared.machine.Txn.{Txn}
 use Rattle.fsfs_turn.specs.Views.{View}
-use Rattle.fsfs_repo.specs.Pinned.{IsPinned}
-use Rattle.fsfs_repo.specs.Standing.{Standing}
-use Rattle.fsfs_repo.proofs.Pinning.{unpinned}
+use Rattle.fsfs_job_run.specs.Pinned.{IsPinned}
+use Rattle.fsfs_job_run.specs.Standing.{Standing}
+use Rattle.fsfs_job_run.proofs.Pinning.{unpinned}
 use Rattle.fsfs_script.specs.declared.job_lines.job.CommitJob.{CommitJob}
-use Rattle.fsfs_repo.specs.Txns.Standings.{NotesOne}
+use Rattle.fsfs_job_run.specs.TxnStandings.{NotesOne}
 use Rattle.fsfs_workers.specs.Working.{IsEditedNoted, IsEditedTxn}
 
 module _ (knows : View → Type 0) (job : CommitJob) (last : ℕ) (name : TxnName) (base : ℕ) (settled : Folder) where

@@ -26,8 +26,8 @@ use Rattle.fsfs_pass.specs.declared.seats.seat_view.SeatView.{SeatView}
 use Rattle.fsfs_pass.specs.Seats.{all_parts, alone, look_view, view_of}
 use Rattle.fsfs_pass.specs.Kinship.{all_own, own_in}
 use Rattle.fsfs_pass.proofs.Following.{grown_long}
-use Rattle.fsfs_repo.specs.Known.{HoldBytes}
-use Rattle.fsfs_repo.specs.Shared.Left.{Leaves}
+use Rattle.fsfs_job_run.specs.Known.{HoldBytes}
+use Rattle.fsfs_job_run.specs.SharedLeft.{Leaves}
 use Rattle.fsfs_script.specs.declared.job_lines.job.Job.{Job}
 use Rattle.fsfs_jobs.specs.declared.answer.JobAnswer.{JobAnswer}
 use Rattle.fsfs_job_run.specs.Serial.Jobs.{own_of_all}
@@ -111,7 +111,7 @@ module _ (moment young : ℕ) (js : List Job) (answers : List JobAnswer) (v u : 
   was_long = revisions_length v.seen
 
   says : SaysFormat (small_texts u.since.files) (Known u.layout)
-  says = (were_own u.layout u.since.files (files_now t) (leaves.own (files_now t) (image_now u.since.operations t.first t.operations (files_now t) (files_are_image t.first t.operations)))).format
+  says = (were_own u.layout u.since (files_now t) (leaves.own (files_now t) (image_now u.since.operations t.first t.operations (files_now t) (files_are_image t.first t.operations)))).format
 
   abbrev holds : HoldsAll u.since t (revisions v.seen) (revisions h)
   holds = record {

@@ -11,13 +11,13 @@ use Rattle.fsfs_revision.specs.Shows.Reading.{RootOf}
 use Rattle.fsfs_tree.specs.Revisions.{tree_of}
 use Rattle.fsfs_turn.specs.Bytes.{AllShow, bytes_of}
 use Rattle.fsfs_turn.specs.Views.{View}
-use Rattle.fsfs_repo.specs.SeenLemmas.{shown_trees}
-use Rattle.fsfs_repo.proofs.Shown.{seen_shows}
-use Rattle.fsfs_repo.specs.BeginFaults.{Cause, IfDisk, LacksNumber}
-use Rattle.fsfs_repo.specs.BeginSteps.{Moved}
-use Rattle.fsfs_repo.specs.BeginFault.{BeginFault}
-use Rattle.fsfs_repo.specs.BeginFault.TheVariants as begin
-use Rattle.fsfs_repo.specs.Txns.Begun.{BeginsTxnAmong}
+use Rattle.fsfs_job_run.specs.SeenLemmas.{shown_trees}
+use Rattle.fsfs_job_run.proofs.Shown.{seen_shows}
+use Rattle.fsfs_job_run.specs.BeginFaults.{Cause, IfDisk, LacksNumber}
+use Rattle.fsfs_job_run.specs.BeginSteps.{Moved}
+use Rattle.fsfs_job_run.specs.BeginFault.{BeginFault}
+use Rattle.fsfs_job_run.specs.BeginFault.TheVariants as begin
+use Rattle.fsfs_job_run.specs.TxnBegun.{BeginsTxnAmong}
 use Rattle.fsfs_script.specs.declared.job_lines.job.CommitJob.{CommitJob}
 use Rattle.fsfs_script.specs.declared.job_lines.job.Job.TheVariants as jobs
 use Rattle.fsfs_jobs.specs.declared.answer.JobAnswer.TheVariants.{Stopped}

@@ -10,8 +10,8 @@ use Rattle.fsfs_layout.specs.declared.opened.Opened.{Opened}
 use Rattle.fsfs_stands.specs.Files.{StandsFor}
 use Rattle.fsfs_machine.specs.declared.machine.Recorded.{Recorded}
 use Rattle.fsfs_machine.specs.Machine.{revisions}
-use Rattle.fsfs_repo.specs.BeginSteps.{LeavesNoName}
-use Rattle.fsfs_repo.specs.OpenFaults.{OpensBecause}
+use Rattle.fsfs_job_run.specs.BeginSteps.{LeavesNoName}
+use Rattle.fsfs_job_run.specs.OpenFaults.{OpensBecause}
 use Rattle.fsfs_base.specs.declared.places.open_fault.OpenFault.{OpenFault}
 use Rattle.fsfs_script.specs.declared.job_lines.job.Job.{Job}
 use Rattle.fsfs_script.specs.Errors.{IfReadFault}

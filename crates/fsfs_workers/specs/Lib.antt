@@ -9,3 +9,7 @@ pub use Rattle.fsfs_job_run.specs.Workers.Lines
 pub use Rattle.fsfs_job_run.specs.Serial.Listed
 pub use Rattle.fsfs_job_run.specs.Openings
 pub use Rattle.fsfs_job_run.specs.Runs
+pub use Rattle.fsfs_job_run.specs.Unprinted
+pub use Rattle.fsfs_job_run.specs.declared.running.JobsDone
+pub use Rattle.fsfs_jobs.specs.declared.answer.JobAnswer
+pub use Rattle.fsfs_jobs.specs.Lines as RunTexts

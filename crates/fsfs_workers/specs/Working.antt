@@ -11,8 +11,8 @@ use Rattle.fsfs_machine.specs.Machine.{revisions}
 use Rattle.fsfs_turn.specs.Alone.{BringsNoDoubt}
 use Rattle.fsfs_turn.specs.Views.{View, Begins}
 use Rattle.fsfs_draft.specs.Drafts.{Folder}
-use Rattle.fsfs_repo.specs.Meaning.{IsTxnOf}
-use Rattle.fsfs_repo.specs.Standing.{Standing}
+use Rattle.fsfs_job_run.specs.Meaning.{IsTxnOf}
+use Rattle.fsfs_job_run.specs.Standing.{Standing}
 use Rattle.fsfs_script.specs.declared.job_lines.job.CommitJob.{CommitJob}
 use Rattle.fsfs_script.specs.declared.job_lines.job.Job.{Job}
 use Rattle.fsfs_jobs.specs.Edits.{TakesSteps}

@@ -12,5 +12,5 @@ mod share;
 mod two_workers;
 mod worker;
 
-pub use fsfs_job_run::run_script;
-pub use running::run_script_by_two;
+pub use fsfs_job_run::{JobsDone, do_script, run_script, tell};
+pub use running::{do_script_by_two, run_script_by_two};

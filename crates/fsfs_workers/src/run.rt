@@ -4,7 +4,7 @@ ghost use Rattle.fsfs_disk.specs.Trace.{Trace};
 ghost use Rattle.fsfs_machine.specs.Machine.{revisions};
 ghost use Rattle.fsfs_pass.specs.OtherLabels.{KeepsOthersOf};
 ghost use Rattle.fsfs_pass.specs.Seats.{alone};
-ghost use Rattle.fsfs_repo.specs.Known.{HoldBytes};
+ghost use Rattle.fsfs_job_run.specs.Known.{HoldBytes};
 ghost use Rattle.fsfs_job_run.specs.Workers.Lines.{disk_faults_in, RoseBy};
 ghost use Rattle.fsfs_job_run.specs.Serial.Jobs.{bench_faults_in};
 ghost use Rattle.fsfs_workers.specs.Ready.{IsReady};
@@ -13,9 +13,8 @@ ghost use Rattle.fsfs_workers.specs.Two.{RanTwo};
 use crate::two_workers::do_beside;
 use fsfs_base::Gate;
 use fsfs_disk::Disk;
-use fsfs_job_run::JobsDone;
+use fsfs_job_run::{JobsDone, SharedRepo};
 use fsfs_pass::{SharedSeat, look};
-use fsfs_repo::SharedRepo;
 use fsfs_script::Job;
 use std::alloc::{AllocError, Global};
 use std::sync::Wait;
@@ -46,9 +45,11 @@ where
     requires fresh { (seat.me.0.met ≡ D.trace repo.first.value) × (seat.me.0.failures ≡ 0) × (seat.me.0.bench_failures ≡ 0) }
     ensures ran { (t : Trace) → D.trace result.0 ≡ Some t → IfOk result.1 (λ done. RanTwo micros seat.me.0.since jobs.now done.answers.items done.youngest (revisions seat.me.0.seen) t) }
     ensures told { is_some (D.trace result.0) ≡ seat.me.0.told }
-    // Of the labels that were kept as the table began all are, and no more, but for transactions whose names are above those that were given then.
-    ensures labels { KeepsOthersOf repo.board.shared.key.value.seat.given repo.board.shared.key.value.disk.trace (D.trace result.0) }
+    // Of the labels that were kept as the table began all are, and no more, but for transactions whose names are above those that were given then, and for
+    // packs where passes may pack.
+    ensures labels { KeepsOthersOf repo.board.shared.key.value.seat.since.packs repo.board.shared.key.value.seat.given repo.board.shared.key.value.disk.trace (D.trace result.0) }
     ensures each { IfOk result.1 (λ done. length done.answers.items ≡ length jobs.now) }
+    ensures laid { IfOk result.1 (λ done. done.layout ≡ repo.layout) }
     ensures none { OnErr result.1 (D.trace result.0 ≡ D.trace repo.first.value) }
     // Whatever the disk tells: as many calls of it failed as lines tell of, and as many of its benches.
     ensures cause { IfOk result.1 (λ done. RoseBy (disk_faults_in done.answers.items) (D.faults repo.first.value) (D.faults result.0)) }
@@ -66,7 +67,12 @@ where
     match done {
         Ok(answers) => {
             let youngest = look(board, &mut seat);
-            (repo.close(rt, seat), Ok(JobsDone { answers, youngest }))
+            let done = JobsDone {
+                answers,
+                youngest,
+                layout,
+            };
+            (repo.close(rt, seat), Ok(done))
         }
         Err(error) => (repo.close(rt, seat), Err(error)),
     }

@@ -1,10 +1,12 @@
 //! A script is run by two workers.
-ghost use Rattle.std.specs.Prelude.{◌≡◌, ◌≤◌, List, true, false, IfSome, IsTrue, MatchResult};
+ghost use Rattle.std.specs.Prelude.{◌≡◌, ◌≤◌, List, true, false, IfOk, IfSome, IsTrue};
 ghost use Rattle.fsfs_tree.specs.Revisions.{Revision};
 ghost use Rattle.fsfs_disk.specs.Trace.{files_now};
+ghost use Rattle.fsfs_layout.specs.declared.opened.Opened.{Opened};
 ghost use Rattle.fsfs_stands.specs.Files.{StandsFor};
 ghost use Rattle.fsfs_turn.specs.Mountings.{RoseBy};
-ghost use Rattle.fsfs_job_run.specs.Runs.{run_scene, PrintsRun};
+ghost use Rattle.fsfs_job_run.specs.Openings.{OpensAs};
+ghost use Rattle.fsfs_job_run.specs.Runs.{run_scene};
 ghost use Rattle.fsfs_workers.specs.ByWorkers.{RunsByWorkers};
 ghost use Rattle.fsfs_workers.specs.Works.{Works};
 
@@ -12,23 +14,11 @@ use crate::run::run_two;
 use fsfs_base::{Gate, Sink, SmallFault, SmallFile, Source};
 use fsfs_cli::{Fault, RepositoryFault};
 use fsfs_disk::{Disk, QuietDisk};
-use fsfs_job_run::{JobsDone, tell};
-use fsfs_repo::{OpenedShared, SharedRepo};
+use fsfs_job_run::{JobsDone, OpenedShared, SharedRepo, tell_if};
 use fsfs_script::read_script;
 use std::alloc::Global;
 use std::sync::Wait;
 use std::thread::Threads;
-
-// Prints what became of jobs, where there are lines to print.
-fn tell_if<O: Sink>(out: &mut O, done: Result<JobsDone, Fault>) -> Result<u8, Fault>
-    ensures { MatchResult done (λ d. PrintsRun d.answers.items d.youngest (O.written out.old) (O.written out.new) (O.faults out.old) (O.faults out.new) result)
-        (λ fault. (result ≡ Err fault) × (O.written out.new ≡ O.written out.old) × (O.faults out.new ≡ O.faults out.old)) }
-{
-    match done {
-        Ok(done) => tell(out, &done),
-        Err(fault) => Err(fault),
-    }
-}
 
 // Opens the repository on a disk, reads a script to its end, and does its jobs.
 fn work_known<R: Threads + Wait + Sync, D: Disk + Drop + Send, I: Source, G: Gate + Sync>(
@@ -46,6 +36,8 @@ where
     // Passes rest on each other, so where the disk tells its files they stand for a history.
     requires stands { IfSome (D.trace disk) (λ t. (h : List Revision) × StandsFor (files_now t) h) }
     ensures works { Works micros 2 true (D.faults disk) (D.faults result.0) (λ n. RoseBy n 0 (D.bench_faults result.0)) (D.trace disk) (D.trace result.0) (I.remaining input.old) (I.remaining input.new) (I.faults input.old) (I.faults input.new) result.1 }
+    // The layout is the one that the opening read.
+    ensures laid { IfOk result.1 (λ done. (o : Opened) × OpensAs (D.trace disk) o × (done.layout ≡ o.layout)) }
     ensures mounted { D.mount_path result.0 ≡ D.mount_path disk }
     ensures later { D.faults disk ≤ D.faults result.0 }
 {
@@ -95,8 +87,13 @@ where
     (disk.into_disk(), done)
 }
 
-// One of the two.
-fn work<R: Threads + Wait + Sync, D: Disk + Drop + Send, I: Source, G: Gate + Sync>(
+/// Opens the repository on a disk, reads a script to its end, and does its jobs by two workers beside each other; both have ended then. A
+/// revision that a job adds has as its date the moment, in microseconds after 1970-01-01T00:00:00 UTC. Where the repository isn't opened
+/// or the script isn't read, no job is done.
+///
+/// Passes rest on each other. So where it is `known` that the files stand for a history, if the disk tells them, what came of it is told in
+/// words of that history; where it isn't, the workers see a disk that tells nothing.
+pub fn do_script_by_two<R: Threads + Wait + Sync, D: Disk + Drop + Send, I: Source, G: Gate + Sync>(
     rt: &R,
     alloc: Global,
     disk: D,
@@ -111,6 +108,8 @@ where
     requires moment { micros ≤ 4102444799999999 }
     requires stands { known ≡ true → IfSome (D.trace disk) (λ t. (h : List Revision) × StandsFor (files_now t) h) }
     ensures works { Works micros 2 known (D.faults disk) (D.faults result.0) (λ n. RoseBy n 0 (D.bench_faults result.0)) (D.trace disk) (D.trace result.0) (I.remaining input.old) (I.remaining input.new) (I.faults input.old) (I.faults input.new) result.1 }
+    // The layout is the one that the opening read.
+    ensures laid { known ≡ true → IfOk result.1 (λ done. (o : Opened) × OpensAs (D.trace disk) o × (done.layout ≡ o.layout)) }
     ensures mounted { D.mount_path result.0 ≡ D.mount_path disk }
     ensures later { D.faults disk ≤ D.faults result.0 }
 {
@@ -122,11 +121,7 @@ where
 }
 
 /// Opens the repository on a disk, reads a script to its end, does its jobs by two workers beside each other, and prints what became of them
-/// when both have ended. A revision that a job adds has as its date the moment, in microseconds after 1970-01-01T00:00:00 UTC. The answer
-/// is the greatest status that a job's line asks for. Where the repository isn't opened or the script isn't read, no job is done.
-///
-/// Passes rest on each other. So where it is `known` that the files stand for a history, if the disk tells them, what came of it is told in
-/// words of that history; where it isn't, the workers see a disk that tells nothing.
+/// when both have ended (`do_script_by_two`). The answer is the greatest status that a job's line asks for.
 pub fn run_script_by_two<
     R: Threads + Wait + Sync,
     D: Disk + Drop + Send,
@@ -153,6 +148,6 @@ where
     ensures mounted { D.mount_path result.0 ≡ D.mount_path disk }
     ensures later { D.faults disk ≤ D.faults result.0 }
 {
-    let (disk, done) = work(rt, alloc, disk, input, micros, gate, known);
+    let (disk, done) = do_script_by_two(rt, alloc, disk, input, micros, gate, known);
     (disk, tell_if(out, done))
 }

@@ -1,5 +1,5 @@
-//! Administers repositories: `svnadmin create REPOS [--shard N]`, `lstxns REPOS`, `rmtxns REPOS TXN...`
-//! and `dump REPOS`.
+//! Administers repositories: `svnadmin create REPOS [--shard N]`, `lstxns REPOS`, `rmtxns REPOS TXN...`,
+//! `dump REPOS`, `verify REPOS` and `pack REPOS`.
 #![tactic(auto)]
 
 use fsfs_run::{Tool, run};

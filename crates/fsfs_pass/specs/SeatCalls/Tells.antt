@@ -3,12 +3,13 @@ use Rattle.std.specs.Prelude.{◌≡◌, ◌+◌, ◌<◌, ◌≤◌, ◌-◌, �
 use Rattle.std.specs.FinMap as finmap
 use Rattle.fsfs_tree.specs.Revisions.{Revision}
 use Rattle.fsfs_layout.specs.FileNames.{only_name}
-use Rattle.fsfs_layout.specs.Small.{IsBase36Line}
-use Rattle.fsfs_layout.specs.declared.only_file.OnlyFile.TheVariants.{TxnCurrent}
+use Rattle.fsfs_layout.specs.Small.{IsBase36Line, IsRevLine}
+use Rattle.fsfs_layout.specs.declared.only_file.OnlyFile.TheVariants.{TxnCurrent, MinUnpackedRev}
 use Rattle.fsfs_fetch.specs.Views.{Later}
-use Rattle.fsfs_disk.specs.Labels.{Label, Txn as TxnLabel}
+use Rattle.fsfs_disk.specs.Labels.{Label, Txn as TxnLabel, Pack as PackLabel}
 use Rattle.fsfs_disk.specs.Trace.{Trace, NameChange, Put, Adopt, file_at}
 use Rattle.fsfs_base.specs.declared.places.place.DiskPlace.{DiskPlace}
+use Rattle.fsfs_base.specs.declared.places.place.DiskPlace.TheVariants.{MakeBench, Remove}
 use Rattle.fsfs_machine.specs.declared.machine.Recorded.{Recorded}
 use Rattle.fsfs_machine.specs.declared.machine.Drawn.{Drawn}
 use Rattle.fsfs_machine.specs.declared.machine.Txn.{Txn}
@@ -16,7 +17,10 @@ use Rattle.fsfs_machine.specs.declared.machine.Went.{Went}
 use Rattle.fsfs_machine.specs.declared.machine.Went.TheVariants.{Before}
 use Rattle.fsfs_machine.specs.Kept.{IsIn}
 use Rattle.fsfs_machine.specs.Machine.{last_name}
-use Rattle.fsfs_turn.specs.Views.{View, IsDue, Answers, Called, MayAdopt, Adopted}
+use Rattle.fsfs_turn.specs.Courses.{ReadOnly}
+use Rattle.fsfs_turn.specs.Packing.{DoneBeside, MayBenchPack, MayRemove, OldRemoved}
+use Rattle.fsfs_turn.specs.Past.{IsWhole}
+use Rattle.fsfs_turn.specs.Views.{View, IsDue, Answers, Called, MayAdopt, Adopted, is_held, props_name, rev_name}
 use Rattle.fsfs_turn.specs.declared.adoption.Adoption.{Adoption}
 use Rattle.fsfs_turn.specs.Learning.{PropsRead, FloorRead, CounterRead, Listed, MayMake, BenchMade, MayPurge, Purged, SpentPurged}
 use Rattle.fsfs_pass.specs.declared.seats.seat_view.Hand.TheVariants.{Empty}
@@ -28,7 +32,7 @@ use Rattle.fsfs_pass.specs.SeatCalls.Made.{Ended, went_of, risen, carried, faile
 
 -- the pass has the disk no more, and knows what else it knew, but for what a call tells
 abbrev pub IsBack : Bool → SeatView → SeatView → Type 0
-IsBack failed v u = u ≡ record v { pass = u.pass; seen = u.seen; section = u.section; given = u.given; full = u.full; hand = Empty; met = u.met; failures = risen failed v.failures }
+IsBack failed v u = u ≡ record v { pass = u.pass; seen = u.seen; section = u.section; given = u.given; full = u.full; firm = u.firm; hand = Empty; met = u.met; failures = risen failed v.failures }
 
 -- The pass gave the disk back, left so. What it tells of the files is later than what it told; and where the disk tells, P is the step.
 pub record GivenBack (P : View → Type 0) (failed : Bool) (trace : Option Trace) (v u : SeatView) : Type 0 where
@@ -52,13 +56,25 @@ called_back = Back (λ m u. CalledBy (failed_of (carried m.1)) (view_of m.0) u)
 
 -- ---- a read
 
--- whatever was read: the file of a revision that the pass has seen, its properties, the floor
-pub record ReadBy (went : Went) (v u : View) : Type 0 where
-  pub properties : (r : ℕ) (x : Recorded) → slice_get v.seen r ≡ Some x → PropsRead r x went v u
-  pub floor : FloorRead v.pass.floor went v u
+-- the floor was read: it is that of whole shards, and this text says it
+pub record FloorBy (told : Option Trace) (went : Went) (v u : View) : Type 0 where
+  pub trace : Trace
+  pub told_is : told ≡ Some trace
+  pub floor : ℕ
+  pub read : FloorRead floor went v u
+  pub whole : IsWhole v.layout floor
+  pub text : List ℕ
+  pub line : IsRevLine text floor
+  pub there : file_at trace (only_name MinUnpackedRev) ≡ Some text
 
-abbrev pub read_back : At → Sat → ℕ → Sat → Type 0
-read_back = Back (λ m u. ReadBy (went_of (failed_of (carried m.1))) (view_of m.0) u)
+-- the file of this name was read, or its size: that of the properties of a revision that the pass has seen, that of the floor, or another
+pub record ReadBy (name : List ℕ) (told : Option Trace) (went : Went) (v u : View) : Type 0 where
+  pub properties : (r : ℕ) (x : Recorded) → slice_get v.seen r ≡ Some x → r < 2 ^ 32 → name ≡ props_name v r → PropsRead r x went v u
+  pub floor : name ≡ only_name MinUnpackedRev → FloorBy told went v u
+  pub onward : ReadOnly v u
+
+abbrev pub read_back : List ℕ → At → Sat → ℕ → Sat → Type 0
+read_back name = Back (λ m u. ReadBy name (trace_of (carried m.1)) (went_of (failed_of (carried m.1))) (view_of m.0) u)
 
 -- ---- a listing
 
@@ -116,25 +132,34 @@ pub record Unmade (v u : View) : Type 0 where
 abbrev pub unmade_back : At → Sat → ℕ → Sat → Type 0
 unmade_back = Back (λ m u. Unmade (view_of m.0) u)
 
+-- so did the call of a pack that is due
+abbrev pub PackUnmade : View → View → Type 0
+PackUnmade v u = (place : DiskPlace) (file bytes : List ℕ) → IsDue v place (Adopt file bytes) → Called place Before v u
+
+abbrev pub pack_unmade_back : At → Sat → ℕ → Sat → Type 0
+pack_unmade_back = Back (λ m u. PackUnmade (view_of m.0) u)
+
 -- ---- labels
 
-abbrev pub BenchedBy : Bool → View → View → Type 0
-BenchedBy failed v u = (x : Drawn) → MayMake v x → (went : Went) × Ended failed went × BenchMade x went v u
+pub record BenchedBy (failed : Bool) (v u : View) : Type 0 where
+  pub made : (x : Drawn) → MayMake v x → (went : Went) × Ended failed went × BenchMade x went v u
+  pub beside : (k : ℕ) → MayBenchPack v k → (went : Went) × Ended failed went × DoneBeside MakeBench went v u
 
 abbrev pub benched_back : At → Sat → ℕ → Sat → Type 0
 benched_back = Back (λ m u. BenchedBy (failed_of (carried m.1)) (view_of m.0) u)
 
--- a label may be kept: that of a transaction whose bench may be made
+-- a label may be kept: that of a transaction whose bench may be made; or that of a pack, by who holds the lock
 abbrev pub MayKeep : View → Label → Type 0
-MayKeep v l = (x : Drawn) × MayMake v x × (l ≡ TxnLabel x.base x.name)
+MayKeep v l = ((x : Drawn) × MayMake v x × (l ≡ TxnLabel x.base x.name)) ⊎ ((k : ℕ) × MayBenchPack v k × (l ≡ PackLabel k))
 
--- a label may be dropped: that of a transaction whose name the pass knows to be given
+-- a label may be dropped: that of a transaction whose name the pass knows to be given; or that of a pack, by who holds the lock and may pack
 abbrev pub MayDrop : View → Label → Type 0
-MayDrop v l = (name : ℕ) × (v.section ≡ None) × IsIn name v.given × (base : ℕ) × (l ≡ TxnLabel base name)
+MayDrop v l = ((name : ℕ) × (v.section ≡ None) × IsIn name v.given × (base : ℕ) × (l ≡ TxnLabel base name)) ⊎ ((k : ℕ) × (v.since.packs ≡ true) × (is_held v.section ≡ true) × (l ≡ PackLabel k))
 
 pub record PurgedBy (failed : Bool) (v u : View) : Type 0 where
   pub under_way : (txn : Txn) → MayPurge v txn → (went : Went) × Ended failed went × Purged txn went v u
   pub no_more : (name : ℕ) → v.section ≡ None → IsIn name v.given → (went : Went) × Ended failed went × SpentPurged name went v u
+  pub beside : is_held v.section ≡ true → (went : Went) × Ended failed went × DoneBeside Remove went v u
 
 -- the seat with so many failures of benches more
 abbrev pub counting : ℕ → SeatView → SeatView
@@ -143,3 +168,19 @@ counting n v = record v { bench_failures = v.bench_failures + n }
 -- with a bench dropped whose calls failed so often
 abbrev pub purged_back : ℕ → At → Sat → ℕ → Sat → Type 0
 purged_back n st m found m' = Back (λ m u. PurgedBy (failed_of (carried m.1)) (view_of m.0) u) st (counting n m.0, m.1) found m'
+
+-- ---- what goes by a pack
+
+-- the own file of this name was there and is gone, or the call failed
+abbrev pub RemovedBy : List ℕ → Bool → View → View → Type 0
+RemovedBy name failed v u = (r : ℕ) → MayRemove v r → name ≡ rev_name v r → (went : Went) × Ended failed went × OldRemoved r went v u
+
+abbrev pub removed_back : List ℕ → At → Sat → ℕ → Sat → Type 0
+removed_back name = Back (λ m u. RemovedBy name (failed_of (carried m.1)) (view_of m.0) u)
+
+-- the call touched no file that the machine speaks of
+abbrev pub BesideBy : Bool → View → View → Type 0
+BesideBy failed v u = (went : Went) × Ended failed went × DoneBeside Remove went v u
+
+abbrev pub beside_back : At → Sat → ℕ → Sat → Type 0
+beside_back = Back (λ m u. BesideBy (failed_of (carried m.1)) (view_of m.0) u)

@@ -1,8 +1,9 @@
 //! The calls of a section.
-ghost use Rattle.std.specs.Prelude.{◌≡◌, [], true, is_err, OnOk, OnErr};
+ghost use Rattle.std.specs.Prelude.{◌≡◌, ◌≢◌, ◌⊎◌, ℕ, List, [], true, is_err, option_map, OnOk, OnErr};
 ghost use Rattle.fsfs_base.specs.Failures.{HasCause};
 ghost use Rattle.fsfs_fetch.specs.Views.{Later};
-ghost use Rattle.fsfs_disk.specs.Trace.{Put, Rename, FirmNames};
+ghost use Rattle.fsfs_disk.specs.Benches.{removed, bytes_on, IsFirmFile};
+ghost use Rattle.fsfs_disk.specs.Trace.{Put, Adopt, Rename, FirmNames};
 ghost use Rattle.fsfs_base.specs.declared.places.place.DiskPlace.{DiskPlace};
 ghost use Rattle.fsfs_machine.specs.declared.machine.Went.{Went};
 ghost use Rattle.fsfs_turn.specs.Views.{IsDue, Answers, Called};
@@ -17,7 +18,7 @@ use crate::seat_calls::gives::{give_called, give_unmade};
 use crate::seats::table::give_back;
 use crate::{Board, SharedSeat, take};
 use fsfs_base::{Failed, Name};
-use fsfs_disk::Disk;
+use fsfs_disk::{Bench, Disk};
 use std::sync::Wait;
 
 /// Makes a new file, firm, and gives it the name: it is due.
@@ -86,6 +87,36 @@ pub fn firm_names<D: Disk + Drop, R: Wait>(
 {
     let mut disk = take(rt, board, seat);
     let answer = disk.firm_names();
+    give_called(board, seat, disk);
+    answer
+}
+
+/// A pack's call: a firm file of its bench gets the name of a pack, or of a manifest, by one change, and the bench has it no more.
+pub fn adopt_part<D: Disk + Drop, R: Wait>(
+    rt: &R,
+    board: &Board<D>,
+    seat: &mut SharedSeat<D>,
+    bench: &mut D::Bench,
+    file: &Name,
+    to: &Name,
+) -> Result<(), Failed>
+    requires table { (seat.old.table_id ≡ board.now.shared.table_id) × (board.now.shared.table_id.words ≡ 3) × (board.now.shared.table_id.slots ≡ 1) × (seat.old.me.1 ≡ []) }
+    requires sits { IsSitting seat.old.me.0 }
+    requires firm { IsFirmFile (D.Bench.contents bench.old) (D.Bench.firm_to bench.old file.now) file.now }
+    requires due { seat.old.me.0.told ≡ true → (place : DiskPlace) × IsDue (view_of seat.old.me.0) place (Adopt to.now (bytes_on (D.Bench.contents bench.old) file.now)) }
+    ensures same { (seat.new.table_id ≡ seat.old.table_id) × (seat.new.id ≡ seat.old.id) × (seat.new.me.1 ≡ []) }
+    ensures back { IsBack (is_err result) seat.old.me.0 seat.new.me.0 }
+    ensures tells { TellsIt seat.new.me.0 }
+    ensures later { Later (seat_store seat.old.me.0) (seat_store seat.new.me.0) }
+    ensures called { seat.old.me.0.told ≡ true → (place : DiskPlace) → IsDue (view_of seat.old.me.0) place (Adopt to.now (bytes_on (D.Bench.contents bench.old) file.now)) → (went : Went) × Answers result went × Called place went (view_of seat.old.me.0) (view_of seat.new.me.0) }
+    ensures gone { OnOk result (D.Bench.contents bench.new ≡ option_map (removed file.now) (D.Bench.contents bench.old)) }
+    ensures left { OnErr result ((D.Bench.contents bench.new ≡ D.Bench.contents bench.old) ⊎ (D.Bench.contents bench.new ≡ option_map (removed file.now) (D.Bench.contents bench.old))) }
+    ensures others { (q : List ℕ) → q ≢ file.now → D.Bench.firm_to bench.new q ≡ D.Bench.firm_to bench.old q }
+    ensures bench_same { D.Bench.faults bench.new ≡ D.Bench.faults bench.old }
+    ensures cause { HasCause seat.old.me.0.failures seat.new.me.0.failures result }
+{
+    let mut disk = take(rt, board, seat);
+    let answer = disk.adopt(bench, file, to);
     give_called(board, seat, disk);
     answer
 }

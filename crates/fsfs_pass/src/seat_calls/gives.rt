@@ -1,21 +1,22 @@
 //! The disk goes back with a call done.
-ghost use Rattle.std.specs.Prelude.{◌≡◌, ◌≤◌, [], ◌∷◌, List, length, true, Option, Some, None, unwrap_or};
+ghost use Rattle.std.specs.Prelude.{◌≡◌, ◌≤◌, [], ◌∷◌, ℕ, List, length, true, Option, Some, None, unwrap_or};
 ghost use Rattle.fsfs_disk.specs.Labels.{Label as KeptLabel};
-ghost use Rattle.fsfs_disk.specs.Trace.{NameChange, KeepLabel};
+ghost use Rattle.fsfs_disk.specs.Trace.{NameChange, Adopt, KeepLabel, Remove as RemoveFile};
 ghost use Rattle.fsfs_base.specs.declared.places.place.DiskPlace.{DiskPlace};
-ghost use Rattle.fsfs_machine.specs.declared.machine.Section.TheVariants.{Begun};
+ghost use Rattle.fsfs_machine.specs.declared.machine.Section.TheVariants.{Begun, Packed};
 ghost use Rattle.fsfs_turn.specs.Views.{rev_name, IsDue};
 ghost use Rattle.fsfs_turn.specs.Adoptions.{NeedsFolder};
 ghost use Rattle.fsfs_turn.specs.Learning.{Listed};
+ghost use Rattle.fsfs_turn.specs.Packing.{MayRemove};
 ghost use Rattle.fsfs_disk.specs.Seen.{DiskSeen, IsLater};
 ghost use Rattle.fsfs_pass.specs.declared.seats.seat_view.Hand.TheVariants.{Out};
 ghost use Rattle.fsfs_pass.specs.Seats.{view_of, IsSitting};
 ghost use Rattle.fsfs_pass.specs.SeatCalls.Made.{Made, Dropped, once, went_of};
-ghost use Rattle.fsfs_pass.specs.SeatCalls.Tells.{GivenBack, CalledBy, Unmade, ReadBy, DrawnBy, MayAdoptIt, IsPutOf, AdoptedBy, no_adoption, BenchedBy, MayKeep, MayDrop, PurgedBy, counting};
+ghost use Rattle.fsfs_pass.specs.SeatCalls.Tells.{GivenBack, CalledBy, Unmade, PackUnmade, ReadBy, DrawnBy, MayAdoptIt, IsPutOf, AdoptedBy, no_adoption, BenchedBy, MayKeep, MayDrop, PurgedBy, counting, RemovedBy, BesideBy};
 
 use crate::seat_calls::plays::{
-    Committing, Drawing, Dropping, GiveAdopted, GiveBenched, GiveCalled, GiveDrawn, GiveListed,
-    GivePurged, GiveRead, GiveUnmade,
+    Committing, Drawing, Dropping, GiveAdopted, GiveBenched, GiveBeside, GiveCalled, GiveDrawn,
+    GiveListed, GivePackUnmade, GivePurged, GiveRead, GiveRemoved, GiveUnmade, Naming,
 };
 use crate::{Board, SharedSeat};
 use fsfs_base::{Name, Note, RevNum};
@@ -58,8 +59,8 @@ pub(crate) fn give_unmade<D: Disk + Drop>(
     board.shared.store::<GiveUnmade>(seat, 0, 0);
 }
 
-/// With something read, or the size of a file asked for.
-pub(crate) fn give_read<D: Disk + Drop>(
+/// With the folder of a pack not made, so that the pack can't get its name.
+pub(crate) fn give_pack_unmade<D: Disk + Drop>(
     board: &Board<D>,
     seat: &mut SharedSeat<D>,
     disk: SharedDisk<D>,
@@ -67,12 +68,72 @@ pub(crate) fn give_read<D: Disk + Drop>(
     requires table { (seat.old.table_id ≡ board.now.shared.table_id) × (board.now.shared.table_id.words ≡ 3) × (board.now.shared.table_id.slots ≡ 1) × (seat.old.me.1 ≡ (0, None) ∷ []) }
     requires sits { IsSitting seat.old.me.0 }
     requires out { (was : DiskSeen) × (seat.old.me.0.hand ≡ Out was) × IsLater (once disk.failed) 0 was disk × (disk.trace ≡ was.trace) }
+    requires due { seat.old.me.0.told ≡ true → (place : DiskPlace) × (file : List ℕ) × (bytes : List ℕ) × IsDue (view_of seat.old.me.0) place (Adopt file bytes) }
     ensures same { (seat.new.table_id ≡ seat.old.table_id) × (seat.new.id ≡ seat.old.id) × (seat.new.me.1 ≡ []) }
-    ensures given { GivenBack (λ u. ReadBy (went_of disk.failed) (view_of seat.old.me.0) u) disk.failed disk.trace seat.old.me.0 seat.new.me.0 }
+    ensures given { GivenBack (λ u. PackUnmade (view_of seat.old.me.0) u) disk.failed disk.trace seat.old.me.0 seat.new.me.0 }
 {
     disk.files_are_short();
     board.shared.exchange(seat, 0, Some(disk));
-    board.shared.store::<GiveRead>(seat, 0, 0);
+    board.shared.store::<GivePackUnmade>(seat, 0, 0);
+}
+
+/// With the file of this name read, or its size asked for.
+pub(crate) fn give_read<K: Naming, D: Disk + Drop>(
+    board: &Board<D>,
+    seat: &mut SharedSeat<D>,
+    disk: SharedDisk<D>,
+    name: &Name,
+)
+    requires name { name.now ≡ K.name }
+    requires table { (seat.old.table_id ≡ board.now.shared.table_id) × (board.now.shared.table_id.words ≡ 3) × (board.now.shared.table_id.slots ≡ 1) × (seat.old.me.1 ≡ (0, None) ∷ []) }
+    requires sits { IsSitting seat.old.me.0 }
+    requires out { (was : DiskSeen) × (seat.old.me.0.hand ≡ Out was) × IsLater (once disk.failed) 0 was disk × (disk.trace ≡ was.trace) }
+    ensures same { (seat.new.table_id ≡ seat.old.table_id) × (seat.new.id ≡ seat.old.id) × (seat.new.me.1 ≡ []) }
+    ensures given { GivenBack (λ u. ReadBy name.now disk.trace (went_of disk.failed) (view_of seat.old.me.0) u) disk.failed disk.trace seat.old.me.0 seat.new.me.0 }
+{
+    let _ = name;
+    disk.files_are_short();
+    board.shared.exchange(seat, 0, Some(disk));
+    board.shared.store::<GiveRead<K>>(seat, 0, 0);
+}
+
+/// With the own file of a packed revision gone, or the call failed.
+pub(crate) fn give_removed<K: Naming, D: Disk + Drop>(
+    board: &Board<D>,
+    seat: &mut SharedSeat<D>,
+    disk: SharedDisk<D>,
+    name: &Name,
+)
+    requires name { name.now ≡ K.name }
+    requires table { (seat.old.table_id ≡ board.now.shared.table_id) × (board.now.shared.table_id.words ≡ 3) × (board.now.shared.table_id.slots ≡ 1) × (seat.old.me.1 ≡ (0, None) ∷ []) }
+    requires sits { IsSitting seat.old.me.0 }
+    requires made { (was : DiskSeen) × (seat.old.me.0.hand ≡ Out was) × IsLater (once disk.failed) 0 was disk × Made disk.failed (RemoveFile name.now) was.trace disk.trace }
+    requires may { seat.old.me.0.told ≡ true → (r : ℕ) × MayRemove (view_of seat.old.me.0) r × (name.now ≡ rev_name (view_of seat.old.me.0) r) }
+    ensures same { (seat.new.table_id ≡ seat.old.table_id) × (seat.new.id ≡ seat.old.id) × (seat.new.me.1 ≡ []) }
+    ensures given { GivenBack (λ u. RemovedBy name.now disk.failed (view_of seat.old.me.0) u) disk.failed disk.trace seat.old.me.0 seat.new.me.0 }
+{
+    let _ = name;
+    disk.files_are_short();
+    board.shared.exchange(seat, 0, Some(disk));
+    board.shared.store::<GiveRemoved<K>>(seat, 0, 0);
+}
+
+/// With a call done, or failed, that touched no file: with the lock held behind a pack.
+pub(crate) fn give_beside<D: Disk + Drop>(
+    board: &Board<D>,
+    seat: &mut SharedSeat<D>,
+    disk: SharedDisk<D>,
+)
+    requires table { (seat.old.table_id ≡ board.now.shared.table_id) × (board.now.shared.table_id.words ≡ 3) × (board.now.shared.table_id.slots ≡ 1) × (seat.old.me.1 ≡ (0, None) ∷ []) }
+    requires sits { IsSitting seat.old.me.0 }
+    requires out { (was : DiskSeen) × (seat.old.me.0.hand ≡ Out was) × IsLater (once disk.failed) 0 was disk × (disk.trace ≡ was.trace) }
+    requires may { seat.old.me.0.told ≡ true → seat.old.me.0.section ≡ Some Packed }
+    ensures same { (seat.new.table_id ≡ seat.old.table_id) × (seat.new.id ≡ seat.old.id) × (seat.new.me.1 ≡ []) }
+    ensures given { GivenBack (λ u. BesideBy disk.failed (view_of seat.old.me.0) u) disk.failed disk.trace seat.old.me.0 seat.new.me.0 }
+{
+    disk.files_are_short();
+    board.shared.exchange(seat, 0, Some(disk));
+    board.shared.store::<GiveBeside>(seat, 0, 0);
 }
 
 /// With the labels listed.
@@ -137,7 +198,7 @@ pub(crate) fn give_adopted<K: Committing, D: Disk + Drop>(
     board.shared.store::<GiveAdopted<K>>(seat, 0, 0);
 }
 
-/// With the bench of a new transaction made.
+/// With the bench of a new transaction made, or of a pack.
 pub(crate) fn give_benched<D: Disk + Drop>(
     board: &Board<D>,
     seat: &mut SharedSeat<D>,

@@ -10,7 +10,9 @@ ghost use Rattle.fsfs_machine.specs.declared.machine.Went.{Went};
 ghost use Rattle.fsfs_machine.specs.declared.machine.Went.TheVariants.{Fine, Before};
 ghost use Rattle.fsfs_machine.specs.Kept.{IsIn};
 ghost use Rattle.fsfs_turn.specs.Labels.{Relabels, MayRelabel, Drops};
-ghost use Rattle.fsfs_turn.specs.Views.{Answers};
+ghost use Rattle.fsfs_base.specs.declared.places.place.DiskPlace.TheVariants.{MakeBench, Remove};
+ghost use Rattle.fsfs_turn.specs.Packing.{DoneBeside, MayBenchPack};
+ghost use Rattle.fsfs_turn.specs.Views.{Answers, is_held};
 ghost use Rattle.fsfs_turn.specs.Learning.{Listed, MayMake, BenchMade, MayPurge, Purged, SpentPurged};
 ghost use Rattle.fsfs_pass.specs.declared.seats.seat_view.Hand.TheVariants.{Empty};
 ghost use Rattle.fsfs_pass.specs.Seats.{view_of, IsSitting};
@@ -75,7 +77,8 @@ pub fn list<D: Disk + Drop, R: Wait>(
     }
 }
 
-/// A begin's last call: keeps the label of a transaction whose name was given, and makes an empty bench for it.
+/// A begin's last call: keeps the label of a transaction whose name was given, and makes an empty bench for it. Or, with the lock held,
+/// the label of the shard that is packed next, with its bench.
 pub fn bench<D: Disk + Drop, R: Wait>(
     rt: &R,
     board: &Board<D>,
@@ -90,6 +93,7 @@ pub fn bench<D: Disk + Drop, R: Wait>(
     ensures tells { TellsIt seat.new.me.0 }
     ensures later { Later (seat_store seat.old.me.0) (seat_store seat.new.me.0) }
     ensures made { seat.old.me.0.told ≡ true → (x : Drawn) → MayMake (view_of seat.old.me.0) x → (went : Went) × Answers result went × BenchMade x went (view_of seat.old.me.0) (view_of seat.new.me.0) }
+    ensures beside { seat.old.me.0.told ≡ true → (k : ℕ) → MayBenchPack (view_of seat.old.me.0) k → (went : Went) × Answers result went × DoneBeside MakeBench went (view_of seat.old.me.0) (view_of seat.new.me.0) }
     ensures kept { OnOk result (Relabels seat.old.me.0.told (with_label (label_of label.now)) (seat_labels seat.old.me.0) (seat_labels seat.new.me.0)) }
     ensures left { OnErr result (MayRelabel seat.old.me.0.told (with_label (label_of label.now)) (seat_labels seat.old.me.0) (seat_labels seat.new.me.0)) }
     ensures empty { IfOk result (λ bench. D.Bench.contents bench ≡ option_map (λ _. empty) (seat_labels seat.new.me.0)) }
@@ -120,6 +124,7 @@ pub fn drop_bench<D: Disk + Drop, R: Wait>(
     ensures later { Later (seat_store seat.old.me.0) (seat_store seat.new.me.0) }
     ensures purged { seat.old.me.0.told ≡ true → (txn : Txn) → MayPurge (view_of seat.old.me.0) txn → (went : Went) × Answers result went × Purged txn went (view_of seat.old.me.0) (view_of seat.new.me.0) }
     ensures spent { seat.old.me.0.told ≡ true → (name : ℕ) → seat.old.me.0.section ≡ None → IsIn name seat.old.me.0.given → (went : Went) × Answers result went × SpentPurged name went (view_of seat.old.me.0) (view_of seat.new.me.0) }
+    ensures beside { seat.old.me.0.told ≡ true → is_held seat.old.me.0.section ≡ true → (went : Went) × Answers result went × DoneBeside Remove went (view_of seat.old.me.0) (view_of seat.new.me.0) }
     ensures dropped { IfOk result (λ there. Drops seat.old.me.0.told (label_of label.now) there (seat_labels seat.old.me.0) (seat_labels seat.new.me.0)) }
     ensures left { OnErr result (MayRelabel seat.old.me.0.told (without_label (label_of label.now)) (seat_labels seat.old.me.0) (seat_labels seat.new.me.0)) }
     ensures cause { HasCause seat.old.me.0.failures seat.new.me.0.failures result }

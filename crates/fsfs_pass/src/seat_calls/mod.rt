@@ -5,5 +5,6 @@ pub(crate) mod calls;
 pub(crate) mod firsts;
 pub(crate) mod gives;
 pub(crate) mod labels;
+pub(crate) mod packs;
 pub(crate) mod plays;
 pub(crate) mod reads;

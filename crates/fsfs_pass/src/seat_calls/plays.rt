@@ -23,12 +23,51 @@ impl<D: Disk> Play<Option<SharedDisk<D>>, SeatView> for GiveUnmade {
     ghost then = { unmade_back };
 }
 
-pub(crate) struct GiveRead;
+pub(crate) struct GivePackUnmade;
 
-impl<D: Disk> Play<Option<SharedDisk<D>>, SeatView> for GiveRead {
+impl<D: Disk> Play<Option<SharedDisk<D>>, SeatView> for GivePackUnmade {
+    ghost use Rattle.fsfs_pass.specs.SeatCalls.Tells.{pack_unmade_back};
+
+    ghost then = { pack_unmade_back };
+}
+
+/// Of which file something is read, or which one goes. Each call picks it.
+pub(crate) trait Naming {
+    ghost name: { List ℕ };
+}
+
+impl Naming for Brand {
+    ghost use Rattle.std.specs.Prelude.{[]};
+
+    ghost name = { [] };
+}
+
+pub(crate) struct GiveRead<K> {
+    of: PhantomData<K>,
+}
+
+impl<K: Naming, D: Disk> Play<Option<SharedDisk<D>>, SeatView> for GiveRead<K> {
     ghost use Rattle.fsfs_pass.specs.SeatCalls.Tells.{read_back};
 
-    ghost then = { read_back };
+    ghost then = { read_back K.name };
+}
+
+pub(crate) struct GiveRemoved<K> {
+    of: PhantomData<K>,
+}
+
+impl<K: Naming, D: Disk> Play<Option<SharedDisk<D>>, SeatView> for GiveRemoved<K> {
+    ghost use Rattle.fsfs_pass.specs.SeatCalls.Tells.{removed_back};
+
+    ghost then = { removed_back K.name };
+}
+
+pub(crate) struct GiveBeside;
+
+impl<D: Disk> Play<Option<SharedDisk<D>>, SeatView> for GiveBeside {
+    ghost use Rattle.fsfs_pass.specs.SeatCalls.Tells.{beside_back};
+
+    ghost then = { beside_back };
 }
 
 pub(crate) struct GiveListed;

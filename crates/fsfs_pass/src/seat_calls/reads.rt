@@ -10,6 +10,7 @@ ghost use Rattle.fsfs_fetch.specs.Views.{Later};
 ghost use Rattle.fsfs_disk.specs.Trace.{IsRead, IsSize};
 ghost use Rattle.fsfs_machine.specs.declared.machine.Recorded.{Recorded};
 ghost use Rattle.fsfs_machine.specs.declared.machine.Went.{Went};
+ghost use Rattle.fsfs_turn.specs.Past.{IsWhole};
 ghost use Rattle.fsfs_turn.specs.Views.{props_name, Answers};
 ghost use Rattle.fsfs_turn.specs.Courses.{ReadOnly};
 ghost use Rattle.fsfs_turn.specs.Learning.{PropsRead, FloorRead};
@@ -22,10 +23,11 @@ use crate::seat_calls::gives::give_read;
 use crate::{Board, SharedSeat, take};
 use fsfs_base::{Failed, Name};
 use fsfs_disk::Disk;
+use std::marker::Brand;
 use std::sync::Wait;
 
 /// Fills the buffer from an offset on, as far as the file goes. It gives the properties of a revision that the pass has seen, and the
-/// floor. `None`: there is no such file.
+/// floor, which is that of whole shards. `None`: there is no such file.
 pub fn read<D: Disk + Drop, R: Wait>(
     rt: &R,
     board: &Board<D>,
@@ -46,12 +48,12 @@ pub fn read<D: Disk + Drop, R: Wait>(
     ensures properties { seat.old.me.0.told ≡ true → (r : ℕ) (x : Recorded) → slice_get seat.old.me.0.seen r ≡ Some x → r < 2 ^ 32 → name.now ≡ props_name (view_of seat.old.me.0) r
         → (went : Went) × (text : List ℕ) × Answers result went × PropsRead r x went (view_of seat.old.me.0) (view_of seat.new.me.0) × IsDump text x.revision.properties × IfOk result (IsRead (Some text) offset buffer.old buffer.new) }
     ensures floor { seat.old.me.0.told ≡ true → name.now ≡ only_name MinUnpackedRev
-        → (went : Went) × (floor : ℕ) × (text : List ℕ) × Answers result went × FloorRead floor went (view_of seat.old.me.0) (view_of seat.new.me.0) × IsRevLine text floor × IfOk result (IsRead (Some text) offset buffer.old buffer.new) }
+        → (went : Went) × (floor : ℕ) × (text : List ℕ) × Answers result went × FloorRead floor went (view_of seat.old.me.0) (view_of seat.new.me.0) × IsWhole seat.old.me.0.layout floor × IsRevLine text floor × IfOk result (IsRead (Some text) offset buffer.old buffer.new) }
     ensures cause { HasCause seat.old.me.0.failures seat.new.me.0.failures result }
 {
     let mut disk = take(rt, board, seat);
     let answer = disk.read(name, offset, buffer);
-    give_read(board, seat, disk);
+    give_read::<Brand, D>(board, seat, disk, name);
     answer
 }
 
@@ -74,6 +76,6 @@ pub fn size<D: Disk + Drop, R: Wait>(
 {
     let mut disk = take(rt, board, seat);
     let answer = disk.size(name);
-    give_read(board, seat, disk);
+    give_read::<Brand, D>(board, seat, disk, name);
     answer
 }

@@ -1,5 +1,5 @@
 //! The rule of the table, and what each step tells.
-ghost use Rattle.std.specs.Prelude.{ℕ, List};
+ghost use Rattle.std.specs.Prelude.{ℕ, List, Bool};
 ghost use Rattle.fsfs_disk.specs.Seen.{DiskSeen};
 
 use crate::seats::seat_view::{Beginning, SeatView};
@@ -68,9 +68,11 @@ impl<D: Disk> Play<Option<SharedDisk<D>>, SeatView> for Reveal {
     ghost then = { revealed };
 }
 
-/// With which disk the table began, and which names were given then. Each call picks it.
+/// With which disk the table began, whether its passes may pack, and which names were given then. Each call picks it.
 pub(crate) trait Began {
     ghost disk: { DiskSeen };
+
+    ghost packs: { Bool };
 
     ghost names: { List ℕ };
 }
@@ -79,6 +81,8 @@ impl Began for Brand {
     ghost use Rattle.std.specs.Prelude.{[], None, false};
 
     ghost disk = { record { mount_path = []; trace = None; faults = 0; bench_faults = 0; failed = false } };
+
+    ghost packs = { false };
 
     ghost names = { [] };
 }
@@ -90,7 +94,7 @@ pub(crate) struct Take<K> {
 impl<K: Began, D: Disk> Play<Option<SharedDisk<D>>, SeatView> for Take<K> {
     ghost use Rattle.fsfs_pass.specs.Tells.{taken};
 
-    ghost then = { taken K.disk K.names };
+    ghost then = { taken K.disk K.packs K.names };
 }
 
 pub(crate) struct GiveBack;

@@ -42,8 +42,8 @@ pub fn start<D: Disk + Drop>(
     requires known { IsFirst layout floor young (D.trace disk) about.now.value }
     ensures sized { IfOk result (λ r. (r.1.table_id ≡ r.0.shared.table_id) × (r.0.shared.table_id.words ≡ 3) × (r.0.shared.table_id.slots ≡ 1) × (r.1.me ≡ (nameless_view about.now.value, []))) }
     ensures began { IfOk result (λ r. (r.0.shared.key.value.disk.mount_path ≡ D.mount_path disk) × (r.0.shared.key.value.disk.faults ≡ D.faults disk) × (r.0.shared.key.value.disk.bench_faults ≡ D.bench_faults disk)) }
-    // With which labels, and which names had been given.
-    ensures labels { IfOk result (λ r. (r.0.shared.key.value.disk.trace ≡ D.trace disk) × (r.0.shared.key.value.seat.given ≡ about.now.value.given)) }
+    // With which labels, which names had been given, and whether passes may pack.
+    ensures labels { IfOk result (λ r. (r.0.shared.key.value.disk.trace ≡ D.trace disk) × (r.0.shared.key.value.seat.given ≡ about.now.value.given) × (r.0.shared.key.value.seat.since.packs ≡ about.now.value.since.packs)) }
     ensures back { IfErr result (λ d. (D.mount_path d ≡ D.mount_path disk) × (D.trace d ≡ D.trace disk) × (D.faults d ≡ D.faults disk) × (D.bench_faults d ≡ D.bench_faults disk)) }
 {
     let shared = SharedDisk::new(disk);
@@ -78,8 +78,9 @@ pub fn close<D: Disk + Drop, R: Wait>(rt: &R, board: Board<D>, seat: SharedSeat<
     ensures later { board.shared.key.value.disk.faults ≤ D.faults result }
     ensures rose { min (board.shared.key.value.disk.faults + seat.me.0.failures) (2 ^ 64 - 1) ≤ D.faults result }
     ensures benches { min (board.shared.key.value.disk.bench_faults + seat.me.0.bench_failures) (2 ^ 64 - 1) ≤ D.bench_faults result }
-    // Of the labels that were kept as the table began all are, and no more, but for transactions whose names are above those that were given then.
-    ensures labels { KeepsOthersOf board.shared.key.value.seat.given board.shared.key.value.disk.trace (D.trace result) }
+    // Of the labels that were kept as the table began all are, and no more, but for transactions whose names are above those that were given then,
+    // and for packs where passes may pack.
+    ensures labels { KeepsOthersOf board.shared.key.value.seat.since.packs board.shared.key.value.seat.given board.shared.key.value.disk.trace (D.trace result) }
     ensures met { (t : Trace) → D.trace result ≡ Some t → IsMet seat.me.0 t }
 {
     let mut seat = seat;

@@ -89,6 +89,8 @@ pub struct SeatView {
     pub given: Names,
     // it has met the last number that a name has digits for in `txn-current`
     pub full: bool,
+    // the firm floor, where it holds the lock and was told since it took it
+    pub firm: Option<u64>,
     pub told: bool,
     pub hand: Hand,
     // the trace of the disk as the pass met it last, at a look, at a reveal, or by a call of the disk

@@ -117,7 +117,7 @@ fn take_of<K: Began, D: Disk, R: Wait>(
     board: &Board<D>,
     seat: &mut SharedSeat<D>,
 ) -> SharedDisk<D>
-    requires began { (board.now.shared.key.value.disk ≡ K.disk) × (board.now.shared.key.value.seat.given ≡ K.names) }
+    requires began { (board.now.shared.key.value.disk ≡ K.disk) × (board.now.shared.key.value.seat.since.packs ≡ K.packs) × (board.now.shared.key.value.seat.given ≡ K.names) }
     requires table { (seat.old.table_id ≡ board.now.shared.table_id) × (board.now.shared.table_id.words ≡ 3) × (board.now.shared.table_id.slots ≡ 1) × (seat.old.me.1 ≡ []) }
     requires sits { IsSitting seat.old.me.0 }
     ensures same { (seat.new.table_id ≡ seat.old.table_id) × (seat.new.id ≡ seat.old.id) }
@@ -125,7 +125,7 @@ fn take_of<K: Began, D: Disk, R: Wait>(
     ensures told { seat.old.me.0.told ≡ is_some result.trace }
     ensures alone { seat.old.me.0.kin.parts ≡ all_parts → result.trace ≡ seat.old.me.0.met }
     ensures later { IsLater seat.old.me.0.failures seat.old.me.0.bench_failures K.disk result }
-    ensures labels { KeepsOthersOf K.names K.disk.trace result.trace }
+    ensures labels { KeepsOthersOf K.packs K.names K.disk.trace result.trace }
     ensures met { (t : Trace) → result.trace ≡ Some t → IsMet seat.old.me.0 t }
 {
     for _ in rt.forever() {
@@ -148,8 +148,9 @@ pub fn take<D: Disk, R: Wait>(rt: &R, board: &Board<D>, seat: &mut SharedSeat<D>
     ensures alone { seat.old.me.0.kin.parts ≡ all_parts → result.trace ≡ seat.old.me.0.met }
     // It is that with which the table began; as many of its calls have failed as failed of the pass's, or more, and as many of those of benches.
     ensures later { IsLater seat.old.me.0.failures seat.old.me.0.bench_failures board.now.shared.key.value.disk result }
-    // Of the labels that were kept as the table began all are, and no more, but for transactions whose names are above those that were given then.
-    ensures labels { KeepsOthersOf board.now.shared.key.value.seat.given board.now.shared.key.value.disk.trace result.trace }
+    // Of the labels that were kept as the table began all are, and no more, but for transactions whose names are above those that were given then,
+    // and for packs where passes may pack.
+    ensures labels { KeepsOthersOf board.now.shared.key.value.seat.since.packs board.now.shared.key.value.seat.given board.now.shared.key.value.disk.trace result.trace }
     ensures met { (t : Trace) → result.trace ≡ Some t → IsMet seat.old.me.0 t }
 {
     take_of::<Brand, D, R>(rt, board, seat)

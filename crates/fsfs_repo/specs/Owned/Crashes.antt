@@ -25,12 +25,12 @@ pub record Survives (layout : Layout) (t : Trace) (v : View) : Type 0 where
   pub left : v.section ≡ None → doubt ≡ v.left
   pub moments : (m : Files) → ImageSince v.since.operations t.first t.operations m → (g : List Recorded) × IsPart v.seen doubt g × (v.opened ≤ length g) × HasHistory layout m g × StandsFor m (revisions g)
   -- it leaves the files that no turn changes in their formats, and with the bytes that they had at the opening
-  pub own : (m : Files) → ImageSince v.since.operations t.first t.operations m → KeepsOwnFiles layout v.since.files m
+  pub own : (m : Files) → ImageSince v.since.operations t.first t.operations m → KeepsOwnFiles layout v.since m
   pub whole : (m : Files) → IsImage t.first t.operations m → (r : ℕ) (x : Recorded) → slice_get v.seen r ≡ Some x → HasRevision layout m r x
   pub named : (m : Files) → IsImage t.first t.operations m → NamesFrom m (length v.seen)
   -- it leaves a repository that stands for what the pass has seen, or for that with the revision in doubt
   pub stands : (m : Files) → IsImage t.first t.operations m → (g : List Recorded) × IsPart v.seen doubt g × (length v.seen ≤ length g) × StandsFor m (revisions g)
-  -- for what it has seen, where the pass is in no section and none of its faults left a revision in doubt
+  -- for what it has seen, where the pass is in no section and none of its faults left the lock stuck
   pub doubtless : v.section ≡ None → are_harmless v.pass.faults ≡ true → (m : Files) → IsImage t.first t.operations m → StandsFor m (revisions v.seen)
 
 abbrev pub CrashesLeave : Layout → Option Trace → View → Type 0

@@ -33,7 +33,7 @@ pub record Leaves (v : SeatView) (t : Trace) : Type 0 where
   pub moments : (m : Files) → ImageSince v.since.operations t.first t.operations m → (g : List Recorded) × IsPart history doubt g × (v.opened ≤ length g) × HasHistory v.layout m g × StandsFor m (revisions g)
   pub now : (m : Files) → IsImage t.first t.operations m → (g : List Recorded) × IsPart history doubt g × (length history ≤ length g) × HasHistory v.layout m g × StandsFor m (revisions g)
   -- each of all these has the files that no turn changes, in their formats and with the bytes that they had at the opening
-  pub own : (m : Files) → ImageSince v.since.operations t.first t.operations m → KeepsOwnFiles v.layout v.since.files m
+  pub own : (m : Files) → ImageSince v.since.operations t.first t.operations m → KeepsOwnFiles v.layout v.since m
   -- so what the pass has seen is whole there
   pub whole : (m : Files) → IsImage t.first t.operations m → (r : ℕ) (x : Recorded) → slice_get v.seen r ≡ Some x → HasRevision v.layout m r x
   pub named : (m : Files) → IsImage t.first t.operations m → NamesFrom m (length v.seen)

@@ -16,7 +16,7 @@ use Rattle.fsfs_txn.specs.Standing.{Stands}
 -- BEGUN: the name is known to be given. The transaction stands for the tree of its base, a revision that the pass has seen, without marks;
 -- and the pass is in no section.
 pub record BeginsTxn (name : TxnName) (base : ℕ) (settled : Folder) (v u : View) : Type 0 where
-  pub is : u ≡ record v { pass = record v.pass { seen = length u.seen; least = u.pass.least }; seen = u.seen; section = None; sure = false; given = name.number.number ∷ v.given }
+  pub is : u ≡ record v { pass = record v.pass { seen = length u.seen; least = u.pass.least }; seen = u.seen; section = None; sure = false; firm = u.firm; given = name.number.number ∷ v.given }
   -- it was told a revision as young as before or younger, and has seen that
   pub least : v.pass.least ≤ u.pass.least
   pub all : u.pass.least < length u.seen
@@ -30,7 +30,7 @@ pub record BeginsTxn (name : TxnName) (base : ℕ) (settled : Folder) (v u : Vie
 -- The same of a pass beside others: it may have read more of the history, and faults of reads may have come, none of which leaves a revision
 -- in doubt.
 pub record BeginsTxnAmong (name : TxnName) (base : ℕ) (settled : Folder) (v u : View) : Type 0 where
-  pub is : u ≡ record v { pass = record v.pass { seen = length u.seen; least = u.pass.least; faults = u.pass.faults; floor = u.pass.floor }; seen = u.seen; section = None; sure = false; given = name.number.number ∷ v.given }
+  pub is : u ≡ record v { pass = record v.pass { seen = length u.seen; least = u.pass.least; faults = u.pass.faults; floor = u.pass.floor }; seen = u.seen; section = None; sure = false; firm = u.firm; given = name.number.number ∷ v.given }
   pub least : v.pass.least ≤ u.pass.least
   pub all : u.pass.least < length u.seen
   pub based : base < length u.seen

@@ -9,12 +9,12 @@ use Rattle.fsfs_machine.specs.declared.machine.Went.{Went}
 use Rattle.fsfs_machine.specs.declared.machine.Went.TheVariants.{Fine}
 use Rattle.fsfs_machine.specs.declared.machine.Step.TheVariants.{PurgeSpent}
 use Rattle.fsfs_machine.specs.Machine.{is_fine_in}
-use Rattle.fsfs_turn.specs.Alone.{BringsNoDoubt, brings_doubt}
+use Rattle.fsfs_turn.specs.Alone.{BringsNoDoubt}
 use Rattle.fsfs_turn.specs.Learning.{with_spent}
 use Rattle.fsfs_turn.specs.Views.{View}
 use Rattle.fsfs_begin.specs.Purged.{HasPurged, HasNotPurged}
 use Rattle.fsfs_commit.specs.Courses.{StoppedAt}
-use Rattle.fsfs_commit.specs.Replies.{Committed, Drifted, LeavesDoubt, Moved, Wrote}
+use Rattle.fsfs_commit.specs.Replies.{Committed, Drifted, LeavesDoubt, Moved, Wrote, brings_doubt}
 use Rattle.fsfs_commit.specs.Works.{Landings}
 use Rattle.fsfs_commit.specs.Transaction.Dating.{IsDatedAt}
 use Rattle.fsfs_commit.specs.Transaction.Refusals.{IsClashAt}

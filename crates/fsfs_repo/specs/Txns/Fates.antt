@@ -2,7 +2,6 @@
 use Rattle.std.specs.Prelude.{◌≡◌, ℕ, List, false}
 use Rattle.fsfs_base.specs.declared.places.place.DiskPlace.TheVariants as place
 use Rattle.fsfs_machine.specs.declared.machine.Txn.{Txn}
-use Rattle.fsfs_turn.specs.Alone.{brings_doubt}
 use Rattle.fsfs_turn.specs.Views.{View}
 use Rattle.fsfs_commit.specs.declared.committing.CommitFault.{CommitFault}
 use Rattle.fsfs_commit.specs.declared.committing.CommitFault.TheVariants as faults
@@ -11,7 +10,7 @@ use Rattle.fsfs_commit.specs.declared.transaction.refusal.CommitRefusal.TheVaria
 use Rattle.fsfs_repo.specs.declared.txns.answers.CommitBar.TheVariants as bars
 use Rattle.fsfs_repo.specs.declared.txns.answers.Fate.{Fate}
 use Rattle.fsfs_repo.specs.declared.txns.answers.Fate.TheVariants as fates
-use Rattle.fsfs_commit.specs.Replies.{LeavesDoubt, Wrote}
+use Rattle.fsfs_commit.specs.Replies.{LeavesDoubt, Wrote, brings_doubt}
 use Rattle.fsfs_repo.specs.Txns.Commits.{Bars, FailsAt}
 
 abbrev pub of_refusal : CommitRefusal → Fate

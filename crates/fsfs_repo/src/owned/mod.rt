@@ -3,6 +3,7 @@
 pub(crate) mod beginning;
 pub(crate) mod committing;
 pub(crate) mod listing;
+pub(crate) mod packing;
 pub(crate) mod purging;
 pub(crate) mod reading;
 pub(crate) mod repo;

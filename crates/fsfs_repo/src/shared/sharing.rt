@@ -70,8 +70,8 @@ impl<D: Disk + Drop> SharedRepo<D> {
         // With all parts nobody else changed the disk: the pass has met it so.
         ensures alone { seat.me.0.kin.parts ≡ all_parts → D.trace result ≡ seat.me.0.met }
         // Of the labels that were kept as the table began (`labels` of `open`) all are, and no more, but for transactions whose names are above those that
-        // were given then.
-        ensures labels { KeepsOthersOf self.board.shared.key.value.seat.given self.board.shared.key.value.disk.trace (D.trace result) }
+        // were given then, and for packs where passes may pack.
+        ensures labels { KeepsOthersOf self.board.shared.key.value.seat.since.packs self.board.shared.key.value.seat.given self.board.shared.key.value.disk.trace (D.trace result) }
         // It is the disk with which the table began (`began` of `open`), and as many of its calls have failed as failed of the pass's, or more, and as
         // many of those of benches.
         ensures mounted { D.mount_path result ≡ self.board.shared.key.value.disk.mount_path }

@@ -5,7 +5,7 @@ ghost use Rattle.fsfs_machine.specs.declared.machine.Txn.{Txn as MachineTxn};
 ghost use Rattle.fsfs_machine.specs.Kept.{IsIn};
 ghost use Rattle.fsfs_turn.specs.Mountings.{RoseBy};
 ghost use Rattle.fsfs_turn.specs.Views.{View};
-ghost use Rattle.fsfs_repo.specs.Txns.Begun.{BeginsTxnAmong};
+ghost use Rattle.fsfs_job_run.specs.TxnBegun.{BeginsTxnAmong};
 ghost use Rattle.fsfs_script.specs.declared.job_lines.job.Job.TheVariants as jobs;
 ghost use Rattle.fsfs_jobs.specs.Properties.{undated_properties};
 ghost use Rattle.fsfs_jobs.specs.Serial.{base_of as base_in};
@@ -19,9 +19,10 @@ use crate::jobs::noting::note_edited;
 use fsfs_base::{Gate, Pairs, RevNum};
 use fsfs_cli::{Fault, OutsideFault};
 use fsfs_draft::Own;
-use fsfs_job_run::{barred, of_begin, stopped};
+use fsfs_job_run::{
+    CommitAnswer, HeldNodes, Txn, barred, begin_txn, commit_txn, of_begin, purge_txn, stopped,
+};
 use fsfs_jobs::{JobAnswer, Stopped, properties_of};
-use fsfs_repo::{CommitAnswer, HeldNodes, Txn, begin_txn, commit_txn, purge_txn};
 use fsfs_script::CommitJob;
 use fsfs_turn::Turns;
 use std::alloc::Global;

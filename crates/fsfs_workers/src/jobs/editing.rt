@@ -8,14 +8,14 @@ ghost use Rattle.fsfs_turn.specs.Bytes.{bytes_of};
 ghost use Rattle.fsfs_turn.specs.Courses.{ReadOnly};
 ghost use Rattle.fsfs_turn.specs.Labels.{KeepsLabels};
 ghost use Rattle.fsfs_turn.specs.Views.{View, Looked};
-ghost use Rattle.fsfs_repo.specs.TxnStanding.{Stands};
+ghost use Rattle.fsfs_job_run.specs.TxnStanding.{Stands};
 ghost use Rattle.fsfs_jobs.specs.JobEdits.Editing.{AreEditing, IfBench, IfDisk};
 ghost use Rattle.fsfs_workers.specs.Working.{up_to};
 
 use fsfs_base::RevNum;
 use fsfs_draft::Own;
+use fsfs_job_run::{HeldNodes, Txn};
 use fsfs_jobs::{Stopped, do_edits};
-use fsfs_repo::{HeldNodes, Txn};
 use fsfs_script::Steps;
 use fsfs_turn::{Turns, over_pass, pass_of};
 use std::alloc::Global;

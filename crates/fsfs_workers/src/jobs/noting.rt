@@ -2,12 +2,12 @@
 ghost use Rattle.std.specs.Prelude.{◌≡◌, true};
 ghost use Rattle.fsfs_machine.specs.declared.machine.Txn.{Txn as MachineTxn};
 ghost use Rattle.fsfs_turn.specs.Views.{View};
-ghost use Rattle.fsfs_repo.specs.Txns.Standings.{NotesOne};
+ghost use Rattle.fsfs_job_run.specs.TxnStandings.{NotesOne};
 ghost use Rattle.fsfs_workers.specs.Working.{IsEditedNoted, IsEditedTxn};
 
 use fsfs_base::{Claims, Note, RevNum};
 use fsfs_draft::Own;
-use fsfs_repo::{HeldNodes, Standing, Txn};
+use fsfs_job_run::{HeldNodes, Standing, Txn};
 use fsfs_script::CommitJob;
 use fsfs_turn::Turns;
 
@@ -22,7 +22,7 @@ struct Edited<'a, R, T: Turns<R>> {
 }
 
 impl<'a, R, T: Turns<R>> Claims<Option<Standing>> for Edited<'a, R, T> {
-    ghost use Rattle.fsfs_repo.specs.Txns.Standings.{NotesOne};
+    ghost use Rattle.fsfs_job_run.specs.TxnStandings.{NotesOne};
     ghost use Rattle.fsfs_workers.specs.Working.{IsEditedNoted};
 
     ghost claims = { λ e value. NotesOne (T.bound e.turns.now) value (λ s. IsEditedNoted (T.knows e.turns.now) e.job.now e.last (⟦<HeldNodes<T::Bench> as Own>⟧.txn e.txn.now.own) e.txn.now.base (⟦<HeldNodes<T::Bench> as Own>⟧.settled e.txn.now.own) s) };

@@ -1,4 +1,4 @@
-use Rattle.std.proofs.Common.{inr, refl, sym, ap, ◌∙◌, arith}
+use Rattle.std.proofs.Common.{inl, inr, refl, sym, ap, ◌∙◌, arith}
 use Rattle.fsfs_disk.specs.Transactions.Txns.{pair_of, txn_label}
 use Rattle.fsfs_turn.specs.Learning.{drawn_of}
 use Rattle.fsfs_turn.specs.Views.{View}
@@ -9,7 +9,7 @@ use Rattle.fsfs_begin.proofs.making.begin_bench.Goals as goal
 -- ---- the calls are due
 
 pub bench-requires : goal.bench-requires
-bench-requires g c = record { due = λ bound. let w = c.requires.due bound in (w.0, drawn_of c.args.name.now.base c.args.name.now.number.number, w.1, w.2, refl) }
+bench-requires g c = record { due = λ bound. let w = c.requires.due bound in (w.0, w.1, inl (drawn_of c.args.name.now.base c.args.name.now.number.number, w.2, refl)) }
 
 pub drop_bench-requires : goal.drop_bench-requires
 drop_bench-requires g c = record {
@@ -18,7 +18,7 @@ drop_bench-requires g c = record {
       let w = c.requires.due (sym c.in-Ok.ensures.duty ∙ bound) in
       let a = c.in-Ok.ensures.turned w.0 x w.1 w.2 refl in
       let o = outside_then x w.0 w.2 a.1 a.0 a.4 in
-      (a.0, x.name, x.base, a.2, o.0, o.1, refl);
+      (a.0, a.2, inl (x.name, x.base, o.0, o.1, refl));
 }
 
 pub drop_bench-requires-in-Err : goal.drop_bench-requires-in-Err
@@ -28,7 +28,7 @@ drop_bench-requires-in-Err g c = record {
       let w = c.requires.due (sym c.in-Err.ensures.duty ∙ bound) in
       let a = c.in-Err.ensures.turned w.0 x w.1 w.2 refl in
       let o = outside_then x w.0 w.2 a.1 a.0 a.4 in
-      (a.0, x.name, x.base, a.2, o.0, o.1, refl);
+      (a.0, a.2, inl (x.name, x.base, o.0, o.1, refl));
 }
 
 -- ---- what they come to

@@ -1,4 +1,4 @@
-use Rattle.std.proofs.Common.{◌∷◌, [], refl, sym, ap}
+use Rattle.std.proofs.Common.{inl, ◌∷◌, [], refl, sym, ap}
 use Rattle.fsfs_disk.specs.Labels.{Txn}
 use Rattle.fsfs_machine.specs.declared.machine.Step.TheVariants.{Purge, PurgeSpent}
 use Rattle.fsfs_disk.specs.Transactions.Txns.{pair_of, txn_label}
@@ -9,7 +9,7 @@ use Rattle.fsfs_begin.proofs.Dropping.{gone_now, relabels, begun_may, purged, no
 use Rattle.fsfs_begin.proofs.purging.purge.Goals as goal
 
 pub drop_bench-requires : goal.drop_bench-requires
-drop_bench-requires g c = record { due = λ bound. let w = c.requires.due bound in (w.0, c.args.name.now.number.number, c.args.name.now.base, w.1, w.2, w.3, refl) }
+drop_bench-requires g c = record { due = λ bound. let w = c.requires.due bound in (w.0, w.1, inl (c.args.name.now.number.number, c.args.name.now.base, w.2, w.3, refl)) }
 
 pub returns-in-Ok-clause-unlisted : goal.returns-in-Ok-clause-unlisted
 returns-in-Ok-clause-unlisted g c = let d = c.in-Ok.ensures.dropped in gone_now (txn_label (pair_of c.args.name.now)) d.met (g.T.Turns.labels c.drop_bench.new.self) d.made

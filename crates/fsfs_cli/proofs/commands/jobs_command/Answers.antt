@@ -1,16 +1,19 @@
 use Rattle.std.proofs.Common.{codes}
 use Rattle.std.proofs.lemmas.Result.{IfOk-weaker}
 use Rattle.clap.specs.Words.{with_rule}
-use Rattle.fsfs_cli.specs.Commands.{bare, repos_rule, workers_rule}
+use Rattle.fsfs_cli.specs.Commands.{bare, repos_rule, workers_rule, check_rule}
 use Rattle.fsfs_cli.proofs.CommandLemmas.{told_more, jobs_repos}
 use Rattle.fsfs_cli.proofs.commands.jobs_command.Goals as goal
 
 pub returns-clause-app : goal.returns-clause-app
 returns-clause-app c =
-    IfOk-weaker c.arg.result _ _ (λ command added.
-    told_more c.in_ok-look_command.field-0 command c.workers.result (with_rule (bare (codes "svnjobs")) repos_rule) workers_rule added c.workers.ensures.fits.global c.in_ok-look_command.ensures.app c.workers.ensures.rule) c.arg.ensures
+    let look = with_rule (bare (codes "svnjobs")) repos_rule in
+    let with_workers = told_more c.in_ok-look_command.field-0 c.in_ok-with_workers.with_workers c.workers.result look workers_rule c.in_ok-with_workers.ensures c.workers.ensures.fits.global c.in_ok-look_command.ensures.app c.workers.ensures.rule in
+    IfOk-weaker c.arg-2.result _ _ (λ command added.
+    told_more c.in_ok-with_workers.with_workers command c.check.result (with_rule look workers_rule) check_rule added c.check.ensures.fits.global with_workers c.check.ensures.rule) c.arg-2.ensures
 
 pub returns-clause-repos : goal.returns-clause-repos
 returns-clause-repos c =
     let look = c.in_ok-look_command.ensures.chain in
-    IfOk-weaker c.arg.result _ _ (λ command added. jobs_repos c.in_ok-look_command.field-0 command look.0 c.workers.result look.1 c.workers.ensures.fits look.2 added) c.arg.ensures
+    IfOk-weaker c.arg-2.result _ _ (λ command added.
+    jobs_repos c.in_ok-look_command.field-0 c.in_ok-with_workers.with_workers command look.0 c.workers.result c.check.result look.1 c.workers.ensures.fits c.check.ensures.fits look.2 c.in_ok-with_workers.ensures added) c.arg-2.ensures

@@ -28,6 +28,6 @@ returns c =
       says,
       (
         c.required-repos.ensures,
-        (c.in_ok-path.path, good_given (path_in rows) c.in_ok-path.path c.in_ok-path.ensures, ap (λ (b : Bool). look_at c.in_ok-revision.revision (Tree b c.in_ok-path.path)) c.shows_ids_given-show_ids.ensures),
+        (c.in_ok-path.path, good_given (path_in rows) c.in_ok-path.path c.in_ok-path.ensures, ap (λ (b : Bool). look_at c.in_ok-revision.revision (Tree b c.in_ok-path.path)) c.flag_given-show_ids.ensures),
       ),
     )

@@ -1,5 +1,5 @@
 use Rattle.std.proofs.Common.{refl}
-use Rattle.fsfs_top.specs.Scenes.{host_scene}
+use Rattle.fsfs_example_calls.specs.Scenes.{host_scene}
 use Rattle.fsfs_examples.proofs.KnownStores.{has_history, stands_for_new}
 use Rattle.fsfs_examples.proofs.known.run_known.Goals as goal
 
@@ -15,8 +15,8 @@ returns g c =
       made = λ repos run asks. c.make.ensures c.if-not-make.false repos run asks;
       history = λ repos run asks. stands_for_new (g.C.Clock.next c.args.clock.now) (g.H.Host.disk_at c.make.new.host repos) (c.make.ensures c.if-not-make.false repos run asks);
       next = g.C.Clock.next c.make.new.clock;
-      ended = ran.0;
+      end = ran.0;
       did = ran.3;
       status_is = ran.1;
-      line_is = ran.2;
+      lines_are = ran.2;
     }

@@ -6,10 +6,12 @@ use Rattle.fsfs_cli.specs.declared.faults.outside_fault.OutsideFault.TheVariants
 use Rattle.fsfs_disk.specs.Trace.{Trace}
 use Rattle.fsfs_turn.specs.Mountings.{RoseBy}
 use Rattle.fsfs_workers.specs.Runs.{run_scene}
-use Rattle.fsfs_top.specs.Scripts.{HasHistory, RunIsDecided, RunsBy}
+use Rattle.fsfs_top.specs.declared.checked.JobsEnd.{JobsEnd}
+use Rattle.fsfs_top.specs.Transactions.{OpeningIsDecided}
+use Rattle.fsfs_top.specs.Scripts.{HasHistory, ended_fault, RunIsDecided, RunsAsAsked}
 use Rattle.fsfs_top.proofs.FilesDecide.{opening_outside}
-use Rattle.fsfs_top.proofs.JobsDecided.{run_decided}
-use Rattle.fsfs_top.proofs.WorkersTold.{by_host, run_by_host}
+use Rattle.fsfs_top.proofs.JobsDecided.{end_decided}
+use Rattle.fsfs_top.proofs.WorkersTold.{asked_by_host, by_host}
 use Rattle.fsfs_top.proofs.jobs.run_at.Goals as goal
 
 pub run_on-disk-requires-clause-right : goal.run_on-disk-requires-clause-right
@@ -19,7 +21,7 @@ pub run_on-disk-requires-clause-knows : goal.run_on-disk-requires-clause-knows
 run_on-disk-requires-clause-knows g c = λ κs within known. subst HasHistory (sym c.in-Ok.ensures.disk) (c.requires.knows known)
 
 pub returns-in-Err-clause-ran : goal.returns-in-Err-clause-ran
-returns-in-Err-clause-ran g c = inl (refl, c.in-Err.ensures.cause.failed, c.in-Err.ensures.err, refl, refl)
+returns-in-Err-clause-ran g c = inl (c.unchecked.ensures, c.in-Err.ensures.cause.failed, c.in-Err.ensures.err, refl, refl)
 
 pub returns-clause-ran : goal.returns-clause-ran
 returns-clause-ran g c =
@@ -36,20 +38,20 @@ returns-clause-ran g c =
     inr (
       c.micros-micros.result,
       c.micros-micros.ensures.value,
-      subst (λ (x : Option Trace). RunsBy c.args.job_run.now c.args.known c.micros-micros.result (g.H.Host.disk_faults c.args.host.now) (g.H.Host.disk_faults c.unmount.new.self) rose
+      subst (λ (x : Option Trace). RunsAsAsked c.args.job_run.now c.args.known c.micros-micros.result (g.H.Host.disk_faults c.args.host.now) (g.H.Host.disk_faults c.unmount.new.self) rose
           (run_scene x (g.I.Source.remaining c.args.input.now) (g.I.Source.faults c.args.input.now) (g.O.Sink.written c.args.out.now) (g.O.Sink.faults c.args.out.now))
           (run_scene (g.H.Host.disk_at c.unmount.new.self c.args.repos.now) (g.I.Source.remaining c.run_on-disk.new.input) (g.I.Source.faults c.run_on-disk.new.input) (g.O.Sink.written c.run_on-disk.new.out) (g.O.Sink.faults c.run_on-disk.new.out)) c.run_on-disk.result.1)
           c.in-Ok.ensures.disk
-          (subst (λ (y : Option Trace). RunsBy c.args.job_run.now c.args.known c.micros-micros.result (g.H.Host.disk_faults c.args.host.now) (g.H.Host.disk_faults c.unmount.new.self) rose
+          (subst (λ (y : Option Trace). RunsAsAsked c.args.job_run.now c.args.known c.micros-micros.result (g.H.Host.disk_faults c.args.host.now) (g.H.Host.disk_faults c.unmount.new.self) rose
           (run_scene (told c.in-Ok.disk) (g.I.Source.remaining c.args.input.now) (g.I.Source.faults c.args.input.now) (g.O.Sink.written c.args.out.now) (g.O.Sink.faults c.args.out.now))
           (run_scene y (g.I.Source.remaining c.run_on-disk.new.input) (g.I.Source.faults c.run_on-disk.new.input) (g.O.Sink.written c.run_on-disk.new.out) (g.O.Sink.faults c.run_on-disk.new.out)) c.run_on-disk.result.1)
           (sym back)
-          (run_by_host c.args.known c.micros-micros.result (count c.in-Ok.disk) (count c.run_on-disk.result.0) (g.H.Host.disk_faults c.args.host.now) (g.H.Host.disk_faults c.unmount.new.self) c.in-Ok.ensures.new counted (λ n. RoseBy n 0 (benches c.run_on-disk.result.0)) rose (λ n risen. by_host n 0 (benches c.run_on-disk.result.0) old new refl counts risen) _ _ c.args.job_run.now
+          (asked_by_host c.args.known c.micros-micros.result (count c.in-Ok.disk) (count c.run_on-disk.result.0) (g.H.Host.disk_faults c.args.host.now) (g.H.Host.disk_faults c.unmount.new.self) c.in-Ok.ensures.new counted (λ n. RoseBy n 0 (benches c.run_on-disk.result.0)) rose (λ n risen. by_host n 0 (benches c.run_on-disk.result.0) old new refl counts risen) _ _ c.args.job_run.now
           c.run_on-disk.result.1 c.run_on-disk.ensures.ran)),
     )
 
 pub returns-in-Err-clause-decided : goal.returns-in-Err-clause-decided
-returns-in-Err-clause-decided g c = λ which. opening_outside (g.H.Host.disk_at c.args.host.now c.args.repos.now) (Outside Mount) tt
+returns-in-Err-clause-decided g c = λ which. subst (λ (e : JobsEnd). OpeningIsDecided (g.H.Host.disk_at c.args.host.now c.args.repos.now) (ended_fault e.ended)) (sym c.unchecked.ensures) (opening_outside (g.H.Host.disk_at c.args.host.now c.args.repos.now) (Outside Mount) tt)
 
 pub returns-clause-decided : goal.returns-clause-decided
 returns-clause-decided g c =
@@ -58,5 +60,5 @@ returns-clause-decided g c =
     let ran = c.run_on-disk.result in
     let before = run_scene (told c.in-Ok.disk) (g.I.Source.remaining c.args.input.now) (g.I.Source.faults c.args.input.now) (g.O.Sink.written c.args.out.now) (g.O.Sink.faults c.args.out.now) in
     let after = run_scene (told ran.0) (g.I.Source.remaining c.run_on-disk.new.input) (g.I.Source.faults c.run_on-disk.new.input) (g.O.Sink.written c.run_on-disk.new.out) (g.O.Sink.faults c.run_on-disk.new.out) in
-    subst (λ (x : Option Trace). RunIsDecided c.args.job_run.now c.args.known x ran.1) c.in-Ok.ensures.disk
-    (run_decided c.args.job_run.now c.args.known c.micros-micros.result (count c.in-Ok.disk) (count ran.0) (λ n. RoseBy n 0 (g.H.Mounted.Disk.bench_faults ran.0)) before after ran.1 c.run_on-disk.ensures.ran)
+    subst (λ (x : Option Trace). RunIsDecided c.args.job_run.now c.args.known x ran.1.ended) c.in-Ok.ensures.disk
+    (end_decided c.args.job_run.now c.args.known c.micros-micros.result (count c.in-Ok.disk) (count ran.0) (λ n. RoseBy n 0 (g.H.Mounted.Disk.bench_faults ran.0)) before after ran.1 c.run_on-disk.ensures.ran)

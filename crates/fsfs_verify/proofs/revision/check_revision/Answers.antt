@@ -28,3 +28,11 @@ returns-clause-told g c = λ look props knows reads sound holds last.
     let kept = keeps_trans _ _ _ c.in_ok-root.ensures.kept c.in_ok-check_items.ensures.kept in
     let file = c.in_ok-check_rev_props.ensures.told look props (reads_upto _ _ props c.args.rev c.args.rev (λ r read may. g.met.B.StillProps.still _ _ r read kept may) (omega arith) reads) in
     (record { tree = tree.0; items = items; file = file }, tree.1, holds_ended look c.args.rev _ _ (c.end_revision.ensures c.args.rev) tree.2)
+
+pub returns-in_err-check_rev_props-clause-kept : goal.returns-in_err-check_rev_props-clause-kept
+returns-in_err-check_rev_props-clause-kept g c =
+    keeps_trans _ _ _ c.in_ok-root.ensures.kept (keeps_trans _ _ _ c.in_ok-check_items.ensures.kept c.in_err-check_rev_props.ensures.kept)
+
+pub returns-clause-kept : goal.returns-clause-kept
+returns-clause-kept g c =
+    keeps_trans _ _ _ c.in_ok-root.ensures.kept (keeps_trans _ _ _ c.in_ok-check_items.ensures.kept c.in_ok-check_rev_props.ensures.kept)

@@ -54,7 +54,7 @@ returns-in-Ok-done-clause-works g c =
     (λ (t : Trace) is. subst (λ l. RanTwo c.args.micros o.seat.me.0.since l done.answers.items done.youngest (revisions o.seat.me.0.seen) t) given (if_ok made.1 done _ c.in-Ok-done.is (c.run_two-disk.ensures.ran t is))) in
     let failed = if_ok made.1 done _ c.in-Ok-done.is c.run_two-disk.ensures.benches in
     let benches : RoseBy (bench_faults_in done.answers.items) 0 (g.D.Disk.bench_faults made.0) = omega (arith, failed) in
-    let kept = keeps_earlier o.said.next_txn.number o.repo.board.shared.key.value.seat.given (told c.args.disk) (told o.repo.first.value) o.repo.board.shared.key.value.disk.trace (told made.0) e.firm e.labels.0 e.labels.1 c.run_two-disk.ensures.labels in
+    let kept = keeps_earlier o.said.next_txn.number o.repo.board.shared.key.value.seat.since.packs o.repo.board.shared.key.value.seat.given (told c.args.disk) (told o.repo.first.value) o.repo.board.shared.key.value.disk.trace (told made.0) e.firm e.labels.0 e.labels.1 c.run_two-disk.ensures.labels in
     worked c.args.micros (count c.args.disk) (count made.0) (λ n. RoseBy n 0 (g.D.Disk.bench_faults made.0)) (told c.args.disk) (told made.0) (g.I.Source.remaining c.args.input.now) (g.I.Source.remaining c.read_script.new.source) (g.I.Source.faults c.args.input.now) (g.I.Source.faults c.read_script.new.source) o.said js done e.opened c.in-Ok-read_script.ensures.read c.in-Ok-read_script.ensures.whole each rose benches kept over
 
 pub returns-clause-works : goal.returns-clause-works
@@ -65,3 +65,8 @@ returns-clause-works g c =
     let same = on_err c.run_two-disk.result.1 c.in-Err-done.field-0 _ c.in-Err-done.is c.run_two-disk.ensures.none in
     let firm : FailsAt FirmNames (told c.args.disk) (told c.run_two-disk.result.0) = subst (FailsAt FirmNames (told c.args.disk)) (sym same) (firm_fails FirmNames (told c.args.disk) (told o.repo.first.value) e.firm) in
     unroomed c.args.micros _ _ _ _ _ _ _ _ _ o.said c.in-Ok-read_script.jobs e.opened c.in-Ok-read_script.ensures.read firm
+
+pub returns-in-Ok-done-clause-laid : goal.returns-in-Ok-done-clause-laid
+returns-in-Ok-done-clause-laid g c =
+    let e = c.in-Ok.ensures in
+    (c.in-Ok.opened.said, e.opened, if_ok c.run_two-disk.result.1 c.in-Ok-done.done _ c.in-Ok-done.is c.run_two-disk.ensures.laid ∙ e.laid.0)

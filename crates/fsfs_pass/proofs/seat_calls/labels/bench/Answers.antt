@@ -7,7 +7,7 @@ use Rattle.fsfs_pass.specs.SeatCalls.Made.{risen}
 use Rattle.fsfs_disk.specs.Labels.{label_of, with_label}
 use Rattle.fsfs_turn.proofs.Knowing.{kept_label, unkept_label, empty_told}
 use Rattle.fsfs_pass.specs.SeatCalls.Tells.{BenchedBy, MayKeep}
-use Rattle.fsfs_pass.proofs.Answering.{later_call, later_so, made_keep, back_so, before_so, may_so, was_so, benched_so, cause_so}
+use Rattle.fsfs_pass.proofs.Answering.{later_call, later_so, made_keep, back_so, before_so, may_so, was_so, benched_so, benched_pack_so, cause_so}
 use Rattle.fsfs_pass.proofs.MetLabels.{relabels_on, may_relabel_on, empty_on}
 use Rattle.fsfs_pass.proofs.seat_calls.labels.bench.Goals as goal
 
@@ -26,6 +26,9 @@ returns-clause-back g c = back_so c.bench-answer.new.self.failed (is_err c.bench
 
 pub returns-clause-made : goal.returns-clause-made
 returns-clause-made g c told x may = benched_so c.bench-answer.new.self.failed (view_of c.args.seat.now.me.0) (view_of c.give_benched.new.seat.me.0) x c.bench-answer.result c.bench-answer.ensures.flag (before_so (λ v. BenchedBy c.bench-answer.new.self.failed v (view_of c.give_benched.new.seat.me.0)) c.args.seat.now.me.0 c.take-disk.new.seat.me.0 (Out c.take-disk.result) (ap (λ m. m.0) c.take-disk.ensures.out) c.give_benched.ensures.given.step told) may
+
+pub returns-clause-beside : goal.returns-clause-beside
+returns-clause-beside g c told k may = benched_pack_so c.bench-answer.new.self.failed (view_of c.args.seat.now.me.0) (view_of c.give_benched.new.seat.me.0) k c.bench-answer.result c.bench-answer.ensures.flag (before_so (λ v. BenchedBy c.bench-answer.new.self.failed v (view_of c.give_benched.new.seat.me.0)) c.args.seat.now.me.0 c.take-disk.new.seat.me.0 (Out c.take-disk.result) (ap (λ m. m.0) c.take-disk.ensures.out) c.give_benched.ensures.given.step told) may
 
 pub returns-clause-kept : goal.returns-clause-kept
 returns-clause-kept g c = relabels_on c.args.seat.now.me.0 c.give_benched.new.seat.me.0 c.take-disk.result.trace c.bench-answer.new.self.trace c.take-disk.ensures.told (was_so c.args.seat.now.me.0 c.take-disk.new.seat.me.0 (Out c.take-disk.result) (ap (λ m. m.0) c.take-disk.ensures.out) c.give_benched.ensures.given.was) c.give_benched.ensures.given.left (with_label (label_of c.args.label.now)) c.bench-answer.result (kept_label (label_of c.args.label.now) c.take-disk.result.trace c.bench-answer.new.self.trace c.bench-answer.result c.bench-answer.ensures.ok)

@@ -7,7 +7,7 @@ use Rattle.fsfs_pass.specs.SeatCalls.Made.{risen}
 use Rattle.fsfs_disk.specs.Labels.{label_of, without_label}
 use Rattle.fsfs_turn.proofs.Knowing.{dropped_label, undropped_label}
 use Rattle.fsfs_pass.specs.SeatCalls.Tells.{IsBack, MayDrop, PurgedBy, counting}
-use Rattle.fsfs_pass.proofs.Answering.{later_dropping, count_dropped, later_so, made_drop, back_so, before_so, may_so, was_so, purged_so, spent_so, cause_so}
+use Rattle.fsfs_pass.proofs.Answering.{later_dropping, count_dropped, later_so, made_drop, back_so, before_so, may_so, was_so, purged_so, spent_so, dropped_pack_so, cause_so}
 use Rattle.fsfs_pass.proofs.MetLabels.{drops_on, may_relabel_on}
 use Rattle.fsfs_pass.proofs.seat_calls.labels.drop_bench.Goals as goal
 
@@ -33,6 +33,9 @@ returns-clause-purged g c told txn may = purged_so c.drop_bench-answer.new.self.
 
 pub returns-clause-spent : goal.returns-clause-spent
 returns-clause-spent g c told name outside given = spent_so c.drop_bench-answer.new.self.failed (view_of c.args.seat.now.me.0) (view_of c.give_purged.new.seat.me.0) name c.drop_bench-answer.result c.drop_bench-answer.ensures.flag (before_so (λ v. PurgedBy c.drop_bench-answer.new.self.failed v (view_of c.give_purged.new.seat.me.0)) c.args.seat.now.me.0 c.take-disk.new.seat.me.0 (Out c.take-disk.result) (ap (λ m. m.0) c.take-disk.ensures.out) c.give_purged.ensures.given.step told) outside given
+
+pub returns-clause-beside : goal.returns-clause-beside
+returns-clause-beside g c told held = dropped_pack_so c.drop_bench-answer.new.self.failed (view_of c.args.seat.now.me.0) (view_of c.give_purged.new.seat.me.0) c.drop_bench-answer.result c.drop_bench-answer.ensures.flag (before_so (λ v. PurgedBy c.drop_bench-answer.new.self.failed v (view_of c.give_purged.new.seat.me.0)) c.args.seat.now.me.0 c.take-disk.new.seat.me.0 (Out c.take-disk.result) (ap (λ m. m.0) c.take-disk.ensures.out) c.give_purged.ensures.given.step told) held
 
 pub returns-clause-dropped : goal.returns-clause-dropped
 returns-clause-dropped g c = drops_on c.args.seat.now.me.0 c.give_purged.new.seat.me.0 c.take-disk.result.trace c.drop_bench-answer.new.self.trace c.take-disk.ensures.told (was_so c.args.seat.now.me.0 c.take-disk.new.seat.me.0 (Out c.take-disk.result) (ap (λ m. m.0) c.take-disk.ensures.out) c.give_purged.ensures.given.was) c.give_purged.ensures.given.left (label_of c.args.label.now) c.drop_bench-answer.result (dropped_label (label_of c.args.label.now) c.take-disk.result.trace c.drop_bench-answer.new.self.trace c.drop_bench-answer.result c.drop_bench-answer.ensures.there c.drop_bench-answer.ensures.ok)

@@ -9,7 +9,6 @@ use Rattle.fsfs_disk.specs.Trace.{IsRead}
 use Rattle.fsfs_pass.specs.SeatCalls.Tells.{ReadBy}
 use Rattle.fsfs_pass.proofs.Answering.{later_call, back_so, later_so, before_so, cause_so}
 use Rattle.fsfs_pass.proofs.MetLabels.{of_files}
-use Rattle.fsfs_pass.proofs.Onward.{reads_only}
 use Rattle.fsfs_pass.proofs.Reading.{taken_so, props_tell, floor_tells}
 use Rattle.fsfs_pass.proofs.seat_calls.reads.read.Goals as goal
 
@@ -28,13 +27,15 @@ pub returns-clause-bytes : goal.returns-clause-bytes
 returns-clause-bytes g c = of_files c.give_read.new.seat.me.0 c.take-disk.result.trace c.read-answer.new.self.trace (λ m. IfOk c.read-answer.result (IsRead (get m c.args.name.now) c.args.offset c.args.buffer.now c.read-answer.new.buffer)) c.give_read.ensures.given.left c.read-answer.ensures.same c.read-answer.ensures.bytes
 
 pub returns-clause-onward : goal.returns-clause-onward
-returns-clause-onward g c told = reads_only c.args.seat.now.me.0.pass.floor (went_of c.read-answer.new.self.failed) (view_of c.args.seat.now.me.0) (view_of c.give_read.new.seat.me.0) (before_so (λ v. ReadBy (went_of c.read-answer.new.self.failed) v (view_of c.give_read.new.seat.me.0)) c.args.seat.now.me.0 c.take-disk.new.seat.me.0 (Out c.take-disk.result) (ap (λ m. m.0) c.take-disk.ensures.out) c.give_read.ensures.given.step told).floor
+returns-clause-onward g c told = (before_so (λ v. ReadBy c.args.name.now c.read-answer.new.self.trace (went_of c.read-answer.new.self.failed) v (view_of c.give_read.new.seat.me.0)) c.args.seat.now.me.0 c.take-disk.new.seat.me.0 (Out c.take-disk.result) (ap (λ m. m.0) c.take-disk.ensures.out) c.give_read.ensures.given.step told).onward
 
 pub returns-clause-properties : goal.returns-clause-properties
-returns-clause-properties g c told r x there fits named = props_tell c.read-answer.new.self.failed c.args.seat.now.me.0 c.give_read.new.seat.me.0 c.take-disk.result.trace (taken_so c.args.seat.now.me.0 c.take-disk.result.trace c.take-disk.ensures.told c.take-disk.ensures.met told) c.args.name.now c.args.buffer.now c.read-answer.new.buffer c.args.offset c.read-answer.result c.read-answer.ensures.flag c.read-answer.ensures.bytes (before_so (λ v. ReadBy (went_of c.read-answer.new.self.failed) v (view_of c.give_read.new.seat.me.0)) c.args.seat.now.me.0 c.take-disk.new.seat.me.0 (Out c.take-disk.result) (ap (λ m. m.0) c.take-disk.ensures.out) c.give_read.ensures.given.step told) r x there fits named
+returns-clause-properties g c told r x there fits named = props_tell c.read-answer.new.self.failed c.args.seat.now.me.0 c.give_read.new.seat.me.0 c.take-disk.result.trace c.read-answer.new.self.trace (taken_so c.args.seat.now.me.0 c.take-disk.result.trace c.take-disk.ensures.told c.take-disk.ensures.met told) c.read-answer.ensures.same c.args.name.now c.args.buffer.now c.read-answer.new.buffer c.args.offset c.read-answer.result c.read-answer.ensures.flag c.read-answer.ensures.bytes
+    (before_so (λ v. ReadBy c.args.name.now c.read-answer.new.self.trace (went_of c.read-answer.new.self.failed) v (view_of c.give_read.new.seat.me.0)) c.args.seat.now.me.0 c.take-disk.new.seat.me.0 (Out c.take-disk.result) (ap (λ m. m.0) c.take-disk.ensures.out) c.give_read.ensures.given.step told) r x there fits named
 
 pub returns-clause-floor : goal.returns-clause-floor
-returns-clause-floor g c told named = floor_tells c.read-answer.new.self.failed c.args.seat.now.me.0 c.give_read.new.seat.me.0 c.take-disk.result.trace (taken_so c.args.seat.now.me.0 c.take-disk.result.trace c.take-disk.ensures.told c.take-disk.ensures.met told) c.args.name.now c.args.buffer.now c.read-answer.new.buffer c.args.offset c.read-answer.result c.read-answer.ensures.flag c.read-answer.ensures.bytes (before_so (λ v. ReadBy (went_of c.read-answer.new.self.failed) v (view_of c.give_read.new.seat.me.0)) c.args.seat.now.me.0 c.take-disk.new.seat.me.0 (Out c.take-disk.result) (ap (λ m. m.0) c.take-disk.ensures.out) c.give_read.ensures.given.step told) named
+returns-clause-floor g c told named = floor_tells c.read-answer.new.self.failed c.args.seat.now.me.0 c.give_read.new.seat.me.0 c.take-disk.result.trace c.read-answer.new.self.trace (taken_so c.args.seat.now.me.0 c.take-disk.result.trace c.take-disk.ensures.told c.take-disk.ensures.met told) c.read-answer.ensures.same c.args.name.now c.args.buffer.now c.read-answer.new.buffer c.args.offset c.read-answer.result c.read-answer.ensures.flag c.read-answer.ensures.bytes
+    (before_so (λ v. ReadBy c.args.name.now c.read-answer.new.self.trace (went_of c.read-answer.new.self.failed) v (view_of c.give_read.new.seat.me.0)) c.args.seat.now.me.0 c.take-disk.new.seat.me.0 (Out c.take-disk.result) (ap (λ m. m.0) c.take-disk.ensures.out) c.give_read.ensures.given.step told) named
 
 pub returns-clause-cause : goal.returns-clause-cause
 returns-clause-cause g c = cause_so c.read-answer.new.self.failed c.args.seat.now.me.0.failures c.give_read.new.seat.me.0.failures c.read-answer.result c.read-answer.ensures.flag

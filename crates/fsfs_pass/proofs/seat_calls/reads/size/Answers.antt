@@ -9,7 +9,6 @@ use Rattle.fsfs_disk.specs.Trace.{IsSize}
 use Rattle.fsfs_pass.specs.SeatCalls.Tells.{ReadBy}
 use Rattle.fsfs_pass.proofs.Answering.{later_call, back_so, later_so, before_so, cause_so}
 use Rattle.fsfs_pass.proofs.MetLabels.{of_files}
-use Rattle.fsfs_pass.proofs.Onward.{reads_only}
 use Rattle.fsfs_pass.proofs.seat_calls.reads.size.Goals as goal
 
 pub give_read-requires-clause-out : goal.give_read-requires-clause-out
@@ -27,7 +26,7 @@ pub returns-clause-length : goal.returns-clause-length
 returns-clause-length g c = of_files c.give_read.new.seat.me.0 c.take-disk.result.trace c.size-answer.new.self.trace (λ m. IfOk c.size-answer.result (IsSize (get m c.args.name.now))) c.give_read.ensures.given.left c.size-answer.ensures.same c.size-answer.ensures.length
 
 pub returns-clause-onward : goal.returns-clause-onward
-returns-clause-onward g c told = reads_only c.args.seat.now.me.0.pass.floor (went_of c.size-answer.new.self.failed) (view_of c.args.seat.now.me.0) (view_of c.give_read.new.seat.me.0) (before_so (λ v. ReadBy (went_of c.size-answer.new.self.failed) v (view_of c.give_read.new.seat.me.0)) c.args.seat.now.me.0 c.take-disk.new.seat.me.0 (Out c.take-disk.result) (ap (λ m. m.0) c.take-disk.ensures.out) c.give_read.ensures.given.step told).floor
+returns-clause-onward g c told = (before_so (λ v. ReadBy c.args.name.now c.size-answer.new.self.trace (went_of c.size-answer.new.self.failed) v (view_of c.give_read.new.seat.me.0)) c.args.seat.now.me.0 c.take-disk.new.seat.me.0 (Out c.take-disk.result) (ap (λ m. m.0) c.take-disk.ensures.out) c.give_read.ensures.given.step told).onward
 
 pub returns-clause-cause : goal.returns-clause-cause
 returns-clause-cause g c = cause_so c.size-answer.new.self.failed c.args.seat.now.me.0.failures c.give_read.new.seat.me.0.failures c.size-answer.result c.size-answer.ensures.flag

@@ -1,4 +1,7 @@
 use Rattle.std.proofs.Common.{sym, ap, subst, ◌∙◌, ◌≡◌}
+use Rattle.fsfs_base.specs.declared.places.place.DiskPlace.TheVariants.{MakeBench}
+use Rattle.fsfs_disk.specs.Labels.{label_of}
+use Rattle.fsfs_turn.specs.Packing.{CanBench, DoneBeside, MayBenchPack}
 use Rattle.fsfs_turn.specs.Views.{Answers}
 use Rattle.fsfs_turn.specs.Learning.{MayMake, BenchMade}
 use Rattle.fsfs_pass.specs.declared.seats.seat_view.SeatView.{SeatView}
@@ -22,8 +25,13 @@ returns-clause-turned g c = λ v x known may labelled.
     knows_went (g.D.Disk.trace c.args.self.now.first.value) c.args.self.now.last c.args.self.now.last c.args.self.now.seat.me.0 c.bench.new.seat.me.0 (λ went. Answers c.bench.result went) (λ went a b. BenchMade x went a b) v known (ap {A = SeatView} (λ z. z.told) c.bench.ensures.back) c.bench.ensures.tells
     (c.bench.ensures.made known.told x (subst (λ z. MayMake z x) (sym known.is) may))
 
+pub returns-clause-beside : goal.returns-clause-beside
+returns-clause-beside g c = λ v k known may labelled.
+    knows_went (g.D.Disk.trace c.args.self.now.first.value) c.args.self.now.last c.args.self.now.last c.args.self.now.seat.me.0 c.bench.new.seat.me.0 (λ went. Answers c.bench.result went) (λ went a b. DoneBeside MakeBench went a b) v known (ap {A = SeatView} (λ z. z.told) c.bench.ensures.back) c.bench.ensures.tells
+    (c.bench.ensures.beside known.told k (subst (λ z. MayBenchPack z k) (sym known.is) may))
+
 pub bench-requires-clause-may : goal.bench-requires-clause-may
-bench-requires-clause-may g c = λ told. let w = c.requires.due told in (w.1, subst (λ z. MayMake z w.1) (sym w.2.is) w.3, w.4)
+bench-requires-clause-may g c = λ told. let w = c.requires.due told in subst (λ z. CanBench z (label_of c.args.label.now)) (sym w.1.is) w.2
 
 pub bench-requires-clause-sits : goal.bench-requires-clause-sits
 bench-requires-clause-sits g c = sits_so c.args.self.now.seat.me.0 c.args.self.now.sitting

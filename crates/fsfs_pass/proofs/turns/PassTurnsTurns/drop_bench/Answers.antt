@@ -1,11 +1,15 @@
 use Rattle.std.proofs.Common.{sym, ap, subst, ◌∙◌, ◌≡◌}
 use Rattle.std.specs.Prelude.{option_map, unwrap_or}
+use Rattle.fsfs_base.specs.declared.places.place.DiskPlace.TheVariants.{Remove}
+use Rattle.fsfs_disk.specs.Labels.{label_of}
 use Rattle.fsfs_machine.specs.Kept.{IsIn}
-use Rattle.fsfs_turn.specs.Views.{Answers}
+use Rattle.fsfs_turn.specs.Packing.{CanDrop, DoneBeside}
+use Rattle.fsfs_turn.specs.Views.{View, Answers, is_held}
 use Rattle.fsfs_turn.specs.Learning.{MayPurge, Purged, SpentPurged}
 use Rattle.fsfs_pass.specs.declared.seats.seat_view.SeatView.{SeatView}
+use Rattle.fsfs_pass.specs.Seats.{view_of}
 use Rattle.fsfs_pass.specs.SeatCalls.Tells.{counting}
-use Rattle.fsfs_pass.proofs.Turning.{Keeps, back_keeps, count_keeps, count_dropped, low_on, knows_went, sits_so, stays, seated}
+use Rattle.fsfs_pass.proofs.Turning.{Keeps, back_keeps, count_keeps, count_dropped, low_on, can_drop, knows_went, sits_so, stays, seated}
 use Rattle.fsfs_pass.proofs.turns.PassTurnsTurns.drop_bench.Goals as goal
 
 pub invariant_of-self : goal.invariant_of-self
@@ -31,8 +35,13 @@ returns-clause-spent g c = λ v name base known outside given labelled.
     knows_went (g.D.Disk.trace c.args.self.now.first.value) c.args.self.now.last c.args.self.now.last c.args.self.now.seat.me.0 c.drop_bench.new.seat.me.0 (λ went. Answers c.drop_bench.result went) (λ went a b. SpentPurged name went a b) v known (ap {A = SeatView} (λ z. z.told) c.drop_bench.ensures.back) c.drop_bench.ensures.tells
     (c.drop_bench.ensures.spent known.told name (ap (λ z. z.section) known.is ∙ outside) (subst (λ z. IsIn name z.given) (sym known.is) given))
 
+pub returns-clause-beside : goal.returns-clause-beside
+returns-clause-beside g c = λ v k known held labelled.
+    knows_went (g.D.Disk.trace c.args.self.now.first.value) c.args.self.now.last c.args.self.now.last c.args.self.now.seat.me.0 c.drop_bench.new.seat.me.0 (λ went. Answers c.drop_bench.result went) (λ went a b. DoneBeside Remove went a b) v known (ap {A = SeatView} (λ z. z.told) c.drop_bench.ensures.back) c.drop_bench.ensures.tells
+    (c.drop_bench.ensures.beside known.told (ap {A = View} (λ z. is_held z.section) known.is ∙ held))
+
 pub drop_bench-requires-clause-may : goal.drop_bench-requires-clause-may
-drop_bench-requires-clause-may g c = λ told. let w = c.requires.due told in (w.1, ap (λ z. z.section) w.3.is ∙ w.4, subst (λ z. IsIn w.1 z.given) (sym w.3.is) w.5, w.2, w.6)
+drop_bench-requires-clause-may g c = λ told. let w = c.requires.due told in can_drop (view_of c.args.self.now.seat.me.0) (label_of c.args.label.now) (subst (λ z. CanDrop z (label_of c.args.label.now)) (sym w.1.is) w.2)
 
 pub drop_bench-requires-clause-sits : goal.drop_bench-requires-clause-sits
 drop_bench-requires-clause-sits g c = sits_so c.args.self.now.seat.me.0 c.args.self.now.sitting

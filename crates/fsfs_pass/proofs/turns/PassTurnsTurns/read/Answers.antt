@@ -5,6 +5,7 @@ use Rattle.fsfs_layout.specs.Hash.Dump.{IsDump}
 use Rattle.fsfs_disk.specs.Trace.{IsRead}
 use Rattle.fsfs_machine.specs.declared.machine.Went.{Went}
 use Rattle.fsfs_turn.specs.Views.{View, props_name, Answers}
+use Rattle.fsfs_turn.specs.Past.{IsWhole}
 use Rattle.fsfs_turn.specs.Courses.{ReadOnly}
 use Rattle.fsfs_turn.specs.Learning.{PropsRead, FloorRead}
 use Rattle.fsfs_pass.specs.declared.seats.seat_view.SeatView.{SeatView}
@@ -35,8 +36,8 @@ returns-clause-properties g c = λ v r x known.
 
 pub returns-clause-floor : goal.returns-clause-floor
 returns-clause-floor g c = λ v known named.
-    subst (λ z. (u : View) × (went : Went) × (floor : ℕ) × (text : List ℕ) × KnowsIt (g.D.Disk.trace c.args.self.now.first.value) c.args.self.now.last c.read.new.seat.me.0 u × Answers c.read.result went × FloorRead floor went z u × IsRevLine text floor × IfOk c.read.result (IsRead (Some text) c.args.offset c.args.buffer.now c.read.new.buffer)) known.is
-    (let t = c.read.ensures.floor known.told named in (view_of c.read.new.seat.me.0, t.0, t.1, t.2, knows_now (g.D.Disk.trace c.args.self.now.first.value) c.args.self.now.last c.read.new.seat.me.0 known.disk (ap {A = SeatView} (λ z. z.told) c.read.ensures.back ∙ known.told) c.read.ensures.tells, t.3, t.4, t.5, t.6))
+    subst (λ z. (u : View) × (went : Went) × (floor : ℕ) × (text : List ℕ) × KnowsIt (g.D.Disk.trace c.args.self.now.first.value) c.args.self.now.last c.read.new.seat.me.0 u × Answers c.read.result went × FloorRead floor went z u × IsWhole z.layout floor × IsRevLine text floor × IfOk c.read.result (IsRead (Some text) c.args.offset c.args.buffer.now c.read.new.buffer)) known.is
+    (let t = c.read.ensures.floor known.told named in (view_of c.read.new.seat.me.0, t.0, t.1, t.2, knows_now (g.D.Disk.trace c.args.self.now.first.value) c.args.self.now.last c.read.new.seat.me.0 known.disk (ap {A = SeatView} (λ z. z.told) c.read.ensures.back ∙ known.told) c.read.ensures.tells, t.3, t.4, t.5, t.6, t.7))
 
 pub read-requires-clause-sits : goal.read-requires-clause-sits
 read-requires-clause-sits g c = sits_so c.args.self.now.seat.me.0 c.args.self.now.sitting

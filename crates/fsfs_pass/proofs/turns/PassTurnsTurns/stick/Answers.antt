@@ -1,6 +1,6 @@
-use Rattle.std.proofs.Common.{ap, ◌∙◌, ◌≡◌}
+use Rattle.std.proofs.Common.{sym, ap, subst, ◌≡◌}
 use Rattle.fsfs_machine.specs.declared.machine.Step.TheVariants.{StickLock}
-use Rattle.fsfs_turn.specs.Views.{LockGiven}
+use Rattle.fsfs_turn.specs.Views.{MustStick, LockGiven}
 use Rattle.fsfs_pass.specs.declared.seats.seat_view.SeatView.{SeatView}
 use Rattle.fsfs_pass.specs.Passes.{pass_store}
 use Rattle.fsfs_pass.specs.Met.{ground_of}
@@ -8,10 +8,10 @@ use Rattle.fsfs_pass.proofs.Turning.{knows_still, sits_so, mounted_still, stays}
 use Rattle.fsfs_pass.proofs.turns.PassTurnsTurns.stick.Goals as goal
 
 pub stick-requires-clause-may : goal.stick-requires-clause-may
-stick-requires-clause-may g c = λ told. let w = c.requires.due told in (w.1, ap (λ z. z.section) w.2.is ∙ w.3)
+stick-requires-clause-may g c = λ told. let w = c.requires.due told in subst (λ z. MustStick c.args.place z) (sym w.1.is) w.2
 
 pub returns-clause-turned : goal.returns-clause-turned
-returns-clause-turned g c = λ v x known at.
+returns-clause-turned g c = λ v known must.
     let is = ap (λ m. m.0) c.stick.ensures.same.2 in
     knows_still (g.D.Disk.trace c.args.self.now.first.value) c.args.self.now.last c.args.self.now.seat.me.0 c.stick.new.seat.me.0 (λ a b. LockGiven (StickLock a.number) a b) v known (ap {A = SeatView} (λ z. z.told) is) (ap {A = SeatView} (λ z. pass_store c.args.self.now.last z) is) (ap {A = SeatView} (λ z. ground_of z) is) (ap {A = SeatView} (λ z. z.seen) is) c.stick.ensures.given
 

@@ -20,7 +20,7 @@ returns-clause-began g c = (
 )
 
 pub returns-clause-labels : goal.returns-clause-labels
-returns-clause-labels g c = (c.in-Ok.ensures.labels.0 ∙ ap (λ d. g.D.Disk.trace d) (sym c.of-first.ensures), c.in-Ok.ensures.labels.1)
+returns-clause-labels g c = (c.in-Ok.ensures.labels.0 ∙ ap (λ d. g.D.Disk.trace d) (sym c.of-first.ensures), c.in-Ok.ensures.labels.1, c.in-Ok.ensures.labels.2)
 
 pub returns-clause-sits : goal.returns-clause-sits
 returns-clause-sits g c =

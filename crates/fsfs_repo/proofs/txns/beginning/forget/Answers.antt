@@ -1,4 +1,4 @@
-use Rattle.std.proofs.Common.{refl}
+use Rattle.std.proofs.Common.{inl, refl}
 use Rattle.fsfs_base.specs.Failures.{Rose}
 use Rattle.fsfs_disk.specs.Transactions.Txns.{pair_of, txn_label}
 use Rattle.fsfs_repo.proofs.Begun.{spent_moved}
@@ -6,7 +6,7 @@ use Rattle.fsfs_repo.proofs.Unlisted.{forgotten}
 use Rattle.fsfs_repo.proofs.txns.beginning.forget.Goals as goal
 
 pub drop_bench-requires : goal.drop_bench-requires
-drop_bench-requires g c = record { due = λ bound. let w = c.requires.due bound in (w.0, c.args.name.now.number.number, c.args.name.now.base, w.1, w.2, w.3, refl) }
+drop_bench-requires g c = record { due = λ bound. let w = c.requires.due bound in (w.0, w.1, inl (c.args.name.now.number.number, c.args.name.now.base, w.2, w.3, refl)) }
 
 pub returns-clause-moved : goal.returns-clause-moved
 returns-clause-moved g c = λ v known none given.

@@ -10,7 +10,7 @@ use Rattle.fsfs_turn.proofs.owned.OwnedTurns.adopt_file.Goals as goal
 pub returns-clause-turned : goal.returns-clause-turned
 returns-clause-turned g c = λ v txn properties next known may named about.
     adopt_alone c.args.self.now.layout c.args.self.now.floor c.args.self.now.young c.args.self.now.stuck (g.D.Disk.trace c.args.self.now.disk) (g.D.Disk.trace c.adopt.new.self)
-    (goes_by_adoption (Adopt c.args.to.now (bytes_on (g.D.Bench.Bench.contents c.args.bench.now) c.args.file.now)) (adopt_spares v txn properties next (bytes_on (g.D.Bench.Bench.contents c.args.bench.now) c.args.file.now) may c.args.to.now named) (g.D.Disk.trace c.args.self.now.disk) (g.D.Disk.trace c.adopt.new.self) (removed c.args.file.now) (g.D.Bench.Bench.contents c.args.bench.now) (g.D.Bench.Bench.contents c.adopt.new.bench) c.adopt.result c.adopt.ensures.ok c.adopt.ensures.err) v known txn properties next (bytes_on (g.D.Bench.Bench.contents c.args.bench.now) c.args.file.now) c.adopt.result
+    v (goes_by_adoption v.since.packs (Adopt c.args.to.now (bytes_on (g.D.Bench.Bench.contents c.args.bench.now) c.args.file.now)) (adopt_spares v txn properties next (bytes_on (g.D.Bench.Bench.contents c.args.bench.now) c.args.file.now) may c.args.to.now named) (g.D.Disk.trace c.args.self.now.disk) (g.D.Disk.trace c.adopt.new.self) (removed c.args.file.now) (g.D.Bench.Bench.contents c.args.bench.now) (g.D.Bench.Bench.contents c.adopt.new.bench) c.adopt.result c.adopt.ensures.ok c.adopt.ensures.err) known txn properties next (bytes_on (g.D.Bench.Bench.contents c.args.bench.now) c.args.file.now) c.adopt.result
     (adopt_file_known c.args.self.now.layout c.args.self.now.floor c.args.self.now.young c.args.self.now.stuck (g.D.Disk.trace c.args.self.now.disk) (g.D.Disk.trace c.adopt.new.self) c.args.to.now (bytes_on (g.D.Bench.Bench.contents c.args.bench.now) c.args.file.now)
     (removed c.args.file.now) (g.D.Bench.Bench.contents c.args.bench.now) (g.D.Bench.Bench.contents c.adopt.new.bench) c.adopt.result c.adopt.ensures.ok c.adopt.ensures.err v txn properties next known.0 may named)
 

@@ -1,13 +1,19 @@
 use Rattle.fsfs_disk.specs.Labels.{label_of}
 use Rattle.fsfs_disk.specs.Trace.{KeepLabel}
-use Rattle.fsfs_turn.proofs.Knowing.{make_known, kept_label, unkept_label, empty_told}
-use Rattle.fsfs_turn.proofs.Alone.{goes_by, make_alone}
+use Rattle.fsfs_base.specs.declared.places.place.DiskPlace.TheVariants.{MakeBench}
+use Rattle.fsfs_turn.proofs.Knowing.{make_known, keep_known, kept_label, unkept_label, empty_told}
+use Rattle.fsfs_turn.proofs.Alone.{goes_by, make_alone, beside_alone}
 use Rattle.fsfs_turn.proofs.owned.OwnedTurns.bench.Goals as goal
 
 pub returns-clause-turned : goal.returns-clause-turned
 returns-clause-turned g c = λ v x known may labelled.
-    make_alone c.args.self.now.layout c.args.self.now.floor c.args.self.now.young c.args.self.now.stuck (g.D.Disk.trace c.args.self.now.disk) (g.D.Disk.trace c.bench.new.self) (goes_by (KeepLabel (label_of c.args.label.now)) tt (g.D.Disk.trace c.args.self.now.disk) (g.D.Disk.trace c.bench.new.self) c.bench.result c.bench.ensures.ok c.bench.ensures.err) v known x c.bench.result
+    make_alone c.args.self.now.layout c.args.self.now.floor c.args.self.now.young c.args.self.now.stuck (g.D.Disk.trace c.args.self.now.disk) (g.D.Disk.trace c.bench.new.self) v (goes_by v.since.packs (KeepLabel (label_of c.args.label.now)) tt (g.D.Disk.trace c.args.self.now.disk) (g.D.Disk.trace c.bench.new.self) c.bench.result c.bench.ensures.ok c.bench.ensures.err) known x c.bench.result
     (make_known c.args.self.now.layout c.args.self.now.floor c.args.self.now.young c.args.self.now.stuck (g.D.Disk.trace c.args.self.now.disk) (g.D.Disk.trace c.bench.new.self) (label_of c.args.label.now) c.bench.result c.bench.ensures.ok c.bench.ensures.err v x known.0 may)
+
+pub returns-clause-beside : goal.returns-clause-beside
+returns-clause-beside g c = λ v k known may labelled.
+    beside_alone c.args.self.now.layout c.args.self.now.floor c.args.self.now.young c.args.self.now.stuck (g.D.Disk.trace c.args.self.now.disk) (g.D.Disk.trace c.bench.new.self) v (goes_by v.since.packs (KeepLabel (label_of c.args.label.now)) tt (g.D.Disk.trace c.args.self.now.disk) (g.D.Disk.trace c.bench.new.self) c.bench.result c.bench.ensures.ok c.bench.ensures.err) known MakeBench c.bench.result
+    (keep_known c.args.self.now.layout c.args.self.now.floor c.args.self.now.young c.args.self.now.stuck (g.D.Disk.trace c.args.self.now.disk) (g.D.Disk.trace c.bench.new.self) (label_of c.args.label.now) c.bench.result c.bench.ensures.ok c.bench.ensures.err v known.0)
 
 pub returns-clause-kept : goal.returns-clause-kept
 returns-clause-kept g c = kept_label (label_of c.args.label.now) (g.D.Disk.trace c.args.self.now.disk) (g.D.Disk.trace c.bench.new.self) c.bench.result c.bench.ensures.ok

@@ -10,7 +10,7 @@ returns-clause-bytes g c = counter_bytes (g.D.Disk.trace c.args.self.now.disk) (
 
 pub returns-clause-drawn : goal.returns-clause-drawn
 returns-clause-drawn g c = λ v known begun at_most.
-    counter_alone c.args.self.now.layout c.args.self.now.floor c.args.self.now.young c.args.self.now.stuck (g.D.Disk.trace c.args.self.now.disk) (g.D.Disk.trace c.read.new.self) (inl c.read.ensures.same) v known (option_map files_now (g.D.Disk.trace c.read.new.self)) c.args._base c.read.result c.args.buffer.now c.read.new.buffer
+    counter_alone c.args.self.now.layout c.args.self.now.floor c.args.self.now.young c.args.self.now.stuck (g.D.Disk.trace c.args.self.now.disk) (g.D.Disk.trace c.read.new.self) v (inl c.read.ensures.same) known (option_map files_now (g.D.Disk.trace c.read.new.self)) c.args._base c.read.result c.args.buffer.now c.read.new.buffer
     (counter_known c.args.self.now.layout c.args.self.now.floor c.args.self.now.young c.args.self.now.stuck (g.D.Disk.trace c.args.self.now.disk) (g.D.Disk.trace c.read.new.self) c.read.ensures.same
     c.name-current.result c.args.buffer.now c.read.new.buffer c.read.result c.read.ensures.bytes c.name-current.ensures v c.args._base known.0 begun at_most)
 

@@ -12,17 +12,17 @@ returns-clause-names g c = names_now (g.D.Disk.trace c.args.self.now.disk) (g.D.
 
 pub returns-clause-ok : goal.returns-clause-ok
 returns-clause-ok g c = λ v known.
-    ok_always c.list.result (list_alone c.args.self.now.layout c.args.self.now.floor c.args.self.now.young c.args.self.now.stuck (g.D.Disk.trace c.args.self.now.disk) (g.D.Disk.trace c.list.new.self) (inl c.list.ensures.same) v known (option_map labels_now (g.D.Disk.trace c.list.new.self)) Fine
+    ok_always c.list.result (list_alone c.args.self.now.layout c.args.self.now.floor c.args.self.now.young c.args.self.now.stuck (g.D.Disk.trace c.args.self.now.disk) (g.D.Disk.trace c.list.new.self) v (inl c.list.ensures.same) known (option_map labels_now (g.D.Disk.trace c.list.new.self)) Fine
     (list_known c.args.self.now.layout c.args.self.now.floor c.args.self.now.young c.args.self.now.stuck (g.D.Disk.trace c.args.self.now.disk) (g.D.Disk.trace c.list.new.self) c.list.ensures.same v Fine known.0))
 
 pub returns-clause-failed : goal.returns-clause-failed
 returns-clause-failed g c = λ v known failed.
-    list_alone c.args.self.now.layout c.args.self.now.floor c.args.self.now.young c.args.self.now.stuck (g.D.Disk.trace c.args.self.now.disk) (g.D.Disk.trace c.list.new.self) (inl c.list.ensures.same) v known (option_map labels_now (g.D.Disk.trace c.list.new.self)) Before
+    list_alone c.args.self.now.layout c.args.self.now.floor c.args.self.now.young c.args.self.now.stuck (g.D.Disk.trace c.args.self.now.disk) (g.D.Disk.trace c.list.new.self) v (inl c.list.ensures.same) known (option_map labels_now (g.D.Disk.trace c.list.new.self)) Before
     (list_known c.args.self.now.layout c.args.self.now.floor c.args.self.now.young c.args.self.now.stuck (g.D.Disk.trace c.args.self.now.disk) (g.D.Disk.trace c.list.new.self) c.list.ensures.same v Before known.0)
 
 pub returns-clause-memory : goal.returns-clause-memory
 returns-clause-memory g c = λ v known wanting.
-    same_alone c.args.self.now.layout c.args.self.now.floor c.args.self.now.young c.args.self.now.stuck (g.D.Disk.trace c.args.self.now.disk) (g.D.Disk.trace c.list.new.self) (inl c.list.ensures.same) v known (still_known c.args.self.now.layout c.args.self.now.floor c.args.self.now.young c.args.self.now.stuck (g.D.Disk.trace c.args.self.now.disk) (g.D.Disk.trace c.list.new.self) c.list.ensures.same v known.0)
+    same_alone c.args.self.now.layout c.args.self.now.floor c.args.self.now.young c.args.self.now.stuck (g.D.Disk.trace c.args.self.now.disk) (g.D.Disk.trace c.list.new.self) v (inl c.list.ensures.same) known (still_known c.args.self.now.layout c.args.self.now.floor c.args.self.now.young c.args.self.now.stuck (g.D.Disk.trace c.args.self.now.disk) (g.D.Disk.trace c.list.new.self) c.list.ensures.same v known.0)
 
 pub returns-clause-same : goal.returns-clause-same
 returns-clause-same g c = λ free. ap (λ o. option_map labels_now o) c.list.ensures.same

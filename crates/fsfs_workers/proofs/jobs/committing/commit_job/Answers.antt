@@ -1,11 +1,11 @@
-use Rattle.std.proofs.Common.{◌≡◌, ⊎_elim, refl, sym, ap, subst, ◌∙◌, arith}
+use Rattle.std.proofs.Common.{◌≡◌, ⊎_elim, sym, ap, subst, ◌∙◌, arith}
 use Rattle.fsfs_turn.specs.Mountings.{RoseBy}
 use Rattle.fsfs_job_run.specs.Serial.Jobs.{bench_told}
 use Rattle.fsfs_base.specs.Failures.{Rose}
 use Rattle.fsfs_base.proofs.ResultLemmas.{if_ok, if_err}
 use Rattle.fsfs_script.specs.declared.job_lines.job.Job.TheVariants as jobs
 use Rattle.fsfs_jobs.specs.declared.answer.JobAnswer.TheVariants.{Stopped}
-use Rattle.fsfs_repo.specs.BeginFaults.{IfDisk, bench_faults_in}
+use Rattle.fsfs_job_run.specs.BeginFaults.{IfDisk, bench_faults_in}
 use Rattle.fsfs_job_run.specs.Workers.Passes.{last_known}
 use Rattle.fsfs_job_run.specs.TextReads.{IfAnswerFails}
 use Rattle.fsfs_job_run.specs.Running.{LacksBase}

@@ -1,11 +1,11 @@
 use Rattle.std.proofs.Common.{sym, ap, subst, ◌∙◌, arith}
 use Rattle.fsfs_turn.specs.Mountings.{RoseBy}
 use Rattle.fsfs_job_run.specs.Serial.Jobs.{bench_told}
-use Rattle.fsfs_repo.specs.Txns.Commits.{bench_faults_told}
+use Rattle.fsfs_job_run.specs.TxnCommits.{bench_faults_told}
 use Rattle.fsfs_job_run.proofs.BenchCauses.{bar_told}
 use Rattle.fsfs_base.specs.Failures.{Rose}
-use Rattle.fsfs_repo.specs.Txns.Commits.{IfFailed}
-use Rattle.fsfs_repo.proofs.Noted.{noted_if}
+use Rattle.fsfs_job_run.specs.TxnCommits.{IfFailed}
+use Rattle.fsfs_job_run.proofs.Noted.{noted_if}
 use Rattle.fsfs_jobs.specs.declared.answer.JobAnswer.{JobAnswer}
 use Rattle.fsfs_job_run.specs.TextReads.{IfAnswerFails}
 use Rattle.fsfs_job_run.proofs.Causes.{bar_fails}

@@ -5,7 +5,7 @@ use Rattle.fsfs_machine.specs.Machine.{revisions}
 use Rattle.fsfs_turn.specs.Bytes.{bytes_of}
 use Rattle.fsfs_turn.specs.Views.{View}
 use Rattle.fsfs_turn.proofs.GoingOn.{going_from, known_below}
-use Rattle.fsfs_repo.specs.SeenLemmas.{shown_trees}
+use Rattle.fsfs_job_run.specs.SeenLemmas.{shown_trees}
 use Rattle.fsfs_job_run.proofs.BenchCauses.{bench_failed}
 use Rattle.fsfs_job_run.proofs.Composed.{edits_as, failed_as}
 use Rattle.fsfs_workers.specs.Working.{up_to}

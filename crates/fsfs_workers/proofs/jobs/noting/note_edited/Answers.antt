@@ -1,4 +1,4 @@
-use Rattle.fsfs_repo.proofs.Noted.{can_note}
+use Rattle.fsfs_job_run.proofs.Noted.{can_note}
 use Rattle.fsfs_workers.specs.Working.{IsEditedNoted}
 use Rattle.fsfs_workers.proofs.NoteLemmas.{edited_noted}
 use Rattle.fsfs_workers.proofs.jobs.noting.note_edited.Goals as goal

@@ -6,7 +6,7 @@ use Rattle.fsfs_machine.specs.Machine.{revisions}
 use Rattle.fsfs_tree.specs.Revisions.{tree_of}
 use Rattle.fsfs_turn.specs.Bytes.{bytes_of}
 use Rattle.fsfs_turn.proofs.GoingOn.{going_from}
-use Rattle.fsfs_repo.specs.SeenLemmas.{shown_trees}
+use Rattle.fsfs_job_run.specs.SeenLemmas.{shown_trees}
 use Rattle.fsfs_jobs.specs.declared.answer.JobAnswer.{JobAnswer}
 use Rattle.fsfs_job_run.specs.TextReads.{IfAnswerFails, IsNoBench}
 use Rattle.fsfs_job_run.specs.Running.{LacksBase}

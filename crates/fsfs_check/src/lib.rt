@@ -1,0 +1,10 @@
+//! The check of the repository on a disk, up to a revision, which prints nothing: as `svnjobs` makes it behind its jobs.
+#![tactic(auto)]
+
+mod checking;
+mod floor;
+mod laws;
+mod nowhere;
+
+pub use checking::check;
+pub use laws::sound_histories_are_open;

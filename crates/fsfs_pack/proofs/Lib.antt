@@ -1,0 +1,16 @@
+pub mod Cutting
+pub mod BenchFiles
+pub mod Offsets
+pub mod Going
+pub mod Reading
+pub mod Ending
+pub mod Filling
+pub mod InBench
+pub mod TxnLabels
+pub mod TidyLabels
+pub mod Written
+pub mod Settling
+pub mod Onward
+pub mod Held
+pub mod Whole
+pub mod Floors

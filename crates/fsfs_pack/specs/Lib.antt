@@ -1,0 +1,5 @@
+pub mod Copies
+pub mod Causes
+pub mod Shards
+pub mod Sections
+pub mod Packs

@@ -1,0 +1,4 @@
+pub mod Keeping
+pub mod FloorNow
+pub mod Floors
+pub mod Ending

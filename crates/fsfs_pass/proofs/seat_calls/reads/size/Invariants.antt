@@ -1,0 +1,4 @@
+use Rattle.fsfs_pass.proofs.seat_calls.reads.size.Given as goal
+
+abbrev pub ghosts-give_read : goal.ghosts-give_read
+ghosts-give_read g a = record { name = a.name.now }
