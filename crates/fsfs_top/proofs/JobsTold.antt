@@ -1,5 +1,5 @@
 -- What a run of svnjobs lists no more, as the top call tells it.
-use Rattle.std.proofs.Common.{◌≡◌, ◌⊎◌, ℕ, Bool, List, inl, inr, ⊎_elim, ap, sym, subst, arith}
+use Rattle.std.proofs.Common.{◌≡◌, ◌⊎◌, ℕ, Bool, true, List, inl, inr, ⊎_elim, ap, sym, subst, arith}
 use Rattle.std.specs.Prelude.{Option, Some, None, option_map, Result, Ok, Err}
 use Rattle.fsfs_base.specs.Failures.{Rose}
 use Rattle.fsfs_disk.specs.Trace.{Trace, labels_now}
@@ -10,6 +10,8 @@ use Rattle.fsfs_cli.specs.declared.request.Task.TheVariants.{RunJobs}
 use Rattle.fsfs_cli.specs.declared.tool.Tool.TheVariants.{Jobs}
 use Rattle.fsfs_cli.specs.declared.faults.fault.Fault.{Fault}
 use Rattle.fsfs_turn.specs.Mountings.{RoseBy}
+use Rattle.fsfs_workers.specs.ByWorkers.{KeepsNoOther, RunsBeside, RunsByWorkers}
+use Rattle.fsfs_workers.specs.ByWorkers as beside
 use Rattle.fsfs_workers.specs.Listed.{LeavesListed}
 use Rattle.fsfs_workers.proofs.ListedLemmas.{none_begun, none_is_left}
 use Rattle.fsfs_workers.specs.Runs.{RunScene, RunsScript, NotOpened, NotRead, NoRoom, Done}
@@ -37,29 +39,42 @@ script_lists moment before after benches a b _ (NotRead o error opens read rose 
 script_lists moment before after benches a b _ (NoRoom o js opens read untouched) = inl (lists_same a.trace b.trace (labels_firm a.trace b.trace untouched.disk))
 script_lists moment before after benches a b _ (Done o js answers youngest result opens read ends each failed quiet rose listed ran printed) = ⊎_elim (λ lists. inl (lists_no_other 0 _ a.trace b.trace lists)) (λ more. inr more) (listed 0 tt)
 
-by_lists : (run : JobRun) (known : Bool) (moment before after : ℕ) (benches : ℕ → Type 0) (a b : RunScene) (ended : Result ℕ Fault) → run.workers ≡ 1 → RunsBy run known moment before after benches a b ended → ListsNoOther a.trace b.trace ⊎ Rose before after
+lists_none : (old new : Option Trace) → KeepsNoOther (option_map labels_now old) (option_map labels_now new) → ListsNoOther old new
+lists_none old None none = tt
+lists_none None (Some t) none = λ label has. tt
+lists_none (Some s) (Some t) none = none
+
+beside_lists : (moment before after : ℕ) (benches : ℕ → Type 0) (a b : RunScene) (ended : Result ℕ Fault) → RunsBeside moment 2 true before after benches a b ended → ListsNoOther a.trace b.trace ⊎ Rose before after
+beside_lists moment before after benches a b _ (beside.NotOpened why because unopened untouched unread) = inl (lists_same a.trace b.trace (labels_firm a.trace b.trace untouched.disk))
+beside_lists moment before after benches a b _ (beside.NotRead o error opens read rose untouched) = inl (lists_same a.trace b.trace (labels_firm a.trace b.trace untouched.disk))
+beside_lists moment before after benches a b _ (beside.NoRoom o js opens read untouched) = inl (lists_same a.trace b.trace (labels_firm a.trace b.trace untouched.disk))
+beside_lists moment before after benches a b _ (beside.Done o js answers youngest result opens read ends each rose failed kept tidy ran printed) = ⊎_elim (λ none. inl (lists_none a.trace b.trace none)) (λ more. inr more) tidy
+beside_lists moment before after benches a b _ (beside.Lost unknown written failed) = absurd cc
+
+by_lists : (run : JobRun) (known : Bool) (moment before after : ℕ) (benches : ℕ → Type 0) (a b : RunScene) (ended : Result ℕ Fault) → (run.workers ≡ 1) ⊎ (known ≡ true) → RunsBy run known moment before after benches a b ended → ListsNoOther a.trace b.trace ⊎ Rose before after
 by_lists run known moment before after benches a b ended one (inl (is, ran)) = script_lists moment before after benches a b ended ran
-by_lists run known moment before after benches a b ended one (inr (two, ran)) = absurd (omega (arith, one, two))
+by_lists run known moment before after benches a b ended one (inr (two, ran)) = ⊎_elim (λ (only : run.workers ≡ 1). absurd (omega (arith, only, two)))
+    (λ (sure : known ≡ true). beside_lists moment before after benches a b ended (subst (λ (k : Bool). RunsByWorkers moment 2 k before after benches a b ended) sure ran)) one
 
 -- a check makes nothing of the disk
-checked_lists : (run : JobRun) (known : Bool) (moment before after : ℕ) (benches : ℕ → Type 0) (a b : RunScene) (end : JobsEnd) → run.workers ≡ 1 → RunsChecked run known moment before after benches a b end → ListsNoOther a.trace b.trace ⊎ Rose before after
+checked_lists : (run : JobRun) (known : Bool) (moment before after : ℕ) (benches : ℕ → Type 0) (a b : RunScene) (end : JobsEnd) → (run.workers ≡ 1) ⊎ (known ≡ true) → RunsChecked run known moment before after benches a b end → ListsNoOther a.trace b.trace ⊎ Rose before after
 checked_lists run known moment before after benches a b _ one (checked.NotDone fault ran written failed) = by_lists run known moment before after benches a b (Err fault) one ran
 checked_lists run known moment before after benches a b _ one (checked.Done answers youngest middle layout ended unsound worked later laid sound printed) =
     ⊎_elim (λ lists. inl lists) (λ rose. inr (omega (arith, rose, later))) (by_lists run known moment before middle benches a _ (Ok _) one (as_printed run known moment before middle benches a b answers youngest worked))
 
-asked_lists : (run : JobRun) (known : Bool) (moment before after : ℕ) (benches : ℕ → Type 0) (a b : RunScene) (end : JobsEnd) → run.workers ≡ 1 → RunsAsAsked run known moment before after benches a b end → ListsNoOther a.trace b.trace ⊎ Rose before after
+asked_lists : (run : JobRun) (known : Bool) (moment before after : ℕ) (benches : ℕ → Type 0) (a b : RunScene) (end : JobsEnd) → (run.workers ≡ 1) ⊎ (known ≡ true) → RunsAsAsked run known moment before after benches a b end → ListsNoOther a.trace b.trace ⊎ Rose before after
 asked_lists run known moment before after benches a b end one (inl (plain, unchecked, ran)) = by_lists run known moment before after benches a b end.ended one ran
 asked_lists run known moment before after benches a b end one (inr (asked, ran)) = checked_lists run known moment before after benches a b end one ran
 
 -- ---- of the disk of each path
 
-run_lists : (repos : List ℕ) (run : JobRun) (known : Bool) (clock : Option ℕ) (a b : Scene) (end : JobsEnd) → run.workers ≡ 1 → RunsAt repos run known clock a b end
+run_lists : (repos : List ℕ) (run : JobRun) (known : Bool) (clock : Option ℕ) (a b : Scene) (end : JobsEnd) → (run.workers ≡ 1) ⊎ (known ≡ true) → RunsAt repos run known clock a b end
     → ListsNoOther (a.host.disk_at repos) (b.host.disk_at repos) ⊎ Rose a.host.disk_faults b.host.disk_faults
 run_lists repos run known clock a b end one (inl unmounted) = inl (lists_same (a.host.disk_at repos) (b.host.disk_at repos) (ap (option_map labels_now) unmounted.2))
 run_lists repos run known clock a b end one (inr (moment, tells, ran)) = asked_lists run known moment a.host.disk_faults b.host.disk_faults (λ n. RoseBy n a.host.bench_faults b.host.bench_faults) (run_scene repos a) (run_scene repos b) end one ran
 
 pub jobs_list : (words : List (List ℕ)) (known : Bool) (clock : Option ℕ) (a b : Scene) (end : JobsEnd) → DidJobs words known clock a b end
-    → ((repos : List ℕ) (run : JobRun) → Asks Jobs words repos (RunJobs run) → run.workers ≡ 1) → (path : List ℕ) → ListsNoOther (a.host.disk_at path) (b.host.disk_at path) ⊎ Rose a.host.disk_faults b.host.disk_faults
+    → ((repos : List ℕ) (run : JobRun) → Asks Jobs words repos (RunJobs run) → (run.workers ≡ 1) ⊎ (known ≡ true)) → (path : List ℕ) → ListsNoOther (a.host.disk_at path) (b.host.disk_at path) ⊎ Rose a.host.disk_faults b.host.disk_faults
 jobs_list words known clock a b end (inl (repos, run, asks, ran, decided, others)) one path = ⊎_elim here (λ apart. inl (lists_same (a.host.disk_at path) (b.host.disk_at path) (ap (option_map labels_now) (others path (apart, tt))))) (path_cases path repos)
   where
     here : path ≡ repos → ListsNoOther (a.host.disk_at path) (b.host.disk_at path) ⊎ Rose a.host.disk_faults b.host.disk_faults

@@ -286,8 +286,9 @@ where
     ensures jobs { tool ≡ Jobs → (end : JobsEnd) × (result ≡ status_at end) × TellsEnd Jobs (sink_scene E.Sink err.old) (sink_scene E.Sink err.new) end
         × DidJobs (map string_bytes words.now) known (C.next clock.old) (scene H.Host O.Sink host.old out.old (source_scene I.Source input.old)) (scene H.Host O.Sink host.new out.new (source_scene I.Source input.new)) end }
 
-    // Whatever the disks hold, a run of svnjobs by one worker leaves no transaction listed that was not before it, unless a call of the disk failed.
-    ensures listed { tool ≡ Jobs → ((repos : List ℕ) (run : JobRun) → Asks tool (map string_bytes words.now) repos (RunJobs run) → run.workers ≡ 1)
+    // A run of svnjobs leaves no transaction listed that was not before it, unless a call of the disk failed: of one worker whatever the disks hold,
+    // and of two where the files are known to stand for a history.
+    ensures listed { tool ≡ Jobs → ((repos : List ℕ) (run : JobRun) → Asks tool (map string_bytes words.now) repos (RunJobs run) → (run.workers ≡ 1) ⊎ (known ≡ true))
         → (path : List ℕ) → ListsNoOther (H.disk_at host.old path) (H.disk_at host.new path) ⊎ Rose (H.disk_faults host.old) (H.disk_faults host.new) }
 
     ensures unread { tool ≢ Jobs → I.remaining input.new ≡ I.remaining input.old }

@@ -10,6 +10,8 @@ use Rattle.fsfs_machine.specs.Machine.{either_place, revisions}
 use Rattle.fsfs_turn.specs.Alone.{BringsNoDoubt, are_harmless, leaves_stuck}
 use Rattle.fsfs_turn.specs.Views.{View, Begins}
 use Rattle.fsfs_pass.specs.declared.seats.seat_view.Kin.{Kin}
+use Rattle.fsfs_base.specs.Failures.{Rose}
+use Rattle.fsfs_turn.specs.Labels.{IsTidy}
 use Rattle.fsfs_pass.specs.declared.seats.seat_view.SeatView.{SeatView}
 use Rattle.fsfs_pass.specs.Seats.{view_of, either_left, halved_view, split_pass, numbered_view, joined_view}
 use Rattle.fsfs_pass.proofs.Following.{grown_long}
@@ -28,6 +30,7 @@ use Rattle.fsfs_workers.proofs.Counting.{faults_in_turn, benches_in_turn}
 use Rattle.fsfs_workers.proofs.InTurnLemmas.{first_share, second_share, shares_are_dealt, shares_are_all, length_in_turn}
 use Rattle.fsfs_job_run.proofs.Full.{then_true}
 use Rattle.fsfs_workers.proofs.Shares.{either_full, share_is_calm, none_stuck}
+use Rattle.fsfs_workers.proofs.Tidied.{tidy_both}
 
 -- ---- what its jobs leave
 
@@ -164,6 +167,14 @@ module _ (moment : ℕ) (js : List Job) (firsts seconds answers : List JobAnswer
       let none : new.bench_failures ≡ 0 = ap (λ (z : SeatView). z.bench_failures) new_is in
       let sum : u.bench_failures ≡ one.bench_failures + two.bench_failures = ap (λ (z : SeatView). z.bench_failures) u_is in
       omega (arith, a.benches, b.benches, told, before, none, sum)
+
+  pub both_tidy : IsTidy (0 < u.failures) (Some v.own) (Some u.own)
+  both_tidy =
+      let sum : u.failures ≡ one.failures + two.failures = ap (λ (z : SeatView). z.failures) u_is in
+      let both : u.own ≡ one.own ++ two.own = ap (λ (z : SeatView). z.own) u_is in
+      let first : IsTidy (Rose half.failures one.failures) (Some v.own) (Some one.own) = subst (λ ls. IsTidy (Rose half.failures one.failures) (Some ls) (Some one.own)) (ap (λ (z : SeatView). z.own) half_is) a.tidy in
+      let second : IsTidy (Rose new.failures two.failures) (Some []) (Some two.own) = subst (λ ls. IsTidy (Rose new.failures two.failures) (Some ls) (Some two.own)) (ap (λ (z : SeatView). z.own) new_is) b.tidy in
+      tidy_both half.failures one.failures new.failures two.failures u.failures v.own one.own two.own u.own sum both first second
 
   pub same_parts : u.kin.parts ≡ v.kin.parts
   same_parts =

@@ -22,6 +22,7 @@ pub mod Readiness
 pub mod Ran
 mod Begun
 mod Ends
+mod Tidied
 pub use Rattle.fsfs_job_run.proofs.ListedLemmas
 pub use Rattle.fsfs_job_run.proofs.Unopened
 pub use Rattle.fsfs_job_run.proofs.RunLemmas

@@ -1,5 +1,6 @@
 //! Two workers beside each other.
-ghost use Rattle.std.specs.Prelude.{◌≡◌, ◌<◌, ◌≤◌, [], length, true, is_some, IfOk, OnErr};
+ghost use Rattle.std.specs.Prelude.{◌≡◌, ◌<◌, ◌≤◌, [], length, true, Some, is_some, IfOk, OnErr};
+ghost use Rattle.fsfs_turn.specs.Labels.{IsTidy};
 ghost use Rattle.std.specs.Vec.{vec_capacity};
 ghost use Rattle.fsfs_job_run.specs.Workers.Lines.{dealt, disk_faults_in, RoseBy};
 ghost use Rattle.fsfs_job_run.specs.Serial.Jobs.{bench_faults_in};
@@ -60,6 +61,8 @@ where
     // Whatever the disk tells: as many turns failed as lines tell of, and as many calls of benches.
     ensures cause { IfOk result.1 (λ answers. RoseBy (disk_faults_in answers.items) seat.me.0.failures result.0.me.0.failures) }
     ensures benches { IfOk result.1 (λ answers. RoseBy (bench_faults_in answers.items) seat.me.0.bench_failures result.0.me.0.bench_failures) }
+    // Of the labels for which the pass answers then none came, unless a call of the disk failed.
+    ensures tidy { IfOk result.1 (λ answers. IsTidy (0 < result.0.me.0.failures) (Some seat.me.0.own) (Some result.0.me.0.own)) }
     ensures none { OnErr result.1 (result.0 ≡ seat) }
     ensures sits { (result.0.table_id ≡ seat.table_id) × (result.0.me.1 ≡ []) }
     ensures rests { IsAtRest result.0.me.0 }

@@ -1,9 +1,14 @@
-use Rattle.std.proofs.Common.{◌≡◌, ◌∙◌, sym, ap, subst, arith}
-use Rattle.std.specs.Prelude.{is_some}
+use Rattle.std.proofs.Common.{◌≡◌, ◌<◌, ◌∙◌, List, [], inl, inr, ⊎_elim, refl, sym, ap, subst, arith}
+use Rattle.std.specs.Prelude.{Some, is_some}
+use Rattle.fsfs_base.specs.Failures.{Rose}
+use Rattle.fsfs_disk.specs.Labels.{Label}
+use Rattle.fsfs_turn.specs.Labels.{IsTidy}
+use Rattle.fsfs_pass.specs.Seats.{all_parts}
 use Rattle.fsfs_pass.specs.declared.seats.seat_view.Kin.{Kin}
 use Rattle.fsfs_workers.specs.Ready.{IsReady}
 use Rattle.fsfs_workers.proofs.Ran.{ran_so}
-use Rattle.fsfs_base.proofs.ResultLemmas.{if_ok}
+use Rattle.fsfs_workers.proofs.Tidied.{none_kept, tidy_kept}
+use Rattle.fsfs_base.proofs.ResultLemmas.{if_ok, on_err}
 use Rattle.fsfs_workers.proofs.run.run_two.Goals as goal
 
 pub do_beside-seat-requires-clause-sits : goal.do_beside-seat-requires-clause-sits
@@ -41,6 +46,30 @@ returns-in-Ok-clause-cause g c =
     let told = if_ok b.result.1 c.in-Ok.answers _ c.in-Ok.is b.ensures.cause in
     let looked : c.look-youngest.new.seat.me.0.failures ≡ b.result.0.me.0.failures = ap (λ m. m.0.failures) c.look-youngest.ensures.same.2 in
     omega (arith, told, looked, c.close.ensures.rose, c.requires.began.1, c.requires.fresh.1)
+
+pub returns-in-Ok-clause-tidy : goal.returns-in-Ok-clause-tidy
+returns-in-Ok-clause-tidy g c =
+    let b = c.do_beside-seat in
+    let count = g.D.Disk.faults in
+    let began = c.args.repo.board.shared.key.value.disk.trace in
+    let left = g.D.Disk.trace c.close.result in
+    let looked : c.look-youngest.new.seat.me.0.failures ≡ b.result.0.me.0.failures = ap (λ m. m.0.failures) c.look-youngest.ensures.same.2 in
+    let owned : c.look-youngest.new.seat.me.0.own ≡ b.result.0.me.0.own = ap (λ m. m.0.own) c.look-youngest.ensures.same.2 in
+    let parts : c.look-youngest.new.seat.me.0.kin.parts ≡ all_parts = ap (λ m. m.0.kin.parts) c.look-youngest.ensures.same.2 ∙ b.ensures.parts ∙ ap (λ (k : Kin). k.parts) c.requires.alone in
+    let tidy = if_ok b.result.1 c.in-Ok.answers (λ answers. IsTidy (0 < b.result.0.me.0.failures) (Some c.args.seat.me.0.own) (Some b.result.0.me.0.own)) c.in-Ok.is b.ensures.tidy in
+    ⊎_elim (λ none. inl none) (λ (some : 0 < b.result.0.me.0.failures). inr (omega (arith, some, looked, c.close.ensures.rose, c.requires.began.1)))
+    (none_kept (0 < b.result.0.me.0.failures) c.look-youngest.new.seat.me.0.own began left
+    (subst (λ (x : List Label × List Label). IsTidy (0 < b.result.0.me.0.failures) (Some x.0) (Some x.1)) (λ i. (c.requires.fresh.3 i, sym owned i)) tidy) (c.close.ensures.owned parts))
+
+-- nothing was done
+pub returns-clause-tidy : goal.returns-clause-tidy
+returns-clause-tidy g c =
+    let began = c.args.repo.board.shared.key.value.disk.trace in
+    let left = g.D.Disk.trace c.close-in-Err.result in
+    let seat = on_err c.do_beside-seat.result.1 c.in-Err.error _ c.in-Err.is c.do_beside-seat.ensures.none in
+    let parts : c.do_beside-seat.result.0.me.0.kin.parts ≡ all_parts = ap (λ s. s.me.0.kin.parts) seat ∙ ap (λ (k : Kin). k.parts) c.requires.alone in
+    none_kept _ c.do_beside-seat.result.0.me.0.own began left
+    (subst (λ (ls : List Label). IsTidy (Rose (g.D.Disk.faults c.args.repo.first.value) (g.D.Disk.faults c.close-in-Err.result)) (Some []) (Some ls)) (sym (ap (λ s. s.me.0.own) seat ∙ c.requires.fresh.3)) (tidy_kept _ _ _ refl)) (c.close-in-Err.ensures.owned parts)
 
 pub returns-in-Ok-clause-benches : goal.returns-in-Ok-clause-benches
 returns-in-Ok-clause-benches g c =

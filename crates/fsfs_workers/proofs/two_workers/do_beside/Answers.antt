@@ -5,7 +5,7 @@ use Rattle.fsfs_pass.specs.Tells.{TellsIt}
 use Rattle.fsfs_job_run.specs.Workers.Lines.{dealt}
 use Rattle.fsfs_workers.specs.InTurn.{AreDealt}
 use Rattle.fsfs_workers.specs.Ready.{IsReady}
-use Rattle.fsfs_workers.proofs.Both.{both_did, both_rose, both_benches, each_told}
+use Rattle.fsfs_workers.proofs.Both.{both_did, both_rose, both_benches, each_told, both_tidy}
 use Rattle.fsfs_workers.proofs.InTurnLemmas.{shares_are_dealt, shares_are_all}
 use Rattle.fsfs_workers.proofs.Readiness.{halved_ready, split_ready}
 use Rattle.fsfs_workers.proofs.two_workers.do_beside.Goals as goal
@@ -82,6 +82,13 @@ returns-clause-cause g c =
     let split = c.split-other.ensures in
     let j = c.join-seat.ensures in
     both_rose c.args.micros c.args.jobs.now c.join-seat.result.0.1.items c.join-seat.result.1.1.items c.in_order.result.items c.args.seat.me.0 c.split-other.new.seat.me.0 c.split-other.result.me.0 c.join-seat.result.0.0.me.0 c.join-seat.result.1.0.me.0 c.join.new.seat.me.0 split.split.0
+    (ap (λ m. m.0) split.same.2) split.split.1 (ap (λ m. m.0) c.join.ensures.joined) c.in_order.ensures j.first.0 j.second.0
+
+pub returns-clause-tidy : goal.returns-clause-tidy
+returns-clause-tidy g c =
+    let split = c.split-other.ensures in
+    let j = c.join-seat.ensures in
+    both_tidy c.args.micros c.args.jobs.now c.join-seat.result.0.1.items c.join-seat.result.1.1.items c.in_order.result.items c.args.seat.me.0 c.split-other.new.seat.me.0 c.split-other.result.me.0 c.join-seat.result.0.0.me.0 c.join-seat.result.1.0.me.0 c.join.new.seat.me.0 split.split.0
     (ap (λ m. m.0) split.same.2) split.split.1 (ap (λ m. m.0) c.join.ensures.joined) c.in_order.ensures j.first.0 j.second.0
 
 pub returns-clause-benches : goal.returns-clause-benches
