@@ -1,5 +1,5 @@
 -- The line of each job, and the status.
-use Rattle.std.specs.Prelude.{ℕ, ◌+◌, max, Bool, true, false, List, [], ◌∷◌, ◌++◌, codes, decimal}
+use Rattle.std.specs.Prelude.{ℕ, ◌+◌, max, Bool, true, false, List, [], ◌∷◌, ◌++◌, Option, Some, None, codes, decimal}
 use Rattle.hex.specs.Hex.{encode_lower}
 use Rattle.fsfs_base.specs.Paths.{path_text}
 use Rattle.fsfs_cli.specs.Lines.{fault_words, status_of}
@@ -63,6 +63,11 @@ youngest_line rev = codes "youngest " ++ decimal rev ++ codes "\n"
 abbrev pub sound_text : Bool → ℕ → List ℕ
 sound_text true rev = codes "sound r" ++ decimal rev ++ codes "\n"
 sound_text false rev = []
+
+-- what is told of packs beside the jobs: how many shards were packed; or nothing
+abbrev pub packed_text : Option ℕ → List ℕ
+packed_text (Some shards) = codes "packed " ++ decimal shards ++ codes "\n"
+packed_text None = []
 
 -- all that a run prints
 abbrev pub run_text : List JobAnswer → ℕ → List ℕ

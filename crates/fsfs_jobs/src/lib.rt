@@ -10,5 +10,5 @@ mod properties;
 
 pub use answer::{JobAnswer, TextRead};
 pub use job_edits::edits::{Stopped, do_edits};
-pub use output::{print_job_line, print_sound, print_youngest};
+pub use output::{print_job_line, print_packed, print_sound, print_youngest};
 pub use properties::properties_of;

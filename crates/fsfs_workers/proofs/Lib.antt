@@ -20,6 +20,7 @@ pub mod Counting
 pub mod Both
 pub mod Readiness
 pub mod Ran
+pub mod PackOften
 mod Begun
 mod Ends
 pub use Rattle.fsfs_job_run.proofs.ListedLemmas

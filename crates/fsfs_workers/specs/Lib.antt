@@ -5,6 +5,8 @@ pub mod OneWorker
 pub mod Two
 pub mod ByWorkers
 pub mod Works
+pub mod PackCalls
+pub mod WithPacks
 pub use Rattle.fsfs_job_run.specs.Workers.Lines
 pub use Rattle.fsfs_job_run.specs.Serial.Listed
 pub use Rattle.fsfs_job_run.specs.Openings

@@ -6,6 +6,8 @@
 
 mod answers;
 mod jobs;
+mod packing;
+mod packs;
 mod run;
 mod running;
 mod share;

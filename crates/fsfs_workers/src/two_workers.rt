@@ -67,14 +67,52 @@ where
     ensures parts { result.0.me.0.kin.parts ≡ seat.me.0.kin.parts }
     ensures duty { result.0.me.0.told ≡ seat.me.0.told }
 {
+    match Rooms::new(alloc, jobs.len()) {
+        Ok(rooms) => {
+            let (seat, answers) = do_in_rooms(
+                rt, board, seat, layout, floor, first, jobs, micros, gate, rooms, alloc,
+            );
+            (seat, Ok(answers))
+        }
+        Err(error) => (seat, Err(error)),
+    }
+}
+
+/// The same with the room for the answers.
+pub(crate) fn do_in_rooms<R: Threads + Wait + Sync, D: Disk + Drop + Send, G: Gate + Sync>(
+    rt: &R,
+    board: &Board<D>,
+    seat: SharedSeat<D>,
+    layout: Layout,
+    floor: RevNum,
+    first: &Note<D>,
+    jobs: &[Job],
+    micros: u64,
+    gate: &G,
+    rooms: Rooms,
+    alloc: Global,
+) -> (SharedSeat<D>, Vec<JobAnswer>)
+where
+    D::Bench: Send,
+    requires moment { micros ≤ 4102444799999999 }
+    requires room { (rooms.first.items ≡ []) × (rooms.second.items ≡ []) × (rooms.both.items ≡ []) × (vec_capacity rooms.first ≡ length jobs.now) × (vec_capacity rooms.second ≡ length jobs.now) × (vec_capacity rooms.both ≡ length jobs.now) }
+    requires sits { (seat.table_id ≡ board.now.shared.table_id) × (board.now.shared.table_id.words ≡ 3) × (board.now.shared.table_id.slots ≡ 1) × (seat.me.1 ≡ []) }
+    requires parts { 1 < seat.me.0.kin.parts }
+    requires ready { IsReady layout floor (is_some (D.trace first.now.value)) seat.me.0 }
+    ensures did { seat.me.0.told ≡ true → BothWorked micros jobs.now result.1.items seat.me.0 result.0.me.0 }
+    ensures each { length result.1.items ≡ length jobs.now }
+    ensures cause { RoseBy (disk_faults_in result.1.items) seat.me.0.failures result.0.me.0.failures }
+    ensures benches { RoseBy (bench_faults_in result.1.items) seat.me.0.bench_failures result.0.me.0.bench_failures }
+    ensures sits { (result.0.table_id ≡ seat.table_id) × (result.0.me.1 ≡ []) }
+    ensures rests { IsAtRest result.0.me.0 }
+    ensures parts { result.0.me.0.kin.parts ≡ seat.me.0.kin.parts }
+    ensures duty { result.0.me.0.told ≡ seat.me.0.told }
+{
     let Rooms {
         first: firsts,
         second: seconds,
         both,
-    } = match Rooms::new(alloc, jobs.len()) {
-        Ok(rooms) => rooms,
-        Err(error) => return (seat, Err(error)),
-    };
+    } = rooms;
     let mut seat = seat;
     let other = split(board, &mut seat);
     let note = said_again(first);
@@ -108,5 +146,5 @@ where
         },
     );
     join(board, &mut seat, other);
-    (seat, Ok(in_order(firsts, seconds, both)))
+    (seat, in_order(firsts, seconds, both))
 }

@@ -8,7 +8,7 @@ use Rattle.fsfs_workers.specs.Ready.{IsReady}
 use Rattle.fsfs_workers.proofs.Both.{both_did, both_rose, both_benches, each_told}
 use Rattle.fsfs_workers.proofs.InTurnLemmas.{shares_are_dealt, shares_are_all}
 use Rattle.fsfs_workers.proofs.Readiness.{halved_ready, split_ready}
-use Rattle.fsfs_workers.proofs.two_workers.do_beside.Goals as goal
+use Rattle.fsfs_workers.proofs.two_workers.do_in_rooms.Goals as goal
 
 pub split-other-requires-clause-sits : goal.split-other-requires-clause-sits
 split-other-requires-clause-sits g c = c.requires.ready.sitting
@@ -17,7 +17,7 @@ pub join-seat-requires-after_bounds : goal.join-seat-requires-after_bounds
 join-seat-requires-after_bounds g c κs within =
     let r = c.requires in
     let split = c.split-other.ensures in
-    let room = c.in-Ok.ensures in
+    let room = c.requires.room in
     let tells = is_some (g.D.Disk.trace c.args.first.now.value) in
     let half = subst (λ (z : SeatView). IsReady c.args.layout c.args.floor tells z) (sym (ap (λ m. m.0) split.same.2)) (halved_ready c.args.layout c.args.floor tells c.args.seat.me.0 r.ready) in
     let new = subst (λ (z : SeatView). IsReady c.args.layout c.args.floor tells z) (sym split.split.1)
@@ -25,7 +25,7 @@ join-seat-requires-after_bounds g c κs within =
       (
         r.moment,
         (
-          (room.empty.0, omega (arith, room.many.0)),
+          (room.0, omega (arith, room.3)),
           (
             (split.same.0 ∙ r.sits.0, r.sits.1, r.sits.2, ap (λ m. m.1) split.same.2 ∙ r.sits.3),
             subst (λ d. IsReady c.args.layout c.args.floor (is_some (g.D.Disk.trace d)) c.split-other.new.seat.me.0) (sym c.said_again-note.ensures) half,
@@ -35,7 +35,7 @@ join-seat-requires-after_bounds g c κs within =
       (
         r.moment,
         (
-          (room.empty.1, omega (arith, room.many.1)),
+          (room.1, omega (arith, room.4)),
           (
             (split.new.0 ∙ r.sits.0, r.sits.1, r.sits.2, split.new.1),
             subst (λ d. IsReady c.args.layout c.args.floor (is_some (g.D.Disk.trace d)) c.split-other.result.me.0) (sym c.said_again-other_note.ensures) new,
@@ -59,7 +59,7 @@ in_order-requires-clause-room g c =
     let a : vec_len firsts ≡ length (dealt 2 0 c.args.jobs.now) = firsts.ok.0 ∙ c.join-seat.ensures.first.0.each in
     let b : vec_len seconds ≡ length (dealt 2 1 c.args.jobs.now) = seconds.ok.0 ∙ c.join-seat.ensures.second.0.each in
     let all = shares_are_all c.args.jobs.now in
-    (c.in-Ok.ensures.empty.2, omega (arith, a, b, all, c.in-Ok.ensures.many.2))
+    (c.requires.room.2, omega (arith, a, b, all, c.requires.room.5))
 
 pub returns-clause-did : goal.returns-clause-did
 returns-clause-did g c = λ told.
