@@ -8,6 +8,7 @@ mod calls;
 mod failing;
 mod jobs;
 mod lines;
+mod packs;
 mod play;
 mod racing;
 mod rivals;
