@@ -7,11 +7,18 @@ use Rattle.std.specs.Prelude.{◌≤◌, ◌^◌, length, is_some, Option, Some,
 use Rattle.fsfs_folders.specs.System.Listing.{is_entry}
 use Rattle.fsfs_folders.specs.System.CallRecord.{CallRecord, Named, Create, Remove, SyncFile, FailSync, Does, made_firm, made_lost, Contents, Standing, no_contents, more_bytes, add_call, names_now, contents_now, new_number, Makes, MayMake}
 use Rattle.fsfs_folders.proofs.NameLemmas.{given_at}
+use Rattle.fsfs_folders.proofs.WritingLemmas.{pieces_names}
+use Rattle.fsfs_folders.proofs.OpenLemmas.{IsNamed}
 use Rattle.fsfs_folders.specs.Writing.{Writes, WritesSome}
 use Rattle.fsfs_folders.specs.BenchFiles.{file_held, file_or_new, Follows, Sets, SetsAny, Opens}
 use Rattle.fsfs_folders.proofs.HeldFiles.{held_at, held_none, created, gone, wrote, synced, lost}
 use Rattle.fsfs_folders.proofs.BenchTold.{sets_as, sets_then, sets_same, any_none}
 use Rattle.fsfs_base.specs.Files.{same_text}
+
+-- so many bytes may be written at the end of a file of this length
+pub room_left : (n len more : ℕ) (old : Option CallRecord) → IfSome old (λ r. len ≡ length (contents_now r n).bytes) → len + more ≤ 2 ^ 62 → IfSome old (λ r. length (contents_now r n).bytes + more ≤ 2 ^ 62)
+room_left n len more None is fits = tt
+room_left n len more (Some r) is fits = omega (arith, is, fits)
 
 module _ (name : List ℕ) (entry : is_entry name ≡ true) where
   new_here : (r : CallRecord) → (names_now r).files name ≡ None → file_or_new r name ≡ no_contents
@@ -25,12 +32,12 @@ module _ (name : List ℕ) (entry : is_entry name ≡ true) where
   at_number path n (Some s) p has r is = subst (λ x. (names_now x).files name ≡ Some n) (same_Some s r is) (subst (λ q. (names_now s).files q ≡ Some n) p has)
 
   -- one that is there is open
-  pub opened : (n len more : ℕ) (old : Option CallRecord) → IfSome old (λ r. (names_now r).files name ≡ Some n) → IfSome old (λ r. len ≡ length (contents_now r n).bytes) → len + more ≤ 2 ^ 62 → Opens name n more old old
-  opened n len more None has is fits = refl
-  opened n len more (Some r) has is fits = (
+  pub opened : (n more : ℕ) (old : Option CallRecord) → IsNamed old name n → IfSome old (λ r. length (contents_now r n).bytes + more ≤ 2 ^ 62) → Opens name n more old old
+  opened n more None has fits = refl
+  opened n more (Some r) has fits = (
     has,
     sym (old_here r n has),
-    omega (arith, fits, is, ap (λ (c : Contents). length c.bytes) (old_here r n has)),
+    omega (arith, fits, ap (λ (c : Contents). length c.bytes) (old_here r n has)),
     λ q. sets_same name (Some r) q ∙ ap (λ x. cond (same_text q name) x (file_held r q)) (held_at r name n entry has ∙ ap (λ c. Some c) (sym (old_here r n has))),
   )
 
@@ -86,6 +93,11 @@ module _ (name : List ℕ) (entry : is_entry name ≡ true) where
       sets_then name (λ r. Some (file_or_new r name)) (λ s. Some (more_bytes bytes (contents_now s n))) (λ r. Some (more_bytes bytes (file_or_new r name))) old mid new
       (opens_sets n more old mid opens) (wrote name entry n bytes mid new (opens_number n more old mid opens) w)
       (λ r s is then. ap (λ c. Some (more_bytes bytes c)) (opens_file n more old mid opens r s is then))
+
+  -- it still has the name then
+  pub opens_still : (n more : ℕ) (bytes : List ℕ) (old mid new : Option CallRecord) → Opens name n more old mid → Writes n bytes mid new → IsNamed new name n
+  opens_still n more bytes old None new opens w = subst (λ o. IsNamed o name n) (sym w.2) tt
+  opens_still n more bytes old (Some s) new opens w = subst (λ o. IsNamed o name n) (sym w.2) (ap (λ (x : Standing). x.files name) (pieces_names n w.0 s) ∙ opens_number n more old (Some s) opens s refl)
 
   pub opens_any : (n more : ℕ) (old mid new : Option CallRecord) → Opens name n more old mid → WritesSome n more mid new → SetsAny name old new
   opens_any n more old mid new opens w = inr (
@@ -205,10 +217,6 @@ module _ (name : List ℕ) (entry : is_entry name ≡ true) where
       none : (o : Option CallRecord) → IfSome o (λ r. (names_now r).files path ≡ None) → (r : CallRecord) → o ≡ Some r → file_held r name ≡ None
       none None lacks r is = absurd (none-some r is)
       none (Some s) lacks r is = subst (λ x. file_held x name ≡ None) (same_Some s r is) (held_none s name (subst (λ q. (names_now s).files q ≡ None) p lacks))
-
-  pub opens_either : {T E : Type 0} (n : ℕ) (bytes : List ℕ) (old mid new : Option CallRecord) (result : Result T E) → Opens name n (length bytes) old mid → OnOk result (Writes n bytes mid new) → OnErr result (WritesSome n (length bytes) mid new) → SetsAny name old new
-  opens_either n bytes old mid new (Ok x) opens done failed = opens_all n bytes old mid new opens done
-  opens_either n bytes old mid new (Err e) opens done failed = opens_any n (length bytes) old mid new opens failed
 
   pub made_any_at : (path : List ℕ) (a b c : Option CallRecord) → path ≡ name → Sets name (λ r. None) a b → MayMake (Create path) b c → SetsAny name a c
   made_any_at path a b c p away may = made_any a b c away (subst (λ x. MayMake (Create x) b c) p may)

@@ -8,7 +8,7 @@ use Rattle.fsfs_folders.specs.Told.{is_apart}
 use Rattle.fsfs_folders.specs.Keeping.{is_sound}
 use Rattle.fsfs_folders.specs.Writing.{IsFilled, bytes_there}
 use Rattle.fsfs_folders.specs.Standing.{told}
-use Rattle.fsfs_folders.specs.OpenFiles.{is_number, is_file_of}
+use Rattle.fsfs_folders.specs.OpenFiles.{is_number, is_file_of, is_named, is_in_place}
 use Rattle.fsfs_folders.proofs.FolderCalls.{told_there}
 
 number_is : (n : ℕ) (found : Option ℕ) → found ≡ Some n → is_number n found ≡ true
@@ -17,6 +17,30 @@ number_is n found e = ap (is_number n) e ∙ eq-eqb n n refl
 number_found : (n : ℕ) (found : Option ℕ) → is_number n found ≡ true → found ≡ Some n
 number_found n None e = let h : false ≡ true = e in cc
 number_found n (Some m) e = ap (λ (k : ℕ). Some k) (sym (eqb-true n m e))
+
+-- the file with a name has this number
+abbrev pub IsNamed : Option CallRecord → List ℕ → ℕ → Type 0
+IsNamed calls name n = IfSome calls (λ r. (names_now r).files name ≡ Some n)
+
+named_is : (calls : Option CallRecord) (name : List ℕ) (n : ℕ) → IsNamed calls name n → is_named calls name n ≡ true
+named_is None name n has = refl
+named_is (Some r) name n has = number_is n ((names_now r).files name) has
+
+named_from : (calls : Option CallRecord) (name : List ℕ) (n : ℕ) → is_named calls name n ≡ true → IsNamed calls name n
+named_from None name n is = tt
+named_from (Some r) name n is = number_found n ((names_now r).files name) is
+
+pub named_as : (n : ℕ) (a b : List ℕ) (calls : Option CallRecord) → a ≡ b → IsNamed calls a n → IsNamed calls b n
+named_as n a b calls same has = subst (λ q. IsNamed calls q n) same has
+
+module _ {A : Type 0} (name_of : A → List ℕ) (number_of : A → ℕ) (calls : Option CallRecord) (opened : A) (name : List ℕ) where
+  -- one of a bench that is open by this name
+  pub in_place_named : (last : Option A) → last ≡ Some opened → name_of opened ≡ name → is_in_place last name_of number_of calls ≡ true → IsNamed calls name (number_of opened)
+  in_place_named last is same place =
+      named_as (number_of opened) (name_of opened) name calls same (named_from calls (name_of opened) (number_of opened) (sym (ap (λ o. is_in_place o name_of number_of calls) is) ∙ place))
+
+  pub named_in_place : name_of opened ≡ name → IsNamed calls name (number_of opened) → is_in_place (Some opened) name_of number_of calls ≡ true
+  named_in_place same has = named_is calls (name_of opened) (number_of opened) (named_as (number_of opened) name (name_of opened) calls (sym same) has)
 
 -- what was opened by a name
 pub opened_is : (calls : Option CallRecord) (path name : List ℕ) (n : ℕ) → is_apart name ≡ false → path ≡ name → IfSome calls (λ r. (names_now r).files path ≡ Some n) → is_file_of calls name n ≡ true

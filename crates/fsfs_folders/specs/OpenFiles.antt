@@ -16,3 +16,13 @@ is_file_of (Some r) name number = not (is_apart name) && is_number number ((name
 abbrev pub is_still : {A : Type 0} → Option A → (A → List ℕ) → (A → ℕ) → Option CallRecord → Bool
 is_still None name_of number_of calls = true
 is_still (Some opened) name_of number_of calls = is_file_of calls (name_of opened) (number_of opened)
+
+-- a file of a bench with this name has this number now
+abbrev pub is_named : Option CallRecord → List ℕ → ℕ → Bool
+is_named None name number = true
+is_named (Some r) name number = is_number number ((names_now r).files name)
+
+-- the same of one that is open, if any
+abbrev pub is_in_place : {A : Type 0} → Option A → (A → List ℕ) → (A → ℕ) → Option CallRecord → Bool
+is_in_place None name_of number_of calls = true
+is_in_place (Some opened) name_of number_of calls = is_named calls (name_of opened) (number_of opened)

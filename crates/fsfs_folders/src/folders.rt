@@ -325,6 +325,16 @@ impl<C: Calls + Drop> Folders<C> {
         self.calls.make_folder(path, mode)
     }
 
+    // Makes one that another is to stand in. Where it is there nothing changes, so it isn't noted.
+    fn make_above(&mut self, path: &Path) -> Result<(), CallError>
+        ensures told { told (C.history self.new.calls) ≡ told (C.history self.old.calls) }
+    {
+        if self.calls.is_folder(path)? {
+            return Ok(());
+        }
+        self.make_one(path)
+    }
+
     /// Makes a folder and those above it, also where they are there. None is made where benches stand.
     pub fn make_folder(&mut self, name: &Name) -> Result<(), CallError>
         ensures { told (C.history self.new.calls) ≡ told (C.history self.old.calls) }
@@ -334,7 +344,7 @@ impl<C: Calls + Drop> Folders<C> {
             if text.as_bytes()[at] == b'/'
                 && let Some(above) = text.get(..at)
             {
-                self.make_one(&Path::new(above))?;
+                self.make_above(&Path::new(above))?;
             }
         }
         self.make_one(&Path::of(name))

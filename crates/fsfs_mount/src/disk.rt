@@ -23,8 +23,8 @@ use std::alloc::Global;
 ///
 /// Where a mount was to change a repository and found none, each change fails: nothing is locked there.
 ///
-/// The files that were read last stay open: a read of one of them that doesn't begin at its beginning costs no call but the read. Each call
-/// but reads and sizes closes them.
+/// The files that were read last stay open: a read of one of them that doesn't begin at its beginning costs no call but the read, nor does
+/// one from the beginning right behind its size. Each call but reads and sizes closes them.
 #[derive(Drop)]
 pub struct FolderDisk<C: Calls + Drop> {
     alloc: Global,

@@ -21,6 +21,8 @@ pub struct OpenFiles<C: Calls + Drop> {
     others: Vec<Opened<C>>,
     // Which of the others goes next, where there are as many as may be.
     next: usize,
+    // The last call opened the one that was used last, to tell its size: nothing of it has been read.
+    is_new: bool,
 }
 
 // Whether the file that is open was opened by this name.
@@ -43,6 +45,7 @@ impl<C: Calls + Drop> OpenFiles<C> {
             last: None,
             others: Vec::new(alloc),
             next: 0,
+            is_new: false,
         }
     }
 
@@ -103,6 +106,7 @@ impl<C: Calls + Drop> OpenFiles<C> {
         ensures still { AreStill self.new.last self.new.others.items (λ it. it.name) (λ it. C.File.number it.file) (C.history folders.old.calls) }
         ensures same { C.history folders.new.calls ≡ C.history folders.old.calls }
     {
+        self.is_new = false;
         if !anew && is_of(&self.last, name) {
             return Ok(());
         }
@@ -120,11 +124,17 @@ impl<C: Calls + Drop> OpenFiles<C> {
             found => found?,
         };
         self.use_next(opened, name);
+        self.is_new = true;
         Ok(())
     }
 
+    // Whether a read from this offset on opens the file of a name anew.
+    fn is_read_anew(&self, name: &Name, offset: u64) -> bool {
+        offset == 0 && !(self.is_new && is_of(&self.last, name))
+    }
+
     /// Fills the buffer from an offset on, as far as the file goes. `None`: there is no such file. A read from the beginning opens the
-    /// file anew: another process may have put another in its place.
+    /// file anew, since another process may have put another in its place, unless the call before opened it to tell its size.
     pub fn read(
         &mut self,
         folders: &mut Folders<C>,
@@ -138,7 +148,8 @@ impl<C: Calls + Drop> OpenFiles<C> {
         ensures still { AreStill self.new.last self.new.others.items (λ it. it.name) (λ it. C.File.number it.file) (C.history folders.new.calls) }
         ensures same { C.history folders.new.calls ≡ C.history folders.old.calls }
     {
-        self.open(folders, name, offset == 0)?;
+        self.open(folders, name, self.is_read_anew(name, offset))?;
+        self.is_new = false;
         match &self.last {
             Some(opened) => Ok(Some(folders.read_open(opened, offset, buffer)?)),
             None => Ok(None),

@@ -10,7 +10,7 @@ ghost use Rattle.fsfs_pack.specs.Shards.{IsShard};
 
 use crate::answers::PackFault;
 use crate::shard::Shard;
-use fsfs_base::{DiskPlace, Name, RevNum};
+use fsfs_base::{DiskPlace, Name, RevNum, fitting};
 use fsfs_disk::Bench;
 use fsfs_revision::{Book, BookFault, Refusal};
 use std::alloc::Global;
@@ -92,7 +92,9 @@ fn copy_revision<B: Book, N: Bench>(
     };
     let mut done = 0;
     'pieces: while done < size {
-        let count = copy_piece(book, rev, done, bench, piece)?;
+        // No more is asked for than there is: a read that ends at the end of the file makes no call to find it.
+        let most = fitting(piece.len(), size - done);
+        let count = copy_piece(book, rev, done, bench, &mut piece[..most])?;
         if count == 0 {
             return Err(PackFault::Missing(rev));
         }

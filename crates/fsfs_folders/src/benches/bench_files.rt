@@ -1,10 +1,12 @@
 // Calls on the files right in a folder.
-ghost use Rattle.std.specs.Prelude.{◌≡◌, ◌⊎◌, ◌≤◌, ◌^◌, Some, None, true, IfOk, IfSome, OnOk, OnErr, is_some, option_map};
-ghost use Rattle.fsfs_folders.specs.System.CallRecord.{more_bytes, no_contents, made_firm, made_lost};
+ghost use Rattle.std.specs.Prelude.{◌≡◌, ◌⊎◌, ◌≤◌, ◌+◌, ◌^◌, Some, None, true, IfOk, IfSome, OnOk, OnErr, is_some, length, option_map};
+ghost use Rattle.fsfs_folders.specs.System.CallRecord.{contents_now, more_bytes, no_contents, made_firm, made_lost};
 ghost use Rattle.fsfs_folders.specs.System.Listing.{is_entry as entry};
 ghost use Rattle.fsfs_folders.specs.BenchFiles.{file_held, file_or_new, Sets, SetsAny, Opens, Clears, HoldsNothing};
+ghost use Rattle.fsfs_folders.specs.OpenFiles.{is_in_place};
 
 use crate::folders::LONGEST;
+use crate::opened::Opened;
 use crate::texts::has_slash;
 use crate::writing::{append_all, open_to_sync};
 use crate::{CallError, Calls, Mode, Path};
@@ -17,6 +19,19 @@ pub fn is_entry(name: &Name) -> bool
     !name.as_str().is_empty() && !has_slash(name.as_str())
 }
 
+// Refuses a file that is open at whose end so many bytes can't be written.
+fn check_room<C: Calls>(calls: &mut C, file: &C::File, more: usize) -> Result<(), CallError>
+    requires { more ≤ 2 ^ 62 }
+    ensures room { OnOk result (IfSome (C.history calls.old) (λ r. length (contents_now r (C.File.number file.now)).bytes + more ≤ 2 ^ 62)) }
+    ensures same { C.history calls.new ≡ C.history calls.old }
+{
+    let length = calls.length(file)?;
+    if ((LONGEST - more) as u64) < length {
+        return Err(CallError::Failed);
+    }
+    Ok(())
+}
+
 // Opens a file at whose end so many bytes may be written. It is made where there is none.
 fn open_for<C: Calls>(calls: &mut C, name: &Name, more: usize) -> Result<C::File, CallError>
     requires entry { entry name.now ≡ true }
@@ -27,10 +42,7 @@ fn open_for<C: Calls>(calls: &mut C, name: &Name, more: usize) -> Result<C::File
     let path = Path::of(name);
     match calls.open_to_append(&path) {
         Ok(file) => {
-            let length = calls.length(&file)?;
-            if ((LONGEST - more) as u64) < length {
-                return Err(CallError::Failed);
-            }
+            check_room(calls, &file, more)?;
             Ok(file)
         }
         Err(CallError::NotFound) => calls.create(&path, None),
@@ -38,17 +50,53 @@ fn open_for<C: Calls>(calls: &mut C, name: &Name, more: usize) -> Result<C::File
     }
 }
 
-/// Adds bytes at the end of a file, which begins with them where there is none.
-pub fn append_to<C: Calls>(calls: &mut C, name: &Name, bytes: &[u8]) -> Result<(), CallError>
-    requires { entry name.now ≡ true }
+// The same, where the file that was written last may be open still.
+fn open_again<C: Calls + Drop>(
+    calls: &mut C,
+    last: Option<Opened<C>>,
+    name: &Name,
+    more: usize,
+) -> Result<Opened<C>, CallError>
+    requires entry { entry name.now ≡ true }
+    requires fits { more ≤ 2 ^ 62 }
+    requires last { is_in_place last (λ it. it.name) (λ it. C.File.number it.file) (C.history calls.old) ≡ true }
+    ensures named { IfOk result (λ it. it.name ≡ name.now) }
+    ensures ok { IfOk result (λ it. Opens name.now (C.File.number it.file) more (C.history calls.old) (C.history calls.new)) }
+    ensures err { OnErr result (SetsAny name.now (C.history calls.old) (C.history calls.new)) }
+{
+    if let Some(opened) = last
+        && opened.name.is(name)
+    {
+        check_room(calls, &opened.file, more)?;
+        return Ok(opened);
+    }
+    let file = open_for(calls, name, more)?;
+    Ok(Opened {
+        name: name.copy(),
+        file,
+    })
+}
+
+/// Adds bytes at the end of a file, which begins with them where there is none. It stays open for more.
+pub fn append_to<C: Calls + Drop>(
+    calls: &mut C,
+    last: &mut Option<Opened<C>>,
+    name: &Name,
+    bytes: &[u8],
+) -> Result<(), CallError>
+    requires entry { entry name.now ≡ true }
+    requires last { is_in_place last.old (λ it. it.name) (λ it. C.File.number it.file) (C.history calls.old) ≡ true }
     ensures ok { OnOk result (Sets name.now (λ r. Some (more_bytes bytes.now (file_or_new r name.now))) (C.history calls.old) (C.history calls.new)) }
     ensures any { SetsAny name.now (C.history calls.old) (C.history calls.new) }
+    ensures last { is_in_place last.new (λ it. it.name) (λ it. C.File.number it.file) (C.history calls.new) ≡ true }
 {
     if LONGEST < bytes.len() {
         return Err(CallError::Failed);
     }
-    let file = open_for(calls, name, bytes.len())?;
-    append_all(calls, &file, bytes)
+    let opened = open_again(calls, last.take(), name, bytes.len())?;
+    append_all(calls, &opened.file, bytes)?;
+    *last = Some(opened);
+    Ok(())
 }
 
 /// Takes a file away. `false`: there was none.

@@ -1,19 +1,22 @@
 // The files of a bench that stand right in one folder.
-ghost use Rattle.std.specs.Prelude.{◌≡◌, ◌≢◌, ◌≤◌, ◌^◌, ℕ, List, Some, false, length, option_map, IfOk, IfSome, OnOk, OnErr};
+ghost use Rattle.std.specs.Prelude.{◌≡◌, ◌≢◌, ◌≤◌, ◌^◌, ℕ, List, Some, true, false, length, option_map, IfOk, IfSome, OnOk, OnErr};
 ghost use Rattle.std.specs.FinMap.{get};
 ghost use Rattle.fsfs_disk.specs.Benches.{appended, written, removed, bytes_on, IsFirmFile, Spoils};
 ghost use Rattle.fsfs_disk.specs.Trace.{Adopt, Performs, FailsToAdopt, IsRead, IsSize, IsThere};
 ghost use Rattle.fsfs_folders.specs.System.CallRecord.{CallRecord, Contents};
 ghost use Rattle.fsfs_folders.specs.BenchFiles.{file_held, bench_told, firm_held, AreShort, AreKept};
+ghost use Rattle.fsfs_folders.specs.OpenFiles.{is_in_place};
 ghost use Rattle.fsfs_folders.specs.Standing.{told};
 
 use crate::benches::bench_files::{append_to, is_entry, remove_from, sync_in, write_to};
 use crate::folders::Folders;
+use crate::opened::Opened;
 use crate::reading::{file_size, read_file};
 use crate::{CallError, Calls, Mode, Path};
 use fsfs_base::Name;
 
-/// Files right in a folder, over calls on it. A name with a slash is refused.
+/// Files right in a folder, over calls on it. A name with a slash is refused. The file that bytes were added to last stays open for more,
+/// until another call changes a file.
 #[derive(Drop)]
 pub struct BenchPart<C: Calls + Drop> {
     calls: C,
@@ -21,8 +24,11 @@ pub struct BenchPart<C: Calls + Drop> {
     mode: Option<Mode>,
     // The sync of a file has failed, so no later one says that its bytes are firm.
     is_lost: bool,
+    // The file that bytes were added to last.
+    last: Option<Opened<C>>,
     ghost short: { (r : CallRecord) → C.Calls.history calls ≡ Some r → (name : List ℕ) (file : Contents) → file_held r name ≡ Some file → length file.bytes ≤ 2 ^ 62 },
     ghost kept: { is_lost ≡ false → (r : CallRecord) → C.Calls.history calls ≡ Some r → (name : List ℕ) (file : Contents) → file_held r name ≡ Some file → file.is_lost ≡ false },
+    ghost named: { is_in_place last (λ it. it.name) (λ it. C.File.OpenFile.number it.file) (C.Calls.history calls) ≡ true },
 }
 
 impl<C: Calls + Drop> BenchPart<C> {
@@ -36,6 +42,7 @@ impl<C: Calls + Drop> BenchPart<C> {
             calls,
             mode,
             is_lost: false,
+            last: None,
         }
     }
 
@@ -55,6 +62,7 @@ impl<C: Calls + Drop> BenchPart<C> {
         if !is_entry(file) {
             return Err(CallError::OtherKind);
         }
+        self.last = None;
         folders.adopt(&mut self.calls, file, to)
     }
 
@@ -68,7 +76,7 @@ impl<C: Calls + Drop> BenchPart<C> {
         if !is_entry(file) {
             return Err(CallError::OtherKind);
         }
-        append_to(&mut self.calls, file, bytes)
+        append_to(&mut self.calls, &mut self.last, file, bytes)
     }
 
     /// Makes a new file of these bytes, in place of the one that has the name.
@@ -81,6 +89,7 @@ impl<C: Calls + Drop> BenchPart<C> {
         if !is_entry(file) {
             return Err(CallError::OtherKind);
         }
+        self.last = None;
         write_to(&mut self.calls, file, bytes)
     }
 
@@ -122,6 +131,7 @@ impl<C: Calls + Drop> BenchPart<C> {
         if self.is_lost || !is_entry(file) {
             return Err(CallError::Failed);
         }
+        self.last = None;
         let synced = sync_in(&mut self.calls, file, self.mode);
         self.is_lost = synced.is_err();
         synced
@@ -138,6 +148,7 @@ impl<C: Calls + Drop> BenchPart<C> {
         if !is_entry(file) {
             return Err(CallError::OtherKind);
         }
+        self.last = None;
         remove_from(&mut self.calls, file)
     }
 }

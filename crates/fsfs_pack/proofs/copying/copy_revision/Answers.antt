@@ -1,5 +1,6 @@
-use Rattle.std.proofs.Common.{◌≡◌, ◌≤◌, ◌<◌, ◌+◌, ◌-◌, ◌++◌, ℕ, List, Some, Ok, length, take, sym, subst, arith, append-nil}
+use Rattle.std.proofs.Common.{◌≡◌, ◌≤◌, ◌<◌, ◌+◌, ◌-◌, ◌++◌, ℕ, List, Some, Ok, length, take, refl, sym, subst, arith, rules, append-nil}
 use Rattle.std.specs.Prelude.{min}
+use Rattle.std.proofs.lemmas.List.{length-take}
 use Rattle.std.proofs.lemmas.Result.{err_from_is_err_and}
 use Rattle.fsfs_revision.proofs.Keeping.{keeps_trans}
 use Rattle.fsfs_pack.specs.Causes.{IsWant}
@@ -13,6 +14,7 @@ returns-in-Err-clause-fine g c = λ bytes told. subst IsWant (sym c.fault_of.ens
 
 pub pieces-init : goal.pieces-init
 pieces-init g c = record {
+  room = refl;
   kept = c.rev_len.ensures.kept;
   there = λ before has. (before, has);
   tells = λ told. told;
@@ -28,6 +30,10 @@ returns-in_err-count-clause-fine g c = λ bytes told.
     let size = c.pieces.invariant.size bytes told in
     rw (p.1, p.2) (c.in_err-count.ensures.fine bytes (c.pieces.invariant.kept.revs c.args.rev (Ok bytes) told) size.1)
 
+-- as many as are asked for
+asked : (piece : List ℕ) (size done most count : ℕ) → most ≡ min (length piece) (size - done) → count ≡ min (length (take most piece)) (size - done) → count ≡ min (length piece) (size - done)
+asked piece size done most count least is = omega (arith, least, is, length-take most piece)
+
 -- a piece that has a byte at least
 many : (room size done count : ℕ) → 0 < room → done < size → count ≡ min room (size - done) → count ≡ 0 → ⊥
 many room size done count some less is none = omega (arith, some, less, is, none)
@@ -35,8 +41,8 @@ many room size done count some less is none = omega (arith, some, less, is, none
 pub returns-then-count-eq0-clause-fine : goal.returns-then-count-eq0-clause-fine
 returns-then-count-eq0-clause-fine g c = λ bytes told.
     let size = c.pieces.invariant.size bytes told in
-    many (length c.pieces.piece) (length bytes) c.pieces.done c.in_ok-count.count (omega (arith, c.requires.room, c.pieces.auto.piece)) (omega (arith, c.pieces-test.true, size.0))
-    (c.in_ok-count.ensures.many bytes (c.pieces.invariant.kept.revs c.args.rev (Ok bytes) told) size.1) c.if-count-eq0.true
+    many (length c.pieces.piece) (length bytes) c.pieces.done c.in_ok-count.count (omega (arith, c.requires.room, c.pieces.invariant.room)) (omega (arith, c.pieces-test.true, size.0))
+    (asked c.pieces.piece (length bytes) c.pieces.done c.fitting-most.result c.in_ok-count.count (omega (arith, c.fitting-most.ensures, size.0)) (c.in_ok-count.ensures.many bytes (c.pieces.invariant.kept.revs c.args.rev (Ok bytes) told) size.1)) c.if-count-eq0.true
 
 -- how far it is then
 further : (room size done count next : ℕ) → done ≤ size → size < 18446744073709551616 → count ≡ min room (size - done) → next ≡ min (count + done) 18446744073709551615 → (next ≡ done + count) × (next ≤ size)
@@ -46,8 +52,9 @@ pub pieces-preserved : goal.pieces-preserved
 pieces-preserved g c =
     let w = c.pieces.invariant in
     let on = λ (bytes : List ℕ) (told : (g.B.Book.told c.args.book.now).revs c.args.rev ≡ Some (Ok bytes)). further (length c.pieces.piece) (length bytes) c.pieces.done c.in_ok-count.count c.saturating_add-done.result (w.size bytes told).1 (g.met.B.Book.fits c.args.book.now c.args.rev bytes told)
-    (c.in_ok-count.ensures.many bytes (w.kept.revs c.args.rev (Ok bytes) told) (w.size bytes told).1) c.saturating_add-done.ensures in
+    (asked c.pieces.piece (length bytes) c.pieces.done c.fitting-most.result c.in_ok-count.count (omega (arith, c.fitting-most.ensures, (w.size bytes told).0)) (c.in_ok-count.ensures.many bytes (w.kept.revs c.args.rev (Ok bytes) told) (w.size bytes told).1)) c.saturating_add-done.ensures in
     record {
+      room = search rules;
       kept = keeps_trans (g.B.Book.told c.args.book.now) (g.B.Book.told c.pieces.book) (g.B.Book.told c.copy_piece.new.book) w.kept c.in_ok-count.ensures.kept;
       tells = λ told. c.in_ok-count.ensures.tells (w.tells told);
       there = λ before has. let there = w.there before has in c.in_ok-count.ensures.there there.0 there.1;

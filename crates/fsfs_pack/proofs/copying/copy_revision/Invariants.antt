@@ -8,6 +8,7 @@ use Rattle.fsfs_pack.proofs.copying.copy_revision.Given as goal
 -- the first bytes of the revision are behind what was there
 abbrev pub invariant-pieces : goal.invariant-pieces
 invariant-pieces g l = record {
+  room : length l.piece ≡ length l.fn.piece;
   kept : Keeps (g.B.Book.told l.fn.book) (g.B.Book.told l.book);
   there : (before : List ℕ) → HasFile (g.N.Bench.contents l.fn.bench) pack_text before → (bytes : List ℕ) × HasFile (g.N.Bench.contents l.bench) pack_text bytes;
   tells : IsSome (g.N.Bench.contents l.fn.bench) → IsSome (g.N.Bench.contents l.bench);

@@ -1,22 +1,19 @@
-use Rattle.std.proofs.Common.{◌≡◌, rules, sym, subst, ◌∙◌, arith}
-use Rattle.std.specs.Prelude.{length, Some, None, IfSome}
-use Rattle.fsfs_folders.specs.System.CallRecord.{names_now, contents_now}
+use Rattle.std.proofs.Common.{rules, sym, subst, ◌∙◌}
+use Rattle.std.specs.Prelude.{◌≤◌, ◌+◌, ◌^◌, length, IfSome}
+use Rattle.fsfs_folders.specs.System.CallRecord.{contents_now}
 use Rattle.fsfs_folders.specs.BenchFiles.{Opens}
+use Rattle.fsfs_folders.proofs.OpenLemmas.{named_as}
 use Rattle.fsfs_folders.proofs.PutLemmas.{if_given}
 use Rattle.fsfs_folders.proofs.BenchWriting.{opened, made_open_ok, made_failed_err}
 use Rattle.fsfs_folders.proofs.benches.bench_files.open_for.Goals as goal
 
-pub returns-else-more-length-clause-ok : goal.returns-else-more-length-clause-ok
-returns-else-more-length-clause-ok g c =
+pub returns-in_ok-check_room-in-Ok-clause-ok : goal.returns-in_ok-check_room-in-Ok-clause-ok
+returns-in_ok-check_room-in-Ok-clause-ok g c =
     let old = g.C.Calls.history c.args.calls.now in
-    let name = c.args.name.now in
     let n = g.C.File.OpenFile.number c.in-Ok.file in
-    let len = c.in_ok-length-in-Ok.length in
-    subst (λ o. Opens name n c.args.more old o) (sym (c.in_ok-length-in-Ok.ensures.same ∙ c.open_to_append.ensures.same))
-    (opened name c.requires.entry n len c.args.more old
-    (subst (λ p. IfSome old (λ r. (names_now r).files p ≡ Some n)) c.of-path.ensures c.in-Ok.ensures.there)
-    (subst (λ o. IfSome o (λ r. len ≡ length (contents_now r n).bytes)) c.open_to_append.ensures.same c.in_ok-length-in-Ok.ensures.length)
-    (omega arith))
+    subst (λ o. Opens c.args.name.now n c.args.more old o) (sym (c.in_ok-check_room-in-Ok.ensures.same ∙ c.open_to_append.ensures.same))
+    (opened c.args.name.now c.requires.entry n c.args.more old (named_as n c.of-path.result c.args.name.now old c.of-path.ensures c.in-Ok.ensures.there)
+    (subst (λ o. IfSome o (λ r. length (contents_now r n).bytes + c.args.more ≤ 2 ^ 62)) c.open_to_append.ensures.same c.in_ok-check_room-in-Ok.ensures.room))
 
 pub returns-in-Err-NotFound-clause-ok : goal.returns-in-Err-NotFound-clause-ok
 returns-in-Err-NotFound-clause-ok g c =

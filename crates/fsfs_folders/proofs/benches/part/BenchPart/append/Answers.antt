@@ -11,6 +11,7 @@ invariant_of-self g c =
     record {
       short = any_short c.args.file.now old new c.append_to.ensures.any c.args.self.now.short;
       kept = λ k. any_kept c.args.file.now old new c.append_to.ensures.any (c.args.self.now.kept k);
+      named = c.append_to.ensures.last;
     }
 
 pub returns-clause-ok : goal.returns-clause-ok

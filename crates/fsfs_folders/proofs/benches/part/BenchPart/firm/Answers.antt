@@ -1,4 +1,4 @@
-use Rattle.std.proofs.Common.{◌≡◌, rules, refl, sym, ap, ◌∙◌}
+use Rattle.std.proofs.Common.{◌≡◌, rules, true, refl, sym, ap, ◌∙◌}
 use Rattle.fsfs_folders.proofs.PutLemmas.{on_ok}
 use Rattle.fsfs_folders.proofs.BenchTold.{synced_told, sync_spoils, sync_others, sync_firm, sync_short, sync_kept}
 use Rattle.fsfs_folders.proofs.benches.part.BenchPart.firm.Goals as goal
@@ -10,6 +10,7 @@ invariant_of-self g c =
     record {
       short = sync_short c.sync_in-synced.result c.args.file.now old new c.sync_in-synced.ensures.ok c.sync_in-synced.ensures.err c.args.self.now.short;
       kept = λ k. sync_kept c.sync_in-synced.result c.args.file.now old new c.sync_in-synced.ensures.ok (sym c.is_err-self.ensures.value ∙ k) (c.args.self.now.kept c.if-self.false);
+      named = refl {a = true};
     }
 
 pub returns-clause-ok : goal.returns-clause-ok

@@ -12,6 +12,7 @@ invariant_of-self g c =
     record {
       short = any_short c.args.file.now old new any c.args.self.now.short;
       kept = λ k. any_kept c.args.file.now old new any (c.args.self.now.kept k);
+      named = refl {a = true};
     }
 
 pub returns-clause-ok : goal.returns-clause-ok

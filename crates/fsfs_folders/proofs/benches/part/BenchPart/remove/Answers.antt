@@ -1,4 +1,4 @@
-use Rattle.std.proofs.Common.{◌≡◌, rules, refl, sym, ap, ◌∙◌}
+use Rattle.std.proofs.Common.{◌≡◌, rules, true, refl, sym, ap, ◌∙◌}
 use Rattle.fsfs_folders.proofs.PutLemmas.{on_ok}
 use Rattle.fsfs_folders.proofs.WritingLemmas.{on_err}
 use Rattle.fsfs_folders.proofs.BenchTold.{any_short, any_kept, any_others, spoils_told, removed_told, firm_removed, there_told}
@@ -11,6 +11,7 @@ invariant_of-self g c =
     record {
       short = any_short c.args.file.now old new c.remove_from.ensures.any c.args.self.now.short;
       kept = λ k. any_kept c.args.file.now old new c.remove_from.ensures.any (c.args.self.now.kept k);
+      named = refl {a = true};
     }
 
 pub returns-clause-ok : goal.returns-clause-ok
