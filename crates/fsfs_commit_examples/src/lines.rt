@@ -2,6 +2,7 @@
 use crate::answers::say_txns;
 use crate::calls::{list, make, put, remove, show};
 use crate::jobs::do_jobs;
+use crate::packs::pack_meanwhile;
 use crate::racing::race;
 use crate::turns::purge_on;
 use fsfs_example_calls::{begin_on, look, say_open_fault};
@@ -69,6 +70,7 @@ pub fn call<T: Threads + Wait + Sync>(
         "purge" => return purge_on(alloc, disk, rest, out),
         "svnlook" => return look(rt, alloc, disk, rest, out),
         "race" => return race(alloc, disk, rest, out),
+        "pack-meanwhile" => return pack_meanwhile(rt, alloc, disk, rest, out),
         "list-open" | "jobs" => return call_opened(alloc, disk, word, rest, out),
         _ => out.say("? no such line"),
     }

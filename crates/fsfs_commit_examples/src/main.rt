@@ -8,12 +8,14 @@ mod calls;
 mod failing;
 mod jobs;
 mod lines;
+mod packs;
 mod play;
 mod racing;
 mod rivals;
 mod table;
 mod tally;
 mod turns;
+mod untold;
 
 use anyhow::Result;
 use fsfs_memory::Transcript;
