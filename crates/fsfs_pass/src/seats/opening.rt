@@ -75,6 +75,7 @@ pub fn close<D: Disk + Drop, R: Wait>(rt: &R, board: Board<D>, seat: SharedSeat<
     ensures alone { seat.me.0.kin.parts ≡ all_parts → D.trace result ≡ seat.me.0.met }
     // It is that with which the table began; as many of its calls have failed as failed of the pass's, or more, and as many of those of benches.
     ensures mounted { D.mount_path result ≡ board.shared.key.value.disk.mount_path }
+    ensures right { IsTrue (D.may_write result) }
     ensures later { board.shared.key.value.disk.faults ≤ D.faults result }
     ensures rose { min (board.shared.key.value.disk.faults + seat.me.0.failures) (2 ^ 64 - 1) ≤ D.faults result }
     ensures benches { min (board.shared.key.value.disk.bench_faults + seat.me.0.bench_failures) (2 ^ 64 - 1) ≤ D.bench_faults result }

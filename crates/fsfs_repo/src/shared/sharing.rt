@@ -1,5 +1,5 @@
 //! A shared repository is lent to its passes, and closed.
-ghost use Rattle.std.specs.Prelude.{◌≡◌, ◌≤◌, ◌+◌, ◌-◌, ◌^◌, min, [], true, Some, is_some, IfSome};
+ghost use Rattle.std.specs.Prelude.{◌≡◌, ◌≤◌, ◌+◌, ◌-◌, ◌^◌, min, [], true, Some, is_some, IfSome, IsTrue};
 ghost use Rattle.fsfs_disk.specs.Trace.{Trace};
 ghost use Rattle.fsfs_pass.specs.Met.{ground_of};
 ghost use Rattle.fsfs_pass.specs.Seats.{all_parts, view_of, IsSitting};
@@ -75,6 +75,7 @@ impl<D: Disk + Drop> SharedRepo<D> {
         // It is the disk with which the table began (`began` of `open`), and as many of its calls have failed as failed of the pass's, or more, and as
         // many of those of benches.
         ensures mounted { D.mount_path result ≡ self.board.shared.key.value.disk.mount_path }
+        ensures right { IsTrue (D.may_write result) }
         ensures later { self.board.shared.key.value.disk.faults ≤ D.faults result }
         ensures rose { min (self.board.shared.key.value.disk.faults + seat.me.0.failures) (2 ^ 64 - 1) ≤ D.faults result }
         ensures benches { min (self.board.shared.key.value.disk.bench_faults + seat.me.0.bench_failures) (2 ^ 64 - 1) ≤ D.bench_faults result }
