@@ -102,6 +102,9 @@ own_txns = own_by (codes "TXN") 84 refl (λ e. omega (arith, e)) (λ e. omega (a
 pub own_workers : IsOwn (codes "workers")
 own_workers = own_by (codes "workers") 119 refl (λ e. omega (arith, e)) (λ e. omega (arith, e)) (λ e. omega (arith, e))
 
+pub own_pack : IsOwn (codes "pack")
+own_pack = own_by (codes "pack") 112 refl (λ e. omega (arith, e)) (λ e. omega (arith, e)) (λ e. omega (arith, e))
+
 pub own_check : IsOwn (codes "check")
 own_check = own_by (codes "check") 99 refl (λ e. omega (arith, e)) (λ e. omega (arith, e)) (λ e. omega (arith, e))
 

@@ -5,7 +5,7 @@ use Rattle.clap.specs.Words.{App, Rule, app_of, rule_of, with_rule}
 use Rattle.clap.specs.declared.builder.arg.Arg.{Arg}
 use Rattle.clap.specs.declared.builder.command.Command.{Command}
 use Rattle.fsfs_cli.specs.Chains.{Fits, NeedsValue, IsChain, HasValue}
-use Rattle.fsfs_cli.proofs.ChainLemmas.{chain_more, all_apart, all_none, all_more, IsOwn, fits_chain, has_value, own_repos, own_path, own_shard, own_workers, own_check, own_txns, own_revision, own_show_ids}
+use Rattle.fsfs_cli.proofs.ChainLemmas.{chain_more, all_apart, all_none, all_more, IsOwn, fits_chain, has_value, own_repos, own_path, own_shard, own_workers, own_pack, own_check, own_txns, own_revision, own_show_ids}
 
 -- what clap is told, an argument more
 pub told_more : (c d : Command) (a : Arg) (app : App) (rule : Rule) → AddsArg c a d → a.global ≡ false → app_of c ≡ app → rule_of a ≡ rule → app_of d ≡ with_rule app rule
@@ -31,14 +31,15 @@ create_repos c d repos shard = more_repos c d repos shard (codes "shard") own_sh
 three_chain : (c1 c2 c3 : Command) (repos second third : Arg) → IsChain (repos ∷ []) c1 → AddsArg c1 second c2 → AddsArg c2 third c3 → IsChain (repos ∷ second ∷ third ∷ []) c3
 three_chain c1 c2 c3 repos second third chain a b = chain_more c2 c3 (repos ∷ second ∷ []) third (chain_more c1 c2 (repos ∷ []) second chain a) b
 
-pub jobs_repos : (c1 c2 c3 : Command) (repos workers check : Arg) → NeedsValue (codes "REPOS") repos → Fits (codes "workers") workers → Fits (codes "check") check
-    → IsChain (repos ∷ []) c1 → AddsArg c1 workers c2 → AddsArg c2 check c3 → HasValue (codes "REPOS") c3
-jobs_repos c1 c2 c3 repos workers check r w k chain a b =
-    let apart : all_apart (map (λ (a : Arg). a.id.now) (repos ∷ workers ∷ check ∷ [])) ≡ true = rw (r.fits.id, w.id, k.id) refl in
-    has_value c3 (repos ∷ workers ∷ check ∷ []) 0 repos (codes "REPOS") (three_chain c1 c2 c3 repos workers check chain a b)
-    (all_more FitsChain repos (workers ∷ check ∷ []) (fits_chain (codes "REPOS") repos own_repos r.fits)
-    (all_more FitsChain workers (check ∷ []) (fits_chain (codes "workers") workers own_workers w)
-    (all_more FitsChain check [] (fits_chain (codes "check") check own_check k) (all_none FitsChain)))) apart (omega arith) r.value r.fits.id
+pub jobs_repos : (c1 c2 c3 c4 : Command) (repos workers pack check : Arg) → NeedsValue (codes "REPOS") repos → Fits (codes "workers") workers → Fits (codes "pack") pack → Fits (codes "check") check
+    → IsChain (repos ∷ []) c1 → AddsArg c1 workers c2 → AddsArg c2 pack c3 → AddsArg c3 check c4 → HasValue (codes "REPOS") c4
+jobs_repos c1 c2 c3 c4 repos workers pack check r w p k chain a b c =
+    let apart : all_apart (map (λ (a : Arg). a.id.now) (repos ∷ workers ∷ pack ∷ check ∷ [])) ≡ true = rw (r.fits.id, w.id, p.id, k.id) refl in
+    has_value c4 (repos ∷ workers ∷ pack ∷ check ∷ []) 0 repos (codes "REPOS") (chain_more c3 c4 (repos ∷ workers ∷ pack ∷ []) check (three_chain c1 c2 c3 repos workers pack chain a b) c)
+    (all_more FitsChain repos (workers ∷ pack ∷ check ∷ []) (fits_chain (codes "REPOS") repos own_repos r.fits)
+    (all_more FitsChain workers (pack ∷ check ∷ []) (fits_chain (codes "workers") workers own_workers w)
+    (all_more FitsChain pack (check ∷ []) (fits_chain (codes "pack") pack own_pack p)
+    (all_more FitsChain check [] (fits_chain (codes "check") check own_check k) (all_none FitsChain))))) apart (omega arith) r.value r.fits.id
 
 pub rmtxns_repos : (c d : Command) (repos txns : Arg) → NeedsValue (codes "REPOS") repos → Fits (codes "TXN") txns → IsChain (repos ∷ []) c → AddsArg c txns d → HasValue (codes "REPOS") d
 rmtxns_repos c d repos txns = more_repos c d repos txns (codes "TXN") own_txns refl

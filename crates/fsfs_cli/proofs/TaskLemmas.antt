@@ -159,7 +159,7 @@ by_command tool (word ∷ words) a path e = option_and_then_some (λ v. asked_by
 
 run_workers : (rows : List Row) (run : JobRun) → run_in rows ≡ Some run → AreWorkers run.workers
 run_workers rows run e =
-    let n = mapped (run_by (flag_in (codes "check") rows)) (workers_in rows) run e in
+    let n = mapped (run_by (flag_in (codes "pack") rows) (flag_in (codes "check") rows)) (workers_in rows) run e in
     subst AreWorkers (ap (λ (r : JobRun). r.workers) n.2) (given_workers (first_of (codes "workers") rows) n.0 n.1)
 
 by_jobs : (words : List (List ℕ)) (a : Asked) (path : Path) → asked_by_jobs words ≡ Some a → IsTaskOf tools.Jobs (a.task path)

@@ -62,6 +62,10 @@ shard_rule = record (new_rule (codes "shard")) { long = Some (codes "shard") }
 abbrev pub workers_rule : Rule
 workers_rule = record (new_rule (codes "workers")) { short = Some 106 }
 
+-- [--pack]
+abbrev pub pack_rule : Rule
+pack_rule = record (new_rule (codes "pack")) { long = Some (codes "pack"); action = Some SetTrue }
+
 -- [--check]
 abbrev pub check_rule : Rule
 check_rule = record (new_rule (codes "check")) { long = Some (codes "check"); action = Some SetTrue }
@@ -116,9 +120,9 @@ verify_app = with_rule (bare (codes "verify")) repos_rule
 abbrev pub pack_app : App
 pack_app = with_rule (bare (codes "pack")) repos_rule
 
--- svnjobs REPOS [-j N] [--check], which has no word of its own
+-- svnjobs REPOS [-j N] [--pack] [--check], which has no word of its own
 abbrev pub jobs_app : App
-jobs_app = with_rule (with_rule (with_rule (bare (codes "svnjobs")) repos_rule) workers_rule) check_rule
+jobs_app = with_rule (with_rule (with_rule (with_rule (bare (codes "svnjobs")) repos_rule) workers_rule) pack_rule) check_rule
 
 -- youngest REPOS
 abbrev pub youngest_app : App

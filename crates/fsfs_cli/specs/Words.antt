@@ -53,11 +53,11 @@ abbrev pub flag_in : List ℕ → List Row → Bool
 flag_in name rows = option_map_or (λ word. bytes_eq word (codes "true")) (first_of name rows) false
 
 -- what a run of jobs is asked for
-abbrev pub run_by : Bool → ℕ → JobRun
-run_by check workers = record { workers = workers; check = check }
+abbrev pub run_by : Bool → Bool → ℕ → JobRun
+run_by pack check workers = record { workers = workers; pack = pack; check = check }
 
 abbrev pub run_in : List Row → Option JobRun
-run_in rows = option_map (run_by (flag_in (codes "check") rows)) (workers_in rows)
+run_in rows = option_map (run_by (flag_in (codes "pack") rows) (flag_in (codes "check") rows)) (workers_in rows)
 
 -- TXN..
 abbrev pub txns_in : List Row → Option (List (ℕ × ℕ))

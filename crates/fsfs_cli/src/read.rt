@@ -98,7 +98,7 @@ fn workers_given(matches: &ArgMatches<'_>) -> Result<u32, WordsFault>
     }
 }
 
-// [--check], [--show-ids]: an option without a value.
+// [--pack], [--check], [--show-ids]: an option without a value.
 fn flag_given(matches: &ArgMatches<'_>, id: &str) -> bool
     ensures { result ≡ flag_in id.now (rows_of (found_of matches.now)) }
 {
@@ -113,8 +113,13 @@ fn run_given(matches: &ArgMatches<'_>) -> Result<JobRun, WordsFault>
     ensures { Finds (run_in (rows_of (found_of matches.now))) (λ run. run) result }
 {
     let workers = workers_given(matches)?;
+    let pack = flag_given(matches, "pack");
     let check = flag_given(matches, "check");
-    Ok(JobRun { workers, check })
+    Ok(JobRun {
+        workers,
+        pack,
+        check,
+    })
 }
 
 // TXN..

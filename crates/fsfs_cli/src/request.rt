@@ -40,6 +40,8 @@ pub enum Task {
 pub struct JobRun {
     /// How many workers do the jobs: 1 or 2.
     pub workers: u32,
+    /// Whether full shards are packed beside the jobs and behind them.
+    pub pack: bool,
     /// Whether all revisions are checked behind the jobs.
     pub check: bool,
 }

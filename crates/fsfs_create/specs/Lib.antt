@@ -6,3 +6,4 @@ pub mod OpenFaults
 pub mod Deciding
 pub mod FirstTexts
 pub mod Known
+pub mod SmallParts

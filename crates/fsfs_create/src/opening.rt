@@ -8,8 +8,9 @@ ghost use Rattle.fsfs_create.specs.OpenFaults.{texts_of, JudgedBecause, OpensBec
 ghost use Rattle.fsfs_create.specs.Deciding.{Decides};
 ghost use Rattle.fsfs_layout.specs.declared.opened.Opened.{Opened};
 
+use crate::small_files::read_first;
 use fsfs_base::{DiskPlace, Name, OpenFault, OpenPlace, SmallFault, SmallFile};
-use fsfs_disk::{Disk, FileFault, read_disk_file};
+use fsfs_disk::{Disk, FileFault};
 use fsfs_layout::{
     Folders, FormatFile, Layout, OnlyFile, Opened, read_current, read_format,
     read_min_unpacked_rev, read_txn_current, read_uuid,
@@ -37,10 +38,11 @@ fn text_of<D: Disk>(alloc: Global, disk: &mut D, name: &Name) -> Result<Vec<u8>,
     ensures same { D.trace disk.new ≡ D.trace disk.old }
     ensures mounted { D.mount_path disk.new ≡ D.mount_path disk.old }
     ensures right { D.may_write disk.new ≡ D.may_write disk.old }
+    ensures benches { D.bench_faults disk.new ≡ D.bench_faults disk.old }
     ensures later { D.faults disk.old ≤ D.faults disk.new }
     ensures failed { IfErr result (IfUnread (Rose (D.faults disk.old) (D.faults disk.new))) }
 {
-    match read_disk_file(alloc, disk, name, MOST) {
+    match read_first(alloc, disk, name, MOST) {
         Ok(Some(bytes)) => Ok(bytes),
         Ok(None) => Ok(Vec::new(alloc)),
         Err(fault) => Err(outside(fault)),
@@ -63,10 +65,11 @@ fn read_small_files<D: Disk>(alloc: Global, disk: &mut D) -> Result<SmallFiles, 
     ensures same { D.trace disk.new ≡ D.trace disk.old }
     ensures mounted { D.mount_path disk.new ≡ D.mount_path disk.old }
     ensures right { D.may_write disk.new ≡ D.may_write disk.old }
+    ensures benches { D.bench_faults disk.new ≡ D.bench_faults disk.old }
     ensures later { D.faults disk.old ≤ D.faults disk.new }
     ensures failed { IfErr result (IfUnread (Rose (D.faults disk.old) (D.faults disk.new))) }
 {
-    let format = match read_disk_file(alloc, disk, &OnlyFile::Format.name(), MOST) {
+    let format = match read_first(alloc, disk, &OnlyFile::Format.name(), MOST) {
         Ok(found) => found,
         Err(fault) => return Err(outside(fault)),
     };
@@ -150,6 +153,7 @@ pub fn open<D: Disk>(alloc: Global, disk: &mut D) -> Result<Opened, OpenFault>
     ensures firm { OnOk result (Performs FirmNames (D.trace disk.old) (D.trace disk.new)) }
     ensures mounted { D.mount_path disk.new ≡ D.mount_path disk.old }
     ensures right { D.may_write disk.new ≡ D.may_write disk.old }
+    ensures benches { D.bench_faults disk.new ≡ D.bench_faults disk.old }
     ensures later { D.faults disk.old ≤ D.faults disk.new }
 {
     if disk.firm_names().is_err() {

@@ -46,6 +46,7 @@ pub fn open_store<D: Disk>(alloc: Global, mut disk: D) -> Result<OpenedStore<D>,
     ensures right { IfErr result (λ e. D.may_write e.disk ≡ D.may_write disk) }
     ensures later { MatchResult result (λ o. D.faults disk ≤ ⟦<Owned<D> as Turns<()>>⟧.faults o.store) (λ e. D.faults disk ≤ D.faults e.disk) }
     ensures mounted { MatchResult result (λ o. D.mount_path o.store.disk ≡ D.mount_path disk) (λ e. D.mount_path e.disk ≡ D.mount_path disk) }
+    ensures benches { MatchResult result (λ o. D.bench_faults o.store.disk ≡ D.bench_faults disk) (λ e. D.bench_faults e.disk ≡ D.bench_faults disk) }
 {
     match open(alloc, &mut disk) {
         Ok(said) => Ok(OpenedStore {

@@ -1,4 +1,4 @@
-// One example: a script that two workers run, and what is looked at behind each run.
+// One example: a script that workers run, and what is looked at behind each run.
 use crate::known::run_new;
 use crate::machine::{empty_machine, machine, run};
 use crate::overtaking::Overtaking;
@@ -13,9 +13,10 @@ use std::thread::Threads;
 /// An example, as it is written.
 #[derive(Clone, Copy)]
 pub struct Example<'a> {
-    /// The script that one worker runs first. Where it is empty the two run theirs over a repository that is made for it.
+    /// The script that one worker runs first. Where it is empty the other is run over a repository that is made for it.
     pub before: &'a str,
-    /// The script that two workers run.
+    /// The words of `svnjobs` that runs the other script.
+    pub words: &'a str,
     pub script: &'a str,
     /// Words of `svnlook`, a line for each look.
     pub looks: &'a str,
@@ -32,8 +33,8 @@ struct Told {
     gave_up: bool,
 }
 
-// Two workers run the script.
-fn run_by_two<T: Threads + Wait + Sync, G: Gate + Sync>(
+// Workers run the script.
+fn run_workers<T: Threads + Wait + Sync, G: Gate + Sync>(
     rt: &T,
     alloc: Global,
     example: Example<'_>,
@@ -41,23 +42,20 @@ fn run_by_two<T: Threads + Wait + Sync, G: Gate + Sync>(
     gate: &G,
     told: &mut Transcript,
 ) {
-    if example.before.is_empty() {
-        run_new(rt, alloc, example.script, host, gate, told);
+    let Example {
+        before,
+        words,
+        script,
+        ..
+    } = example;
+    if before.is_empty() {
+        run_new(rt, alloc, words, script, host, gate, told);
     } else {
-        run(
-            rt,
-            alloc,
-            Tool::Jobs,
-            "R -j 2",
-            example.script,
-            host,
-            gate,
-            told,
-        );
+        run(rt, alloc, Tool::Jobs, words, script, host, gate, told);
     }
 }
 
-// Two workers run the script, and it is told how often a job that is overtaken asked for the lock. Whether one that was to be held went on
+// Workers run the script, and it is told how often a job that is overtaken asked for the lock. Whether one that was to be held went on
 // by itself.
 fn run_script<T: Threads + Wait + Sync>(
     rt: &T,
@@ -69,12 +67,12 @@ fn run_script<T: Threads + Wait + Sync>(
 ) -> bool {
     match course {
         Course::Free => {
-            run_by_two(rt, alloc, example, host, &NoGate, told);
+            run_workers(rt, alloc, example, host, &NoGate, told);
             false
         }
         Course::Held(hold) => {
             let gate = hold.gate();
-            run_by_two(rt, alloc, example, host, &gate, told);
+            run_workers(rt, alloc, example, host, &gate, told);
             gate.gave_up()
         }
         Course::Overtaken { who, others } => {
@@ -82,7 +80,7 @@ fn run_script<T: Threads + Wait + Sync>(
                 told.lose();
                 return false;
             };
-            run_by_two(rt, alloc, example, host, &gate, told);
+            run_workers(rt, alloc, example, host, &gate, told);
             told.tell("asked ", &gate.asked());
             told.say(" times\n");
             gate.gave_up()

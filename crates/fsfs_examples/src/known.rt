@@ -92,16 +92,17 @@ where
     ))
 }
 
-// Two workers run the script over a new repository at `R`. `None`: it was not made.
-fn run_new_by_two<T: Threads + Wait + Sync, G: Gate + Sync>(
+// Runs the script with these words of svnjobs over a new repository at `R`. `None`: it was not made.
+fn run_over_new<T: Threads + Wait + Sync, G: Gate + Sync>(
     rt: &T,
     alloc: Global,
+    line: &str,
     script: &str,
     host: &mut MemHost,
     gate: &G,
 ) -> Result<Option<Ran>, AllocError> {
     let mut words = Vec::new(alloc);
-    for word in ["R", "-j", "2"] {
+    for word in line.split(' ') {
         words.push(String::from_str(alloc, word)?)?;
     }
     let mut source = MemSource::new(alloc, Vec::from_slice(alloc, script.as_bytes())?);
@@ -124,17 +125,18 @@ fn run_new_by_two<T: Threads + Wait + Sync, G: Gate + Sync>(
     Ok(status.map(|status| Ran { status, out, err }))
 }
 
-/// Two workers run the script over a new repository at `R`, which is known to stand for a history. It is told what was printed, and the
-/// status.
+/// Runs the script with these words of svnjobs over a new repository at `R`, which is known to stand for a history. It is told what was
+/// printed, and the status.
 pub fn run_new<T: Threads + Wait + Sync, G: Gate + Sync>(
     rt: &T,
     alloc: Global,
+    line: &str,
     script: &str,
     host: &mut MemHost,
     gate: &G,
     told: &mut Transcript,
 ) {
-    match run_new_by_two(rt, alloc, script, host, gate) {
+    match run_over_new(rt, alloc, line, script, host, gate) {
         Ok(Some(ran)) => put_run(&ran, told),
         Ok(None) => told.say("? no repository was made\n"),
         Err(_) => told.lose(),

@@ -25,14 +25,24 @@ fn play_lines<T: Threads + Wait + Sync>(
     }
 }
 
-// An example: the script that one worker runs first, the one that two run, what is looked at behind that, and each way to run it, with a
-// line `--` between.
+// The words of svnjobs by which a script is run, where its first line has some, and the script.
+fn words_of(text: &str) -> (&str, &str) {
+    match text.strip_prefix("svnjobs ") {
+        Some(rest) => rest.split_once('\n').unwrap_or((rest, "")),
+        None => ("R -j 2", text),
+    }
+}
+
+// An example: the script that one worker runs first, the one that two run, or as its first line says, what is looked at behind that, and
+// each way to run it, with a line `--` between.
 fn play_parts<T: Threads + Wait + Sync>(rt: &T, alloc: Global, parts: &str, out: &mut Transcript) {
     let (before, rest) = parts.split_once("--\n").unwrap_or((parts, ""));
-    let (script, rest) = rest.split_once("--\n").unwrap_or((rest, ""));
+    let (text, rest) = rest.split_once("--\n").unwrap_or((rest, ""));
     let (looks, ways) = rest.split_once("--\n").unwrap_or((rest, ""));
+    let (words, script) = words_of(text);
     let example = Example {
         before,
+        words,
         script,
         looks,
     };

@@ -1,5 +1,5 @@
 -- What a run of a script does to a disk, its input and its output.
-use Rattle.std.specs.Prelude.{◌≡◌, ◌⊎◌, ◌≤◌, ◌<◌, ◌+◌, ◌++◌, ◌∷◌, [], ℕ, zero, suc, List, length, Bool, true, false, Option, Some, IfSome, option_map, Result, Ok, Err, slice_get}
+use Rattle.std.specs.Prelude.{◌≡◌, ◌⊎◌, ◌≤◌, ◌<◌, ◌+◌, ◌++◌, ◌∷◌, [], ℕ, zero, suc, List, length, true, Option, Some, IfSome, option_map, Result, Ok, Err, slice_get}
 use Rattle.fsfs_base.specs.Failures.{Rose}
 use Rattle.fsfs_base.specs.Files.{Files}
 use Rattle.fsfs_layout.specs.declared.layout.Layout.{Layout}
@@ -31,8 +31,9 @@ use Rattle.fsfs_cli.specs.CommandFaults.{fault_from_open, fault_from_script}
 use Rattle.fsfs_cli.specs.declared.faults.fault.Fault.{Fault}
 use Rattle.fsfs_cli.specs.declared.faults.fault.Fault.TheVariants.{Outside, Memory}
 use Rattle.fsfs_cli.specs.declared.faults.outside_fault.OutsideFault.TheVariants.{Write}
-use Rattle.fsfs_jobs.specs.Lines.{checked_text, greatest_status}
+use Rattle.fsfs_jobs.specs.Lines.{bare_ending, greatest_status, run_text}
 use Rattle.fsfs_jobs.specs.declared.answer.JobAnswer.{JobAnswer}
+use Rattle.fsfs_jobs.specs.declared.ending.Ending.{Ending}
 use Rattle.fsfs_job_run.specs.Serial.Jobs.{StuckBehindDoubt, TellNoDoubt, bench_faults_in, tell_full}
 use Rattle.fsfs_job_run.specs.Serial.Listed.{LeavesListed}
 use Rattle.fsfs_job_run.specs.Workers.Lines.{disk_faults_in, RoseBy}
@@ -118,15 +119,15 @@ pub record IsUntouched (a b : RunScene) : Type 0 where
   pub output : b.written ≡ a.written
   pub output_faults : b.write_faults ≡ a.write_faults
 
--- The lines of the jobs were printed, that of a check behind them where it found nothing wrong (`sound`), and the youngest revision; and the status is
--- the greatest that a job's line asks for. Or the output failed, and a first part was.
-abbrev pub PrintsChecked : List JobAnswer → Bool → ℕ → Option (List ℕ) → Option (List ℕ) → ℕ → ℕ → Result ℕ Fault → Type 0
-PrintsChecked answers sound youngest old new before now (Ok status) = (status ≡ greatest_status answers) × Adds old new (checked_text answers sound youngest)
-PrintsChecked answers sound youngest old new before now (Err fault) = (fault ≡ Outside Write) × Rose before now × AddsFront old new (checked_text answers sound youngest)
+-- The lines of the jobs were printed, behind them that of packs where the run packs and that of a check where it found nothing wrong (`ending`), and the
+-- youngest revision; and the status is the greatest that a job's line asks for. Or the output failed, and a first part was.
+abbrev pub PrintsChecked : List JobAnswer → Ending → ℕ → Option (List ℕ) → Option (List ℕ) → ℕ → ℕ → Result ℕ Fault → Type 0
+PrintsChecked answers ending youngest old new before now (Ok status) = (status ≡ greatest_status answers) × Adds old new (run_text answers ending youngest)
+PrintsChecked answers ending youngest old new before now (Err fault) = (fault ≡ Outside Write) × Rose before now × AddsFront old new (run_text answers ending youngest)
 
--- the same where there was no check: the lines of the jobs, and the youngest revision
+-- the same where the run neither packs nor checks: the lines of the jobs, and the youngest revision
 abbrev pub PrintsRun : List JobAnswer → ℕ → Option (List ℕ) → Option (List ℕ) → ℕ → ℕ → Result ℕ Fault → Type 0
-PrintsRun answers youngest old new before now ended = PrintsChecked answers false youngest old new before now ended
+PrintsRun answers youngest old new before now ended = PrintsChecked answers bare_ending youngest old new before now ended
 
 -- This number stands in `txn-current`, where the files stand for a history as `RanOver` has it. Of number 0 nothing is asked.
 abbrev pub IsNextName : Option Trace → ℕ → Type 0

@@ -22,26 +22,29 @@ use crate::serial::statuses::greatest_status;
 use fsfs_base::{Gate, RevNum, Sink, Source};
 use fsfs_cli::{Fault, OutsideFault};
 use fsfs_disk::Disk;
-use fsfs_jobs::JobAnswer;
-use fsfs_layout::Layout;
+use fsfs_jobs::{Ending, JobAnswer};
+use fsfs_layout::{Layout, Opened};
 use fsfs_repo::{OpenedRepo, Repo};
 use fsfs_script::{Job, read_script};
 use fsfs_turn::{Owned, Turns};
 use std::alloc::{AllocError, Global};
 
-/// What became of jobs, and the youngest revision behind them, in a repository of this layout.
+/// What became of jobs in a repository of this layout.
 #[derive(Drop)]
 pub struct JobsDone {
     pub answers: Vec<JobAnswer>,
+    /// The youngest revision behind them.
     pub youngest: RevNum,
     pub layout: Layout,
+    /// The oldest revision that wasn't packed as the repository was opened.
+    pub floor: RevNum,
 }
 
-// Does jobs in a repository of this layout, and gives its disk back. An `Err` is for want of memory, and then no job was done.
+// Does jobs in a repository whose small files said this, and gives its disk back. An `Err` is for want of memory, and then no job was done.
 fn do_jobs<D: Disk, G: Gate>(
     alloc: Global,
     repo: Repo<D>,
-    layout: Layout,
+    said: &Opened,
     jobs: &[Job],
     micros: u64,
     gate: &G,
@@ -51,13 +54,14 @@ fn do_jobs<D: Disk, G: Gate>(
     ensures does { (v : View) → ⟦<Owned<D> as Turns<()>>⟧.knows repo.turns v → v.section ≡ None → v.opened ≡ length v.seen → HoldBytes v.since.files v.seen → v.left ≡ None → are_harmless v.pass.faults ≡ true
         → IfOk result.1 (λ done. Ran micros v.since jobs.now done.answers.items done.youngest (revisions v.seen) (D.trace result.0)) }
     ensures each { IfOk result.1 (λ done. length done.answers.items ≡ length jobs.now) }
-    ensures laid { IfOk result.1 (λ done. done.layout ≡ layout) }
+    ensures laid { IfOk result.1 (λ done. (done.layout ≡ said.now.layout) × (done.floor ≡ said.now.min_unpacked_rev)) }
     ensures none { OnErr result.1 (D.trace result.0 ≡ D.trace repo.turns.disk) }
     // No transaction of theirs stays listed, unless a call of the disk failed.
     ensures listed { (least : ℕ) → HasGiven (⟦<Owned<D> as Turns<()>>⟧.knows repo.turns) least → LeavesListed least (length jobs.now) (option_map labels_now (D.trace repo.turns.disk)) (option_map labels_now (D.trace result.0)) ⊎ Rose (D.faults repo.turns.disk) (D.faults result.0) }
     // As many calls of the disk failed as answers tell of, and as many of benches.
     ensures cause { IfOk result.1 (λ done. RoseBy (disk_faults_in done.answers.items) (D.faults repo.turns.disk) (D.faults result.0)) }
     ensures benches { IfOk result.1 (λ done. RoseBy (bench_faults_in done.answers.items) (D.bench_faults repo.turns.disk) (D.bench_faults result.0)) }
+    ensures right { IsTrue (D.may_write result.0) }
     ensures mounted { D.mount_path result.0 ≡ D.mount_path repo.turns.disk }
     ensures later { D.faults repo.turns.disk ≤ D.faults result.0 }
 {
@@ -69,7 +73,8 @@ fn do_jobs<D: Disk, G: Gate>(
             let done = JobsDone {
                 answers,
                 youngest,
-                layout,
+                layout: said.layout,
+                floor: said.min_unpacked_rev,
             };
             (disk, Ok(done))
         }
@@ -77,12 +82,12 @@ fn do_jobs<D: Disk, G: Gate>(
     }
 }
 
-/// Prints what became of jobs, and that a check behind them found nothing wrong, where one did (`sound`); and gives the greatest status
-/// that a job's line asks for.
-pub fn tell<O: Sink>(out: &mut O, done: &JobsDone, sound: bool) -> Result<u8, Fault>
-    ensures printed { PrintsChecked done.now.answers.items sound done.now.youngest (O.written out.old) (O.written out.new) (O.faults out.old) (O.faults out.new) result }
+/// Prints what became of jobs, and behind it how many shards were packed and that a check found nothing wrong, where that is so (`ending`);
+/// and gives the greatest status that a job's line asks for.
+pub fn tell<O: Sink>(out: &mut O, done: &JobsDone, ending: Ending) -> Result<u8, Fault>
+    ensures printed { PrintsChecked done.now.answers.items ending done.now.youngest (O.written out.old) (O.written out.new) (O.faults out.old) (O.faults out.new) result }
 {
-    match print_run(out, &done.answers, sound, done.youngest) {
+    match print_run(out, &done.answers, ending, done.youngest) {
         Ok(()) => Ok(greatest_status(&done.answers)),
         Err(_) => Err(Fault::Outside(OutsideFault::Write)),
     }
@@ -94,7 +99,13 @@ pub fn tell_if<O: Sink>(out: &mut O, done: Result<JobsDone, Fault>) -> Result<u8
         (λ fault. (result ≡ Err fault) × (O.written out.new ≡ O.written out.old) × (O.faults out.new ≡ O.faults out.old)) }
 {
     match done {
-        Ok(done) => tell(out, &done, false),
+        Ok(done) => {
+            let bare = Ending {
+                packed: None,
+                sound: false,
+            };
+            tell(out, &done, bare)
+        }
         Err(fault) => Err(fault),
     }
 }
@@ -112,8 +123,10 @@ pub fn do_script<D: Disk, I: Source, G: Gate>(
     requires right { IsTrue (D.may_write disk) }
     requires moment { micros ≤ 4102444799999999 }
     ensures works { WorksAlone micros (D.faults disk) (D.faults result.0) (λ n. RoseBy n 0 (D.bench_faults result.0)) (D.trace disk) (D.trace result.0) (I.remaining input.old) (I.remaining input.new) (I.faults input.old) (I.faults input.new) result.1 }
-    // The layout is the one that the opening read.
-    ensures laid { IfOk result.1 (λ done. (o : Opened) × OpensAs (D.trace disk) o × (done.layout ≡ o.layout)) }
+    // The layout and the floor are those that the opening read.
+    ensures laid { IfOk result.1 (λ done. (o : Opened) × OpensAs (D.trace disk) o × (done.layout ≡ o.layout) × (done.floor ≡ o.min_unpacked_rev)) }
+    // It may be written as before.
+    ensures right { IsTrue (D.may_write result.0) }
     ensures mounted { D.mount_path result.0 ≡ D.mount_path disk }
     ensures later { D.faults disk ≤ D.faults result.0 }
 {
@@ -125,7 +138,7 @@ pub fn do_script<D: Disk, I: Source, G: Gate>(
         Ok(jobs) => jobs,
         Err(error) => return (repo.close(), Err(Fault::from(error))),
     };
-    let (disk, done) = do_jobs(alloc, repo, said.layout, jobs.as_slice(), micros, gate);
+    let (disk, done) = do_jobs(alloc, repo, &said, jobs.as_slice(), micros, gate);
     match done {
         Ok(done) => (disk, Ok(done)),
         Err(_) => (disk, Err(Fault::Memory)),

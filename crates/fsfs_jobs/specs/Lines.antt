@@ -1,5 +1,5 @@
--- The line of each job, and the status.
-use Rattle.std.specs.Prelude.{ℕ, ◌+◌, max, Bool, true, false, List, [], ◌∷◌, ◌++◌, codes, decimal}
+-- The line of each job, what is told behind them, and the status.
+use Rattle.std.specs.Prelude.{ℕ, ◌+◌, max, Bool, true, false, List, [], ◌∷◌, ◌++◌, Option, Some, None, codes, decimal}
 use Rattle.hex.specs.Hex.{encode_lower}
 use Rattle.fsfs_base.specs.Paths.{path_text}
 use Rattle.fsfs_cli.specs.Lines.{fault_words, status_of}
@@ -7,6 +7,7 @@ use Rattle.fsfs_cli.specs.declared.faults.fault.Fault.{Fault}
 use Rattle.fsfs_cli.specs.declared.faults.fault.Fault.TheVariants.{Words, Request, Repository, Outside, Memory, Limit}
 use Rattle.fsfs_jobs.specs.declared.answer.JobAnswer.{JobAnswer}
 use Rattle.fsfs_jobs.specs.declared.answer.JobAnswer.TheVariants.{Committed, Read, Conflict, Stopped}
+use Rattle.fsfs_jobs.specs.declared.ending.Ending.{Ending}
 
 -- what an answer asks of the status
 abbrev pub status_after : JobAnswer → ℕ
@@ -59,19 +60,24 @@ job_lines number (answer ∷ answers) = job_line number answer ++ job_lines (num
 abbrev pub youngest_line : ℕ → List ℕ
 youngest_line rev = codes "youngest " ++ decimal rev ++ codes "\n"
 
+-- what is told of packs beside the jobs and behind them: how many shards were packed; or nothing
+abbrev pub packed_text : Option ℕ → List ℕ
+packed_text (Some shards) = codes "packed " ++ decimal shards ++ codes "\n"
+packed_text None = []
+
 -- what is told of a check behind the jobs: that it found nothing wrong up to the youngest revision; or nothing
 abbrev pub sound_text : Bool → ℕ → List ℕ
 sound_text true rev = codes "sound r" ++ decimal rev ++ codes "\n"
 sound_text false rev = []
 
+-- what a run tells behind the lines of its jobs
+abbrev pub ending_text : Ending → ℕ → List ℕ
+ending_text ending youngest = packed_text ending.packed ++ sound_text ending.sound youngest ++ youngest_line youngest
+
+-- where it neither packs nor checks: the youngest revision alone
+abbrev pub bare_ending : Ending
+bare_ending = record { packed = None; sound = false }
+
 -- all that a run prints
-abbrev pub run_text : List JobAnswer → ℕ → List ℕ
-run_text answers youngest = job_lines 1 answers ++ youngest_line youngest
-
--- what a run with a check tells behind the lines of its jobs
-abbrev pub ending_text : Bool → ℕ → List ℕ
-ending_text sound youngest = sound_text sound youngest ++ youngest_line youngest
-
--- all that it prints
-abbrev pub checked_text : List JobAnswer → Bool → ℕ → List ℕ
-checked_text answers sound youngest = job_lines 1 answers ++ ending_text sound youngest
+abbrev pub run_text : List JobAnswer → Ending → ℕ → List ℕ
+run_text answers ending youngest = job_lines 1 answers ++ ending_text ending youngest

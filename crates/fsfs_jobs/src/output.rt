@@ -1,7 +1,7 @@
-//! Printing the line of a job. It takes no memory.
-ghost use Rattle.std.specs.Prelude.{◌≡◌, true};
+//! Printing the line of a job, and what is told behind these. It takes no memory.
+ghost use Rattle.std.specs.Prelude.{◌≡◌, true, Some};
 ghost use Rattle.fsfs_base.specs.Output.{Prints};
-ghost use Rattle.fsfs_jobs.specs.Lines.{stop_words, job_line, sound_text, youngest_line};
+ghost use Rattle.fsfs_jobs.specs.Lines.{stop_words, job_line, packed_text, sound_text, youngest_line};
 ghost use Rattle.fsfs_jobs.specs.Pieces.{answer_back};
 
 use crate::answer::JobAnswer;
@@ -44,6 +44,26 @@ pub fn print_job_line<S: Sink>(sink: &mut S, number: u64, answer: &JobAnswer) ->
     print(sink, line_front(number, answer).as_str().as_bytes())?;
     print_back(sink, answer)?;
     print(sink, b"\n")
+}
+
+fn packed_line(shards: u64) -> ArrayString<32>
+    ensures { result.bytes ≡ packed_text (Some shards) }
+{
+    let mut text = ArrayString::new();
+    text.push_str("packed ");
+    text.push_str(Buffer::new().format(shards));
+    text.push_str("\n");
+    text
+}
+
+/// Writes the line of packs beside the jobs and behind them, of so many shards; nothing of a run that doesn't pack.
+pub fn print_packed<S: Sink>(sink: &mut S, packed: Option<u64>) -> Result<(), Failed>
+    ensures printed { Prints (S.written sink.old) (S.written sink.new) (packed_text packed) (S.faults sink.old) (S.faults sink.new) result }
+{
+    match packed {
+        Some(shards) => print(sink, packed_line(shards).as_str().as_bytes()),
+        None => Ok(()),
+    }
 }
 
 fn sound_line(rev: RevNum) -> ArrayString<32>

@@ -3,4 +3,4 @@
 
 mod running;
 
-pub use running::pack_disk;
+pub use running::{Packed, fault_of, pack_disk, pack_from};

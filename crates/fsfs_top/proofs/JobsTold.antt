@@ -1,5 +1,5 @@
 -- What a run of svnjobs lists no more, as the top call tells it.
-use Rattle.std.proofs.Common.{◌≡◌, ◌⊎◌, ℕ, Bool, List, inl, inr, ⊎_elim, ap, sym, subst, arith}
+use Rattle.std.proofs.Common.{◌≡◌, ◌⊎◌, ℕ, Bool, false, List, inl, inr, ⊎_elim, ap, sym, subst, arith}
 use Rattle.std.specs.Prelude.{Option, Some, None, option_map, Result, Ok, Err}
 use Rattle.fsfs_base.specs.Failures.{Rose}
 use Rattle.fsfs_disk.specs.Trace.{Trace, labels_now}
@@ -9,14 +9,13 @@ use Rattle.fsfs_cli.specs.declared.request.JobRun.{JobRun}
 use Rattle.fsfs_cli.specs.declared.request.Task.TheVariants.{RunJobs}
 use Rattle.fsfs_cli.specs.declared.tool.Tool.TheVariants.{Jobs}
 use Rattle.fsfs_cli.specs.declared.faults.fault.Fault.{Fault}
-use Rattle.fsfs_turn.specs.Mountings.{RoseBy}
 use Rattle.fsfs_workers.specs.Listed.{LeavesListed}
 use Rattle.fsfs_workers.proofs.ListedLemmas.{none_begun, none_is_left}
 use Rattle.fsfs_workers.specs.Runs.{RunScene, RunsScript, NotOpened, NotRead, NoRoom, Done}
 use Rattle.fsfs_top.specs.Scenes.{Scene}
 use Rattle.fsfs_top.specs.declared.checked.JobsEnd.{JobsEnd}
 use Rattle.fsfs_top.specs.Scripts.{DidJobs, ListsNoOther, RunsAsAsked, RunsAt, RunsBy, RunsChecked, run_scene}
-use Rattle.fsfs_top.specs.Scripts as checked
+use Rattle.fsfs_top.specs.Scripts as ends
 use Rattle.fsfs_top.proofs.CreationTold.{path_cases}
 use Rattle.fsfs_top.proofs.Printing.{as_printed}
 use Rattle.fsfs_top.proofs.TxnsTold.{labels_firm}
@@ -43,27 +42,28 @@ by_lists run known moment before after benches a b ended one (inr (two, ran)) = 
 
 -- a check makes nothing of the disk
 checked_lists : (run : JobRun) (known : Bool) (moment before after : ℕ) (benches : ℕ → Type 0) (a b : RunScene) (end : JobsEnd) → run.workers ≡ 1 → RunsChecked run known moment before after benches a b end → ListsNoOther a.trace b.trace ⊎ Rose before after
-checked_lists run known moment before after benches a b _ one (checked.NotDone fault ran written failed) = by_lists run known moment before after benches a b (Err fault) one ran
-checked_lists run known moment before after benches a b _ one (checked.Done answers youngest middle layout ended unsound worked later laid sound printed) =
+checked_lists run known moment before after benches a b _ one (ends.NotDone fault ran written failed) = by_lists run known moment before after benches a b (Err fault) one ran
+checked_lists run known moment before after benches a b _ one (ends.Done answers youngest middle layout ended unsound worked later laid sound printed) =
     ⊎_elim (λ lists. inl lists) (λ rose. inr (omega (arith, rose, later))) (by_lists run known moment before middle benches a _ (Ok _) one (as_printed run known moment before middle benches a b answers youngest worked))
 
-asked_lists : (run : JobRun) (known : Bool) (moment before after : ℕ) (benches : ℕ → Type 0) (a b : RunScene) (end : JobsEnd) → run.workers ≡ 1 → RunsAsAsked run known moment before after benches a b end → ListsNoOther a.trace b.trace ⊎ Rose before after
-asked_lists run known moment before after benches a b end one (inl (plain, unchecked, ran)) = by_lists run known moment before after benches a b end.ended one ran
-asked_lists run known moment before after benches a b end one (inr (asked, ran)) = checked_lists run known moment before after benches a b end one ran
+asked_lists : (run : JobRun) (known : Bool) (moment before after early late : ℕ) (a b : RunScene) (end : JobsEnd) → run.workers ≡ 1 → run.pack ≡ false → RunsAsAsked run known moment before after early late a b end → ListsNoOther a.trace b.trace ⊎ Rose before after
+asked_lists run known moment before after early late a b end one plain (inl (is, ran)) = by_lists run known moment before after _ a b end.ended one ran.ran
+asked_lists run known moment before after early late a b end one plain (inr (inl (is, asked, ran))) = checked_lists run known moment before after _ a b end one ran
+asked_lists run known moment before after early late a b end one plain (inr (inr (packs, ran))) = absurd cc
 
 -- ---- of the disk of each path
 
-run_lists : (repos : List ℕ) (run : JobRun) (known : Bool) (clock : Option ℕ) (a b : Scene) (end : JobsEnd) → run.workers ≡ 1 → RunsAt repos run known clock a b end
+run_lists : (repos : List ℕ) (run : JobRun) (known : Bool) (clock : Option ℕ) (a b : Scene) (end : JobsEnd) → run.workers ≡ 1 → run.pack ≡ false → RunsAt repos run known clock a b end
     → ListsNoOther (a.host.disk_at repos) (b.host.disk_at repos) ⊎ Rose a.host.disk_faults b.host.disk_faults
-run_lists repos run known clock a b end one (inl unmounted) = inl (lists_same (a.host.disk_at repos) (b.host.disk_at repos) (ap (option_map labels_now) unmounted.2))
-run_lists repos run known clock a b end one (inr (moment, tells, ran)) = asked_lists run known moment a.host.disk_faults b.host.disk_faults (λ n. RoseBy n a.host.bench_faults b.host.bench_faults) (run_scene repos a) (run_scene repos b) end one ran
+run_lists repos run known clock a b end one plain (inl unmounted) = inl (lists_same (a.host.disk_at repos) (b.host.disk_at repos) (ap (option_map labels_now) unmounted.2))
+run_lists repos run known clock a b end one plain (inr (moment, tells, ran)) = asked_lists run known moment a.host.disk_faults b.host.disk_faults a.host.bench_faults b.host.bench_faults (run_scene repos a) (run_scene repos b) end one plain ran
 
 pub jobs_list : (words : List (List ℕ)) (known : Bool) (clock : Option ℕ) (a b : Scene) (end : JobsEnd) → DidJobs words known clock a b end
-    → ((repos : List ℕ) (run : JobRun) → Asks Jobs words repos (RunJobs run) → run.workers ≡ 1) → (path : List ℕ) → ListsNoOther (a.host.disk_at path) (b.host.disk_at path) ⊎ Rose a.host.disk_faults b.host.disk_faults
+    → ((repos : List ℕ) (run : JobRun) → Asks Jobs words repos (RunJobs run) → (run.workers ≡ 1) × (run.pack ≡ false)) → (path : List ℕ) → ListsNoOther (a.host.disk_at path) (b.host.disk_at path) ⊎ Rose a.host.disk_faults b.host.disk_faults
 jobs_list words known clock a b end (inl (repos, run, asks, ran, decided, others)) one path = ⊎_elim here (λ apart. inl (lists_same (a.host.disk_at path) (b.host.disk_at path) (ap (option_map labels_now) (others path (apart, tt))))) (path_cases path repos)
   where
     here : path ≡ repos → ListsNoOther (a.host.disk_at path) (b.host.disk_at path) ⊎ Rose a.host.disk_faults b.host.disk_faults
     here is =
-        subst (λ (p : List ℕ). ListsNoOther (a.host.disk_at p) (b.host.disk_at p) ⊎ Rose a.host.disk_faults b.host.disk_faults) (sym is) (run_lists repos run known clock a b end (one repos run asks) ran)
+        subst (λ (p : List ℕ). ListsNoOther (a.host.disk_at p) (b.host.disk_at p) ⊎ Rose a.host.disk_faults b.host.disk_faults) (sym is) (run_lists repos run known clock a b end (one repos run asks).0 (one repos run asks).1 ran)
 jobs_list words known clock a b end (inr refused) one path =
     inl (lists_same (a.host.disk_at path) (b.host.disk_at path) (ap (λ (s : Scene). option_map labels_now (s.host.disk_at path)) refused.3))

@@ -13,5 +13,6 @@ pub mod Checking
 pub mod JobsTold
 pub mod JobsDecided
 pub mod OthersTold
-pub mod WorkersTold
 pub mod PacksTold
+pub mod WorkersTold
+pub mod PackedRuns

@@ -21,6 +21,9 @@ use Rattle.fsfs_stands.specs.Files.{StandsFor}
 use Rattle.fsfs_tree.specs.Revisions.{Revision}
 use Rattle.fsfs_turn.specs.Mountings.{RoseBy}
 use Rattle.fsfs_pack_run.specs.Runs.{FloorRises, PacksDisk, PacksIt, NotOpened, Ended}
+use Rattle.fsfs_pack_run.specs.From.{PacksFrom}
+use Rattle.fsfs_pack_run.specs.From as from
+use Rattle.fsfs_pack_run.specs.declared.running.Packed.{Packed}
 use Rattle.fsfs_pack_run.proofs.Ending.{bench_on, disk_on, left_on, listing_on}
 use Rattle.fsfs_top.specs.PackAnswers.{unpacked_of}
 use Rattle.fsfs_top.specs.Packing.{HoldsHistory, PrintsPacked}
@@ -62,6 +65,12 @@ packs_weaker : (before after then now : ℕ) (bench risen : Type 0) (old new : O
 packs_weaker before after then now bench risen old new _ f g (NotOpened why because firm) = NotOpened why (counted_cause (Rose before after) (Rose then now) old why (f 1) because) firm
 packs_weaker before after then now bench risen old new _ f g (Ended o end opens over listed left failed benches) =
     Ended o end opens over (listing_on (Rose before after) (Rose then now) old old new (f 1) refl listed) (left_on before after then now end f left) (disk_on (Rose before after) (Rose then now) end (f 1) failed) (bench_on bench risen end g benches)
+
+-- the same of what packing came to
+pub from_weaker : (before after then now : ℕ) (bench risen : Type 0) (old new : Option Trace) (last : Result Packed Fault) → ((n : ℕ) → RoseBy n before after → RoseBy n then now) → (bench → risen) → PacksFrom before after bench old new last → PacksFrom then now risen old new last
+from_weaker before after then now bench risen old new _ f g (from.NotOpened why because firm) = from.NotOpened why (counted_cause (Rose before after) (Rose then now) old why (f 1) because) firm
+from_weaker before after then now bench risen old new _ f g (from.Ended o packed opens floor renamed over listed left failed benches) =
+    from.Ended o packed opens floor renamed over (listing_on (Rose before after) (Rose then now) old old new (f 1) refl listed) (left_on before after then now packed.end f left) (disk_on (Rose before after) (Rose then now) packed.end (f 1) failed) (bench_on bench risen packed.end g benches)
 
 -- the same, of the disk of a path
 pub packs_told : (before after then now : ℕ) (bench risen : Type 0) (old new at_old at_new : Option Trace) (told : Result ℕ Fault) → old ≡ at_old → at_new ≡ new → ((n : ℕ) → RoseBy n before after → RoseBy n then now) → (bench → risen) → PacksDisk before after bench old new told

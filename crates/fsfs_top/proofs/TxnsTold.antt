@@ -13,7 +13,6 @@ use Rattle.fsfs_layout.specs.declared.opened.Opened.{Opened}
 use Rattle.fsfs_cli.specs.CommandFaults.{fault_from_open}
 use Rattle.fsfs_cli.specs.declared.faults.fault.Fault.{Fault}
 use Rattle.fsfs_base.specs.declared.places.open_fault.OpenFault.{OpenFault}
-use Rattle.fsfs_base.specs.declared.places.open_fault.OpenFault.TheVariants as opening
 use Rattle.fsfs_create.specs.OpenFaults.{OpensBecause}
 use Rattle.fsfs_create.specs.Deciding.{Decides}
 use Rattle.fsfs_disk.specs.Transactions.Txns.{txn_label, AreTxns}

@@ -9,4 +9,5 @@ pub mod Packing
 pub mod Command
 pub mod Replies
 pub mod Checks
+pub mod PackedTold
 pub mod Scripts

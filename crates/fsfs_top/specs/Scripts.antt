@@ -1,5 +1,5 @@
 -- What svnjobs does, from its words and its input to the files, the output and the status.
-use Rattle.std.specs.Prelude.{◌≡◌, ◌≤◌, ◌⊎◌, ℕ, max, Bool, true, false, List, Option, Some, None, IfSome, Result, Ok, Err, MatchResult}
+use Rattle.std.specs.Prelude.{◌≡◌, ◌≤◌, ◌⊎◌, ◌&&◌, ℕ, max, Bool, true, false, List, length, Option, Some, None, IfSome, option_map, Result, Ok, Err, MatchResult}
 use Rattle.fsfs_base.specs.Failures.{Rose}
 use Rattle.fsfs_disk.specs.Crash.{AllLabels}
 use Rattle.fsfs_disk.specs.Trace.{Trace, files_now}
@@ -28,9 +28,15 @@ use Rattle.fsfs_workers.specs.Openings.{OpensAs}
 use Rattle.fsfs_workers.specs.Runs.{PrintsChecked, PrintsRun, RunScene, RunsScript}
 use Rattle.fsfs_workers.specs.Runs as runs
 use Rattle.fsfs_workers.specs.ByWorkers.{RunsByWorkers}
+use Rattle.fsfs_workers.specs.PackCalls.{PackedOften}
+use Rattle.fsfs_workers.specs.declared.packs.Packs.{Packs}
+use Rattle.fsfs_pack_run.specs.From.{PacksFrom}
+use Rattle.fsfs_pack_run.specs.declared.running.Packed.{Packed}
 use Rattle.fsfs_top.specs.declared.checked.JobsEnd.{JobsEnd}
+use Rattle.fsfs_top.specs.declared.packed.JobsBeside.{JobsBeside}
 use Rattle.fsfs_top.specs.Checks.{IsChecked, is_sound}
 use Rattle.fsfs_top.specs.Command.{Tells, answer_of}
+use Rattle.fsfs_top.specs.PackedTold.{fault_behind, fault_beside, first_fault, told_shards}
 use Rattle.fsfs_top.specs.Scenes.{Scene, SinkScene, OthersStay}
 use Rattle.fsfs_top.specs.Transactions.{OpeningIsDecided}
 
@@ -55,7 +61,7 @@ HasHistory told = IfSome told (λ t. (h : List Revision) × StandsFor (files_now
 -- What a run of so many workers did over a disk whose count of faults went from `before` to `after`, and of whose benches so many calls failed (`benches`). One does the jobs one after another; two do them beside each
 -- other, and what is told of them rests on whether the disk is known to have a history (`known`).
 abbrev pub RunsBy : JobRun → Bool → ℕ → ℕ → ℕ → (ℕ → Type 0) → RunScene → RunScene → Result ℕ Fault → Type 0
-RunsBy run known moment before after benches a b ended = ((run.workers ≡ 1) × RunsScript moment before after benches a b ended) ⊎ ((run.workers ≡ 2) × RunsByWorkers moment 2 known before after benches a b ended)
+RunsBy run known moment before after benches a b ended = ((run.workers ≡ 1) × RunsScript moment before after benches a b ended) ⊎ ((run.workers ≡ 2) × RunsByWorkers moment 2 known None before after benches a b ended)
 
 -- ---- with a check behind the jobs
 
@@ -78,34 +84,96 @@ IsLaid run known told layout = (run.workers ≡ 1) ⊎ (known ≡ true) → (o :
 -- A RUN WITH A CHECK BEHIND ITS JOBS, by its end. `before`, `after` and `benches` are as of a run without one.
 pub data RunsChecked (run : JobRun) (known : Bool) (moment before after : ℕ) (benches : ℕ → Type 0) (a b : RunScene) : JobsEnd → Type 0 where
   -- no job was done: it is a run without a check, which printed nothing
-  NotDone : (fault : Fault) → RunsBy run known moment before after benches a b (Err fault) → b.written ≡ a.written → b.write_faults ≡ a.write_faults → RunsChecked run known moment before after benches a b (record { ended = Err fault; unsound = None })
+  NotDone : (fault : Fault) → RunsBy run known moment before after benches a b (Err fault) → b.written ≡ a.written → b.write_faults ≡ a.write_faults → RunsChecked run known moment before after benches a b (record { ended = Err fault; unpacked = None; unsound = None })
   -- The jobs were done, and all workers had ended as the disk's count of faults stood at `middle`. Then the revisions up to the youngest were
   -- checked, in the files that the disk had then and has now. The lines of the jobs were printed, behind them that of the check where it
   -- found nothing wrong, with the number of the youngest revision, and last that one.
   Done : (answers : List JobAnswer) (youngest middle : ℕ) (layout : Layout) (ended : Result ℕ Fault) (unsound : Option Fault) → WorkedBy run known moment before middle benches a b answers youngest → middle ≤ after
-      → IsLaid run known a.trace layout → IsChecked (Rose middle after) layout youngest b.trace unsound → PrintsChecked answers (is_sound unsound) youngest a.written b.written a.write_faults b.write_faults ended
-      → RunsChecked run known moment before after benches a b (record { ended = ended; unsound = unsound })
+      → IsLaid run known a.trace layout → IsChecked (Rose middle after) layout youngest b.trace unsound → PrintsChecked answers (record { packed = None; sound = is_sound unsound }) youngest a.written b.written a.write_faults b.write_faults ended
+      → RunsChecked run known moment before after benches a b (record { ended = ended; unpacked = None; unsound = unsound })
 
--- a run with a check or without one, as it is asked for
-abbrev pub RunsAsAsked : JobRun → Bool → ℕ → ℕ → ℕ → (ℕ → Type 0) → RunScene → RunScene → JobsEnd → Type 0
-RunsAsAsked run known moment before after benches a b end =
-    ((run.check ≡ false) × (end.unsound ≡ None) × RunsBy run known moment before after benches a b end.ended) ⊎ ((run.check ≡ true) × RunsChecked run known moment before after benches a b end)
+-- ---- with packs
+
+-- As `RunsBy`, of jobs beside which one more pass packed, as it does where the files are known to have a history (Some, of whether it left the lock stuck); or none, where they aren't.
+abbrev pub RunsWith : JobRun → Bool → Option Bool → ℕ → ℕ → ℕ → (ℕ → Type 0) → RunScene → RunScene → Result ℕ Fault → Type 0
+RunsWith run known None moment before after benches a b ended = (known ≡ false) × RunsBy run known moment before after benches a b ended
+RunsWith run known (Some sticks) moment before after benches a b ended = (known ≡ true) × RunsByWorkers moment run.workers true (Some sticks) before after benches a b ended
+
+-- whether the calls beside the jobs left the lock stuck, where there were any
+abbrev pub stick_beside : Option Packs → Option Bool
+stick_beside beside = option_map (λ (packs : Packs). packs.sticks) beside
+
+-- as `WorksBy`, of jobs beside which packs were or not
+abbrev pub WorksWith : JobRun → Bool → ℕ → ℕ → ℕ → (ℕ → Type 0) → Option Trace → Option Trace → Option (List ℕ) → Option (List ℕ) → ℕ → ℕ → Result JobsBeside Fault → Type 0
+WorksWith run known moment before after benches told left remaining rest faults more done = (old new : Option (List ℕ)) (count now : ℕ) → MatchResult done
+    (λ d. (ended : Result ℕ Fault) → PrintsRun d.jobs.answers.items d.jobs.youngest old new count now ended
+    → RunsWith run known (stick_beside d.beside) moment before after benches (runs.run_scene told remaining faults old count) (runs.run_scene left rest more new now) ended)
+    (λ fault. (beside : Option Bool) × RunsWith run known beside moment before after benches (runs.run_scene told remaining faults old count) (runs.run_scene left rest more old count) (Err fault))
+
+-- as `WorkedBy`
+abbrev pub WorkedWith : JobRun → Bool → Option Bool → ℕ → ℕ → ℕ → (ℕ → Type 0) → RunScene → RunScene → List JobAnswer → ℕ → Type 0
+WorkedWith run known beside moment before after benches a b answers youngest = (written : Option (List ℕ)) (faults : ℕ) (ended : Result ℕ Fault)
+    → PrintsRun answers youngest a.written written a.write_faults faults ended → RunsWith run known beside moment before after benches a (record b { written = written; write_faults = faults }) ended
+
+-- the layout is the one that the opening read, and so is the oldest revision that wasn't packed: of whom `IsLaid` says it
+abbrev pub IsLaidFrom : JobRun → Bool → Option Trace → Layout → ℕ → Type 0
+IsLaidFrom run known told layout floor = (run.workers ≡ 1) ⊎ (known ≡ true) → (o : Opened) × OpensAs told o × (layout ≡ o.layout) × (floor ≡ o.min_unpacked_rev)
+
+-- what a check found wrong, where one was asked for
+abbrev pub IsCheckedIf : Bool → Type 0 → Layout → ℕ → Option Trace → Option Fault → Type 0
+IsCheckedIf true rose layout youngest told unsound = IsChecked rose layout youngest told unsound
+IsCheckedIf false rose layout youngest told unsound = unsound ≡ None
+
+-- The calls beside the jobs, where there were any, were as many as the jobs, and came to this together. `disk` and `bench` say that the count of the disk's faults rose, and that of benches.
+abbrev pub PackedBeside : ℕ → Type 0 → Type 0 → Option Packs → Type 0
+PackedBeside times disk bench beside = IfSome beside (λ packs. PackedOften times packs disk bench)
+
+-- A RUN WITH PACKS, by its end, with a check behind them or without. The disk's count of faults went from `before` to `after`, and that of benches from `early` to `late`.
+pub data RunsPacked (run : JobRun) (known : Bool) (moment before after early late : ℕ) (a b : RunScene) : JobsEnd → Type 0 where
+  -- no job was done, and nothing was printed: nor was anything packed behind them
+  NotRun : (beside : Option Bool) (fault : Fault) → RunsWith run known beside moment before after (λ n. RoseBy n early late) a b (Err fault) → b.written ≡ a.written → b.write_faults ≡ a.write_faults
+      → RunsPacked run known moment before after early late a b (record { ended = Err fault; unpacked = None; unsound = None })
+  -- The jobs were done, and all workers had ended as the disk told `left`, its count of faults stood at `jobs_at` and that of benches at `benches_at`. Then the repository was opened once more and packed, until the count
+  -- stood at `packed_at`. Then, where that is asked for, the revisions up to the youngest were checked, in the files that the disk had then and has now. The lines of the jobs were printed, behind them how many shards were
+  -- packed, that of the check where it found nothing wrong, and last the number of the youngest revision.
+  Ran : (answers : List JobAnswer) (youngest floor : ℕ) (layout : Layout) (beside : Option Packs) (left : Option Trace) (last : Result Packed Fault) (jobs_at packed_at benches_at : ℕ) (ended : Result ℕ Fault) (unsound : Option Fault)
+      → WorkedWith run known (stick_beside beside) moment before jobs_at (λ n. RoseBy n early benches_at) a (record b { trace = left }) answers youngest → PackedBeside (length answers) (Rose before jobs_at) (Rose early benches_at) beside
+      → IsLaidFrom run known a.trace layout floor → PacksFrom jobs_at packed_at (Rose benches_at late) left b.trace last → jobs_at ≤ packed_at → RoseBy 0 benches_at late → packed_at ≤ after
+      → IsCheckedIf run.check (Rose packed_at after) layout youngest b.trace unsound
+      → PrintsChecked answers (record { packed = Some (told_shards layout floor beside last); sound = run.check && is_sound unsound }) youngest a.written b.written a.write_faults b.write_faults ended
+      → RunsPacked run known moment before after early late a b (record { ended = ended; unpacked = first_fault (fault_beside beside) (fault_behind last); unsound = unsound })
+
+-- ---- as it is asked for
+
+-- nothing was packed, and nothing checked
+pub record RunsAlone (run : JobRun) (known : Bool) (moment before after early late : ℕ) (a b : RunScene) (end : JobsEnd) : Type 0 where
+  pub unasked : run.check ≡ false
+  pub unpacked : end.unpacked ≡ None
+  pub unsound : end.unsound ≡ None
+  pub ran : RunsBy run known moment before after (λ n. RoseBy n early late) a b end.ended
+
+-- a run with packs or without, and with a check or without
+abbrev pub RunsAsAsked : JobRun → Bool → ℕ → ℕ → ℕ → ℕ → ℕ → RunScene → RunScene → JobsEnd → Type 0
+RunsAsAsked run known moment before after early late a b end =
+    ((run.pack ≡ false) × RunsAlone run known moment before after early late a b end)
+    ⊎ (((run.pack ≡ false) × (run.check ≡ true) × RunsChecked run known moment before after (λ n. RoseBy n early late) a b end)
+    ⊎ ((run.pack ≡ true) × RunsPacked run known moment before after early late a b end))
 
 -- its status: the greatest of the lines' and of the faults'
 abbrev pub status_at : JobsEnd → ℕ
-status_at end = max (answer_of end.unsound) (ended_status end.ended)
+status_at end = max (answer_of end.unpacked) (max (answer_of end.unsound) (ended_status end.ended))
 
--- a line about each fault was written: what the check found wrong first
+-- a line about each fault was written: why packing stopped first, then what the check found wrong
 abbrev pub TellsEnd : Tool → SinkScene → SinkScene → JobsEnd → Type 0
-TellsEnd tool old new end = (between : SinkScene) × Tells tool old between end.unsound × Tells tool between new (ended_fault end.ended)
+TellsEnd tool old new end = (first : SinkScene) × (second : SinkScene) × Tells tool old first end.unpacked × Tells tool first second end.unsound × Tells tool second new (ended_fault end.ended)
 
 -- ---- at a path
 
 -- the path was mounted and the script run over the disk there, at a moment that the clock gave; or it was not mounted, and nothing was done
 abbrev pub RunsAt : List ℕ → JobRun → Bool → Option ℕ → Scene → Scene → JobsEnd → Type 0
 RunsAt repos run known clock a b end =
-    ((end ≡ record { ended = Err (Outside Mount); unsound = None }) × Rose a.host.mount_faults b.host.mount_faults × (b.host.disk_at repos ≡ a.host.disk_at repos) × (b.out ≡ a.out) × (b.input ≡ a.input))
-    ⊎ ((moment : ℕ) × IfSome clock (λ t. moment ≡ t) × RunsAsAsked run known moment a.host.disk_faults b.host.disk_faults (λ n. RoseBy n a.host.bench_faults b.host.bench_faults) (run_scene repos a) (run_scene repos b) end)
+    ((end ≡ record { ended = Err (Outside Mount); unpacked = None; unsound = None }) × Rose a.host.mount_faults b.host.mount_faults × (b.host.disk_at repos ≡ a.host.disk_at repos) × (b.out ≡ a.out) × (b.input ≡ a.input))
+    ⊎ ((moment : ℕ) × IfSome clock (λ t. moment ≡ t) × RunsAsAsked run known moment a.host.disk_faults b.host.disk_faults a.host.bench_faults b.host.bench_faults (run_scene repos a) (run_scene repos b) end)
 
 -- The files decide which refusal of an opening comes: always of one worker, and of two where they are known to have a history (of other files two
 -- are told nothing).
@@ -116,7 +184,7 @@ RunIsDecided run known told ended = (run.workers ≡ 1) ⊎ (known ≡ true) →
 abbrev pub DidJobs : List (List ℕ) → Bool → Option ℕ → Scene → Scene → JobsEnd → Type 0
 DidJobs words known clock a b end =
     ((repos : List ℕ) × (run : JobRun) × Asks Jobs words repos (RunJobs run) × RunsAt repos run known clock a b end × RunIsDecided run known (a.host.disk_at repos) end.ended × OthersStay (paths_of repos (RunJobs run)) a.host b.host)
-    ⊎ ((why : WordsFault) × (end ≡ record { ended = Err (fault_from_words why); unsound = None }) × Refuses (asked Jobs words) why × (b ≡ a))
+    ⊎ ((why : WordsFault) × (end ≡ record { ended = Err (fault_from_words why); unpacked = None; unsound = None }) × Refuses (asked Jobs words) why × (b ≡ a))
 
 -- no transaction is listed that was not before
 abbrev pub ListsNoOther : Option Trace → Option Trace → Type 0

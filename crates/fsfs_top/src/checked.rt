@@ -5,7 +5,7 @@ ghost use Rattle.fsfs_turn.specs.Mountings.{RoseBy};
 ghost use Rattle.fsfs_workers.specs.Openings.{OpensAs};
 ghost use Rattle.fsfs_workers.specs.Runs.{run_scene};
 ghost use Rattle.fsfs_top.specs.Checks.{IsChecked};
-ghost use Rattle.fsfs_top.specs.Scripts.{HasHistory, IsLaid, RunsChecked, WorksBy};
+ghost use Rattle.fsfs_top.specs.Scripts.{HasHistory, IsLaidFrom, RunsChecked, WorksBy};
 ghost use Rattle.fsfs_base.specs.Failures.{Rose};
 
 use crate::look::fault_of_all;
@@ -14,7 +14,7 @@ use fsfs_check::check;
 use fsfs_cli::{Fault, JobRun};
 use fsfs_disk::Disk;
 use fsfs_layout::Layout;
-use fsfs_workers::{JobsDone, do_script, do_script_by_two, tell};
+use fsfs_workers::{Ending, JobsDone, do_script, do_script_by_two, tell};
 use std::alloc::Global;
 use std::sync::Wait;
 use std::thread::Threads;
@@ -24,22 +24,29 @@ use std::thread::Threads;
 pub struct JobsEnd {
     /// The greatest status that a job's line asks for; or why there are no lines, or not all.
     pub ended: Result<u8, Fault>,
+    /// Why packing stopped first, beside the jobs or behind them; none where it didn't, and where nothing was to be packed.
+    pub unpacked: Option<Fault>,
     /// What a check behind the jobs found wrong, or why it came to no end; none where it found nothing wrong, and where there was none.
     pub unsound: Option<Fault>,
 }
 
 impl JobsEnd {
-    /// The end of a run in which nothing was checked.
-    pub(crate) fn unchecked(ended: Result<u8, Fault>) -> JobsEnd
-        ensures { result ≡ record { ended = ended; unsound = None } }
+    /// The end of a run in which nothing was packed, and nothing checked.
+    pub(crate) fn of_jobs(ended: Result<u8, Fault>) -> JobsEnd
+        ensures { result ≡ record { ended = ended; unpacked = None; unsound = None } }
     {
+        let unpacked = None;
         let unsound = None;
-        JobsEnd { ended, unsound }
+        JobsEnd {
+            ended,
+            unpacked,
+            unsound,
+        }
     }
 }
 
-// Opens the repository on a disk, reads the script in the input, and does its jobs, by one worker or by two.
-fn do_on<T: Threads + Wait + Sync, D: Disk + Drop + Send, I: Source, G: Gate + Sync>(
+/// Opens the repository on a disk, reads the script in the input, and does its jobs, by one worker or by two.
+pub(crate) fn do_on<T: Threads + Wait + Sync, D: Disk + Drop + Send, I: Source, G: Gate + Sync>(
     rt: &T,
     alloc: Global,
     disk: D,
@@ -56,7 +63,8 @@ where
     requires moment { micros ≤ 4102444799999999 }
     requires knows { known ≡ true → HasHistory (D.trace disk) }
     ensures works { WorksBy job_run.now known micros (D.faults disk) (D.faults result.0) (λ n. RoseBy n 0 (D.bench_faults result.0)) (D.trace disk) (D.trace result.0) (I.remaining input.old) (I.remaining input.new) (I.faults input.old) (I.faults input.new) result.1 }
-    ensures laid { IfOk result.1 (λ done. IsLaid job_run.now known (D.trace disk) done.layout) }
+    ensures laid { IfOk result.1 (λ done. IsLaidFrom job_run.now known (D.trace disk) done.layout done.floor) }
+    ensures right { IfOk result.1 (λ done. IsTrue (D.may_write result.0)) }
     ensures mounted { D.mount_path result.0 ≡ D.mount_path disk }
 {
     if job_run.workers == 1 {
@@ -66,8 +74,8 @@ where
     }
 }
 
-// Checks all revisions of the repository on a disk, and gives the disk back.
-fn check_on<T: Threads, D: Disk>(
+/// Checks all revisions of the repository on a disk, and gives the disk back.
+pub(crate) fn check_on<T: Threads, D: Disk>(
     rt: &T,
     alloc: Global,
     disk: D,
@@ -119,9 +127,17 @@ where
     let (disk, done) = do_on(rt, alloc, disk, job_run, input, micros, gate, known);
     let done = match done {
         Ok(done) => done,
-        Err(fault) => return (disk, JobsEnd::unchecked(Err(fault))),
+        Err(fault) => return (disk, JobsEnd::of_jobs(Err(fault))),
     };
     let (disk, unsound) = check_on(rt, alloc, disk, done.layout, done.youngest);
-    let ended = tell(out, &done, unsound.is_none());
-    (disk, JobsEnd { ended, unsound })
+    let packed = None;
+    let sound = unsound.is_none();
+    let ended = tell(out, &done, Ending { packed, sound });
+    let unpacked = None;
+    let end = JobsEnd {
+        ended,
+        unpacked,
+        unsound,
+    };
+    (disk, end)
 }

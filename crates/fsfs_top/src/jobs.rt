@@ -10,6 +10,7 @@ ghost use Rattle.fsfs_top.specs.Scenes.{scene, source_scene};
 ghost use Rattle.fsfs_top.specs.Scripts.{DidJobs, HasHistory, RunIsDecided, RunsAsAsked, RunsAt, RunsBy};
 
 use crate::checked::{JobsEnd, run_checked};
+use crate::packed::run_packed;
 use fsfs_base::{Clock, Gate, Sink, Source};
 use fsfs_cli::{Fault, JobRun, OutsideFault, Task, Tool, read_words};
 use fsfs_disk::{Access, Disk, Host};
@@ -18,14 +19,8 @@ use std::alloc::Global;
 use std::sync::Wait;
 use std::thread::Threads;
 
-// Runs the script in the input over the repository on a disk, by one worker or by two, with no check behind it.
-fn run_unchecked<
-    T: Threads + Wait + Sync,
-    D: Disk + Drop + Send,
-    I: Source,
-    O: Sink,
-    G: Gate + Sync,
->(
+// Runs the script in the input over the repository on a disk, by one worker or by two, with no packs and no check.
+fn run_alone<T: Threads + Wait + Sync, D: Disk + Drop + Send, I: Source, O: Sink, G: Gate + Sync>(
     rt: &T,
     alloc: Global,
     disk: D,
@@ -71,15 +66,18 @@ where
     requires workers { (1 ≤ job_run.now.workers) × (job_run.now.workers ≤ 2) }
     requires moment { micros ≤ 4102444799999999 }
     requires knows { known ≡ true → HasHistory (D.trace disk) }
-    ensures ran { RunsAsAsked job_run.now known micros (D.faults disk) (D.faults result.0) (λ n. RoseBy n 0 (D.bench_faults result.0)) (run_scene (D.trace disk) (I.remaining input.old) (I.faults input.old) (O.written out.old) (O.faults out.old))
+    ensures ran { RunsAsAsked job_run.now known micros (D.faults disk) (D.faults result.0) 0 (D.bench_faults result.0) (run_scene (D.trace disk) (I.remaining input.old) (I.faults input.old) (O.written out.old) (O.faults out.old))
         (run_scene (D.trace result.0) (I.remaining input.new) (I.faults input.new) (O.written out.new) (O.faults out.new)) result.1 }
     ensures mounted { D.mount_path result.0 ≡ D.mount_path disk }
 {
+    if job_run.pack {
+        return run_packed(rt, alloc, disk, job_run, input, micros, out, gate, known);
+    }
     if job_run.check {
         return run_checked(rt, alloc, disk, job_run, input, micros, out, gate, known);
     }
-    let (disk, ended) = run_unchecked(rt, alloc, disk, job_run, input, micros, out, gate, known);
-    (disk, JobsEnd::unchecked(ended))
+    let (disk, ended) = run_alone(rt, alloc, disk, job_run, input, micros, out, gate, known);
+    (disk, JobsEnd::of_jobs(ended))
 }
 
 // Mounts a path, and runs the script in the input over the repository there.
@@ -106,7 +104,7 @@ where
 {
     let disk = match host.mount(repos, Access::Write) {
         Ok(disk) => disk,
-        Err(_) => return JobsEnd::unchecked(Err(Fault::Outside(OutsideFault::Mount))),
+        Err(_) => return JobsEnd::of_jobs(Err(Fault::Outside(OutsideFault::Mount))),
     };
     let micros = clock.micros();
     let (disk, ran) = run_on(rt, alloc, disk, job_run, input, micros, out, gate, known);
@@ -141,7 +139,7 @@ where
 {
     let request = match read_words(alloc, Tool::Jobs, words) {
         Ok(request) => request,
-        Err(fault) => return JobsEnd::unchecked(Err(Fault::from(fault))),
+        Err(fault) => return JobsEnd::of_jobs(Err(Fault::from(fault))),
     };
     let job_run = match &request.task {
         Task::RunJobs(job_run) => job_run,

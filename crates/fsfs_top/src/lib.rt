@@ -5,6 +5,7 @@ mod checked;
 mod jobs;
 mod look;
 mod output;
+mod packed;
 mod packing;
 mod top;
 mod txns;

@@ -1,5 +1,5 @@
 // The top call.
-ghost use Rattle.std.specs.Prelude.{◌≡◌, ◌≢◌, ◌⊎◌, ◌≤◌, ℕ, List, map, string_bytes, true, Option, Some, Result, OnOk, option_map};
+ghost use Rattle.std.specs.Prelude.{◌≡◌, ◌≢◌, ◌⊎◌, ◌≤◌, ℕ, List, map, string_bytes, true, false, Option, Some, Result, OnOk, option_map};
 ghost use Rattle.fsfs_base.specs.Failures.{Rose};
 ghost use Rattle.fsfs_tree.specs.Revisions.{Revision};
 ghost use Rattle.fsfs_disk.specs.Trace.{Trace, files_now};
@@ -136,14 +136,16 @@ fn tell_ended<E: Sink>(err: &mut E, ended: &Result<u8, Fault>) -> u8
     }
 }
 
-// Writes the lines about the faults of a run of svnjobs, what its check found wrong first, and gives the program's status.
+// Writes the lines about the faults of a run of svnjobs, and gives the program's status: why packing stopped first, then what the check found
+// wrong.
 fn tell_end<E: Sink>(err: &mut E, end: &JobsEnd) -> u8
     ensures status { result ≡ status_at end.now }
     ensures told { TellsEnd Jobs (sink_scene E.Sink err.old) (sink_scene E.Sink err.new) end.now }
 {
+    let of_packs = tell_fault(err, &end.unpacked);
     let of_check = tell_fault(err, &end.unsound);
     let of_run = tell_ended(err, &end.ended);
-    of_check.max(of_run)
+    of_packs.max(of_check.max(of_run))
 }
 
 // The call of a program that has commands.
@@ -205,8 +207,8 @@ fn do_command<T: Threads, H: Host, O: Sink, E: Sink, C: Clock, R: Dice, G: Gate>
 }
 
 /// The top call: all that a program does. It answers the program's status, 0 where it did what its words ask for; else it writes one
-/// line about the fault to `err`. Of svnjobs it is the greatest status that a job's line asks for, or a fault that is told to `err`: one
-/// that a check behind the jobs found, and one of the run.
+/// line about the fault to `err`. Of svnjobs it is the greatest status that a job's line asks for, or a fault that is told to `err`: why
+/// packing stopped, what a check behind the jobs found, and the fault of the run.
 ///
 /// `known`: where the host tells the files at the path of the words, they are known to stand for a history, which two workers of svnjobs
 /// rest on. Who doesn't know hands in false; then less is told of these.
@@ -281,13 +283,13 @@ where
     ensures labels { tool ≢ Jobs → (path : List ℕ) → ((shard : ℕ) → Asks tool (map string_bytes words.now) path (Create shard) → ⊥) → ((txns : List (ℕ × ℕ)) → Asks tool (map string_bytes words.now) path (RemoveTxns txns) → ⊥)
         → (Asks tool (map string_bytes words.now) path Pack → ⊥) → HasSameLabels (H.disk_at host.old path) (H.disk_at host.new path) }
 
-    // Of svnjobs: what became of the script in the input, and what a check behind it found, to which belong the status and a line about each fault.
+    // Of svnjobs: what became of the script in the input, of the packs beside and behind it, and what a check found, to which belong the status and a line about each fault.
     // Why a repository is not opened the files decide.
     ensures jobs { tool ≡ Jobs → (end : JobsEnd) × (result ≡ status_at end) × TellsEnd Jobs (sink_scene E.Sink err.old) (sink_scene E.Sink err.new) end
         × DidJobs (map string_bytes words.now) known (C.next clock.old) (scene H.Host O.Sink host.old out.old (source_scene I.Source input.old)) (scene H.Host O.Sink host.new out.new (source_scene I.Source input.new)) end }
 
-    // Whatever the disks hold, a run of svnjobs by one worker leaves no transaction listed that was not before it, unless a call of the disk failed.
-    ensures listed { tool ≡ Jobs → ((repos : List ℕ) (run : JobRun) → Asks tool (map string_bytes words.now) repos (RunJobs run) → run.workers ≡ 1)
+    // Whatever the disks hold, a run of svnjobs by one worker, without packs, leaves no transaction listed that was not before it, unless a call of the disk failed.
+    ensures listed { tool ≡ Jobs → ((repos : List ℕ) (run : JobRun) → Asks tool (map string_bytes words.now) repos (RunJobs run) → (run.workers ≡ 1) × (run.pack ≡ false))
         → (path : List ℕ) → ListsNoOther (H.disk_at host.old path) (H.disk_at host.new path) ⊎ Rose (H.disk_faults host.old) (H.disk_faults host.new) }
 
     ensures unread { tool ≢ Jobs → I.remaining input.new ≡ I.remaining input.old }

@@ -26,7 +26,7 @@ use Rattle.fsfs_jobs.specs.declared.answer.JobAnswer.TheVariants as answers
 use Rattle.fsfs_job_run.specs.Faults.{answer_of_bar}
 use Rattle.fsfs_job_run.proofs.Answered.{given_back}
 use Rattle.fsfs_workers.specs.Working.{EndsFrom, GoesOnKnown, IsEditedTxn}
-use Rattle.fsfs_workers.proofs.Ending.{committed_ends, barred_ends, disk_ends, bench_ends}
+use Rattle.fsfs_workers.proofs.JobEnding.{committed_ends, barred_ends, disk_ends, bench_ends}
 
 module _ {X : Type 0} (back : List Recorded → Txn → X → Type 0) (r : CommitAnswer X) (rose : Type 0) (moment k last : ℕ) (job : CommitJob) (properties : List (List ℕ × List ℕ)) (name : TxnName) (base : ℕ) (settled : Folder) (v : View) (x : Txn) (e : IsEditedTxn job last name base settled v x) (few : k ≤ last) (on : base ≡ base_of job.base last) (within : base ≤ last) (none : v.section ≡ None) where
   pub committed_by : (knows : View → Type 0) (rev : ℕ) (gone : Bool) → properties ≡ undated_properties job → r ≡ replies.Committed rev gone → Meets knows back moment properties v x r → EndsFrom knows rose moment k (jobs.Commit job) (answers.Committed rev) v

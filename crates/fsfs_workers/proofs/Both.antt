@@ -1,5 +1,5 @@
 -- What two workers did, over the seat into which the second one's was joined.
-use Rattle.std.proofs.Common.{◌≡◌, ◌⊎◌, ◌<◌, ◌≤◌, ◌+◌, ◌-◌, ◌/◌, ℕ, zero, suc, List, [], ◌∷◌, ◌++◌, ◌||◌, length, Bool, true, false, cond, inl, inr, ⊎_elim, ap, sym, subst, refl, ◌∙◌, arith}
+use Rattle.std.proofs.Common.{◌≡◌, ◌⊎◌, ◌<◌, ◌≤◌, ◌+◌, ◌-◌, ◌/◌, ℕ, zero, suc, List, [], ◌∷◌, ◌++◌, ◌||◌, length, Bool, true, false, cond, inl, inr, ⊎_elim, ap, sym, subst, refl, ◌∙◌, append_assoc, arith}
 use Rattle.std.specs.Prelude.{Option, Some, None, is_some, slice_get}
 use Rattle.fsfs_disk.specs.Trace.{Trace}
 use Rattle.fsfs_base.specs.declared.places.place.DiskPlace.{DiskPlace}
@@ -11,6 +11,7 @@ use Rattle.fsfs_turn.specs.Alone.{BringsNoDoubt, are_harmless, leaves_stuck}
 use Rattle.fsfs_turn.specs.Views.{View, Begins}
 use Rattle.fsfs_pass.specs.declared.seats.seat_view.Kin.{Kin}
 use Rattle.fsfs_pass.specs.declared.seats.seat_view.SeatView.{SeatView}
+use Rattle.fsfs_pass.specs.Kinship.{own_in}
 use Rattle.fsfs_pass.specs.Seats.{view_of, either_left, halved_view, split_pass, numbered_view, joined_view}
 use Rattle.fsfs_pass.proofs.Following.{grown_long}
 use Rattle.fsfs_script.specs.declared.job_lines.job.Job.{Job}
@@ -22,7 +23,7 @@ use Rattle.fsfs_job_run.specs.Workers.Passes.{last_known, IsOnward, OfFollowed, 
 use Rattle.fsfs_job_run.proofs.BesideLemmas.{begins_on, onward, worked}
 use Rattle.fsfs_workers.specs.InTurn.{in_turn, AreDealt}
 use Rattle.fsfs_workers.specs.Ready.{IsAtRest}
-use Rattle.fsfs_workers.specs.Two.{BothWorked}
+use Rattle.fsfs_workers.specs.Beside.{HaveWorked, WorkedBeside}
 use Rattle.fsfs_workers.specs.OneWorker.{HasWorked}
 use Rattle.fsfs_workers.proofs.Counting.{faults_in_turn, benches_in_turn}
 use Rattle.fsfs_workers.proofs.InTurnLemmas.{first_share, second_share, shares_are_dealt, shares_are_all, length_in_turn}
@@ -32,22 +33,22 @@ use Rattle.fsfs_workers.proofs.Shares.{either_full, share_is_calm, none_stuck}
 -- ---- what its jobs leave
 
 -- images are spoken of since the same moment
-since_when : (moment : ℕ) (js : List Job) (answers : List JobAnswer) (v u : View) → WorkJobs moment js answers v u → (u.since ≡ v.since) × (u.opened ≡ v.opened)
+pub since_when : (moment : ℕ) (js : List Job) (answers : List JobAnswer) (v u : View) → WorkJobs moment js answers v u → (u.since ≡ v.since) × (u.opened ≡ v.opened)
 since_when moment _ _ _ _ (End v) = (refl, refl)
 since_when moment _ _ _ _ (More job answer js answers v m u first rest) =
     let then = since_when moment js answers m u rest in (then.0 ∙ first.since, then.1 ∙ first.opened)
 
 -- no fault leaves a revision in doubt but where a line tells of that
-without_doubt : (moment : ℕ) (js : List Job) (answers : List JobAnswer) (v u : View) → WorkJobs moment js answers v u → TellNoDoubt answers → BringsNoDoubt v u
+pub without_doubt : (moment : ℕ) (js : List Job) (answers : List JobAnswer) (v u : View) → WorkJobs moment js answers v u → TellNoDoubt answers → BringsNoDoubt v u
 without_doubt moment _ _ _ _ (End v) calm = λ few. few
 without_doubt moment _ _ _ _ (More job answer js answers v m u first rest) calm = λ few. without_doubt moment js answers m u rest calm.1 (first.doubtless calm.0 few)
 
 -- ---- both
 
-knows_less : (u w : View) → Begins u.seen w.seen → w.pass.least ≤ u.pass.least → last_known w ≤ last_known u
+pub knows_less : (u w : View) → Begins u.seen w.seen → w.pass.least ≤ u.pass.least → last_known w ≤ last_known u
 knows_less u w begins least = let long = grown_long u.seen w.seen begins in omega (arith, least, long)
 
-both_harmless : (a b : List DiskPlace) → are_harmless a ≡ true → are_harmless b ≡ true → are_harmless (a ++ b) ≡ true
+pub both_harmless : (a b : List DiskPlace) → are_harmless a ≡ true → are_harmless b ≡ true → are_harmless (a ++ b) ≡ true
 both_harmless [] b few less = less
 both_harmless (x ∷ a) b few less = by_test (leaves_stuck x) few (λ rest. both_harmless a b rest less)
   where
@@ -58,6 +59,11 @@ both_harmless (x ∷ a) b few less = by_test (leaves_stuck x) few (λ rest. both
 neither_stuck : (a b : Option DiskPlace) → either_place a b ≡ None → (is_some a ≡ false) × (is_some b ≡ false)
 neither_stuck (Some at) b e = let no : Some at ≡ None = e in absurd cc
 neither_stuck None b e = (refl, ap is_some e)
+
+-- the revisions of the passes in both lists
+pub own_in_both : (a b : List (ℕ × List ℕ)) → own_in (a ++ b) ≡ own_in a ++ own_in b
+own_in_both [] b = refl
+own_in_both (x ∷ a) b = ap (λ (l : List ℕ). x.1 ++ l) (own_in_both a b) ∙ sym (append_assoc x.1 (own_in a) (own_in b))
 
 -- a job that was dealt out is one of all
 dealt_in : (n w : ℕ) (js : List Job) (i : ℕ) (job : Job) → slice_get (dealt n w js) i ≡ Some job → (j : ℕ) × (slice_get js j ≡ Some job)
@@ -73,12 +79,15 @@ pub both_worked : (moment : ℕ) (js : List Job) (answers : List JobAnswer) (v o
     → WorkJobs moment (dealt 2 0 js) (dealt 2 0 answers) (view_of (halved_view v)) (view_of one)
     → WorkJobs moment (dealt 2 1 js) (dealt 2 1 answers) (view_of (numbered_view n met (split_pass v))) (view_of two)
     → one.kin ≡ (halved_view v).kin → two.kin ≡ (numbered_view n met (split_pass v)).kin
-    → Begins (joined_view last one two).seen one.seen → Begins (joined_view last one two).seen two.seen → BothWorked moment js answers v (joined_view last one two)
+    → Begins (joined_view last one two).seen one.seen → Begins (joined_view last one two).seen two.seen → WorkedBeside moment 2 None js answers v (joined_view last one two)
 both_worked moment js answers v one two n met last each a b first_kin second_kin first_seen second_seen =
     let u = joined_view last one two in
     let first = worked moment (dealt 2 0 js) (dealt 2 0 answers) (view_of (halved_view v)) (view_of one) a in
     let second = worked moment (dealt 2 1 js) (dealt 2 1 answers) (view_of (numbered_view n met (split_pass v))) (view_of two) b in
     let when = since_when moment (dealt 2 0 js) (dealt 2 0 answers) (view_of (halved_view v)) (view_of one) a in
+    let joined : u.kin.joined ≡ v.kin.joined ++ (two.number, own_of_all (dealt 2 1 answers)) ∷ [] = ap (λ (l : List (ℕ × List ℕ)). l ++ (two.number, two.pass.mine) ∷ two.kin.joined) (ap (λ (k : Kin). k.joined) first_kin)
+    ∙ ap (λ (l : List ℕ). v.kin.joined ++ (two.number, l) ∷ two.kin.joined) second.own
+    ∙ ap (λ (l : List (ℕ × List ℕ)). v.kin.joined ++ (two.number, own_of_all (dealt 2 1 answers)) ∷ l) (ap (λ (k : Kin). k.joined) second_kin) in
     record {
       each = each;
       grows = begins_on u.seen one.seen v.seen first_seen first.begins;
@@ -86,16 +95,14 @@ both_worked moment js answers v one two n met last each a b first_kin second_kin
       opened = when.1;
       lines = lines;
       own = first.own;
-      other = two.number;
-      joined = ap (λ (l : List (ℕ × List ℕ)). l ++ (two.number, two.pass.mine) ∷ two.kin.joined) (ap (λ (k : Kin). k.joined) first_kin)
-          ∙ ap (λ (l : List ℕ). v.kin.joined ++ (two.number, l) ∷ two.kin.joined) second.own
-          ∙ ap (λ (l : List (ℕ × List ℕ)). v.kin.joined ++ (two.number, own_of_all (dealt 2 1 answers)) ∷ l) (ap (λ (k : Kin). k.joined) second_kin);
-      doubtless = λ calm few. both_harmless one.pass.faults two.pass.faults
+      joined = ap own_in joined ∙ own_in_both v.kin.joined ((two.number, own_of_all (dealt 2 1 answers)) ∷ []);
+      doubtless = λ free calm few. both_harmless one.pass.faults two.pass.faults
           (without_doubt moment (dealt 2 0 js) (dealt 2 0 answers) (view_of (halved_view v)) (view_of one) a (share_is_calm 2 0 answers calm) few)
           (without_doubt moment (dealt 2 1 js) (dealt 2 1 answers) (view_of (numbered_view n met (split_pass v))) (view_of two) b (share_is_calm 2 1 answers calm) refl);
       left = λ clear. of_both clear first.left second.left;
       full = λ told. ⊎_elim (λ one_told. ap (λ (b : Bool). b || two.full) (first.names one_told)) (λ two_told. then_true one.full two.full (second.names two_told)) (either_full answers told);
       found = λ none. let free = neither_stuck one.pass.stuck two.pass.stuck none in none_stuck answers (first.stuck free.0) (second.stuck free.1);
+      serial = λ alone. absurd (omega (arith, alone));
     }
   where
     on_first : (h : List Recorded) → IsOnward (view_of (joined_view last one two)) h → IsOnward (view_of one) h
@@ -130,7 +137,7 @@ module _ (moment : ℕ) (js : List Job) (firsts seconds answers : List JobAnswer
   lengths : AreDealt (length firsts) (length seconds)
   lengths = subst (λ (p : ℕ × ℕ). AreDealt p.0 p.1) (λ i. (sym a.each i, sym b.each i)) (shares_are_dealt js)
 
-  pub each_told : length answers ≡ length js
+  each_told : length answers ≡ length js
   each_told = let all = shares_are_all js in let both = length_in_turn firsts seconds in ap (λ (l : List JobAnswer). length l) answers_are ∙ (let e : length (in_turn firsts seconds) ≡ length js = omega (arith, all, both, a.each, b.each) in e)
 
   first_kin : one.kin ≡ (halved_view v).kin
@@ -139,17 +146,17 @@ module _ (moment : ℕ) (js : List Job) (firsts seconds answers : List JobAnswer
   second_kin : two.kin ≡ (numbered_view n new.met (split_pass v)).kin
   second_kin = b.kin ∙ ap (λ (z : SeatView). z.kin) new_is
 
-  pub both_did : v.told ≡ true → Begins u.seen one.seen → Begins u.seen two.seen → BothWorked moment js answers v u
+  both_did : v.told ≡ true → Begins u.seen one.seen → Begins u.seen two.seen → WorkedBeside moment 2 None js answers v u
   both_did told first_seen second_seen =
       let firsts_are : firsts ≡ dealt 2 0 answers = sym (ap (λ (l : List JobAnswer). dealt 2 0 l) answers_are ∙ first_share firsts seconds lengths) in
       let seconds_are : seconds ≡ dealt 2 1 answers = sym (ap (λ (l : List JobAnswer). dealt 2 1 l) answers_are ∙ second_share firsts seconds lengths) in
-      subst (λ z. BothWorked moment js answers v z) (sym u_is)
+      subst (λ z. WorkedBeside moment 2 None js answers v z) (sym u_is)
       (both_worked moment js answers v one two n new.met u.met each_told
       (subst (λ (x : List JobAnswer × SeatView). WorkJobs moment (dealt 2 0 js) x.0 (view_of x.1) (view_of one)) (λ i. (firsts_are i, half_is i)) (a.did (ap (λ (z : SeatView). z.told) half_is ∙ told)))
       (subst (λ (x : List JobAnswer × SeatView). WorkJobs moment (dealt 2 1 js) x.0 (view_of x.1) (view_of two)) (λ i. (seconds_are i, new_is i)) (b.did (ap (λ (z : SeatView). z.told) new_is ∙ told)))
       first_kin second_kin (subst (λ (z : SeatView). Begins z.seen one.seen) u_is first_seen) (subst (λ (z : SeatView). Begins z.seen two.seen) u_is second_seen))
 
-  pub both_rose : RoseBy (disk_faults_in answers) v.failures u.failures
+  both_rose : RoseBy (disk_faults_in answers) v.failures u.failures
   both_rose =
       let told : disk_faults_in answers ≡ disk_faults_in firsts + disk_faults_in seconds = ap disk_faults_in answers_are ∙ faults_in_turn firsts seconds in
       let before : half.failures ≡ v.failures = ap (λ (z : SeatView). z.failures) half_is in
@@ -157,7 +164,7 @@ module _ (moment : ℕ) (js : List Job) (firsts seconds answers : List JobAnswer
       let sum : u.failures ≡ one.failures + two.failures = ap (λ (z : SeatView). z.failures) u_is in
       omega (arith, a.cause, b.cause, told, before, none, sum)
 
-  pub both_benches : RoseBy (bench_faults_in answers) v.bench_failures u.bench_failures
+  both_benches : RoseBy (bench_faults_in answers) v.bench_failures u.bench_failures
   both_benches =
       let told : bench_faults_in answers ≡ bench_faults_in firsts + bench_faults_in seconds = ap bench_faults_in answers_are ∙ benches_in_turn firsts seconds in
       let before : half.bench_failures ≡ v.bench_failures = ap (λ (z : SeatView). z.bench_failures) half_is in
@@ -165,18 +172,21 @@ module _ (moment : ℕ) (js : List Job) (firsts seconds answers : List JobAnswer
       let sum : u.bench_failures ≡ one.bench_failures + two.bench_failures = ap (λ (z : SeatView). z.bench_failures) u_is in
       omega (arith, a.benches, b.benches, told, before, none, sum)
 
-  pub same_parts : u.kin.parts ≡ v.kin.parts
+  same_parts : u.kin.parts ≡ v.kin.parts
   same_parts =
       let x : one.kin.parts ≡ v.kin.parts - v.kin.parts / 2 = ap (λ (k : Kin). k.parts) first_kin in
       let y : two.kin.parts ≡ v.kin.parts / 2 = ap (λ (k : Kin). k.parts) second_kin in
       let sum : u.kin.parts ≡ one.kin.parts + two.kin.parts = ap (λ (z : SeatView). z.kin.parts) u_is in
       omega (arith, x, y, sum)
 
-  pub same_duty : u.told ≡ v.told
+  same_duty : u.told ≡ v.told
   same_duty = ap (λ (z : SeatView). z.told) u_is ∙ a.duty ∙ ap (λ (z : SeatView). z.told) half_is
 
-  pub at_rest : IsAtRest u
+  at_rest : IsAtRest u
   at_rest = record {
     sitting = ap (λ (z : SeatView). z.kin.stage) u_is;
     outside = λ told. ap (λ (z : SeatView). z.section) u_is ∙ a.rests.outside (sym (ap (λ (z : SeatView). z.told) u_is) ∙ told);
   }
+
+  pub both_have : (v.told ≡ true → Begins u.seen one.seen × Begins u.seen two.seen) → HaveWorked moment 2 None js answers v u
+  both_have seen = record { did = λ told. both_did told (seen told).0 (seen told).1; each = each_told; cause = both_rose; benches = both_benches; rests = at_rest; parts = same_parts; duty = same_duty }

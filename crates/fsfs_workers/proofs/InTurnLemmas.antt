@@ -34,6 +34,11 @@ second_share (x ∷ xs) (y ∷ ys) a = ap (λ l. y ∷ l) (second_share xs ys (o
 
 -- ---- dealt out
 
+-- one worker has all
+pub one_share : {X : Type 0} (xs : List X) → dealt 1 0 xs ≡ xs
+one_share [] = refl
+one_share (x ∷ xs) = ap (λ l. x ∷ l) (one_share xs)
+
 pub shares_are_dealt : {X : Type 0} (xs : List X) → AreDealt (length (dealt 2 0 xs)) (length (dealt 2 1 xs))
 shares_are_dealt [] = inl refl
 shares_are_dealt (x ∷ []) = inr refl

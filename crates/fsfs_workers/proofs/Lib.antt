@@ -2,7 +2,7 @@ mod Parts
 mod Steps
 mod Lines
 mod Going
-mod Ending
+mod JobEnding
 mod NoteLemmas
 mod Answered
 mod Histories
@@ -19,7 +19,11 @@ pub mod Sharing
 pub mod Counting
 pub mod Both
 pub mod Readiness
+pub mod PackOften
+pub mod Lone
+pub mod WithPacks
 pub mod Ran
+pub mod Serially
 mod Begun
 mod Ends
 pub use Rattle.fsfs_job_run.proofs.ListedLemmas

@@ -1,5 +1,5 @@
--- What a run of two workers comes to, behind the close.
-use Rattle.std.proofs.Common.{◌≡◌, ◌⊎◌, ◌<◌, ◌≤◌, ◌+◌, ◌++◌, ℕ, List, [], ◌∷◌, length, true, inl, inr, refl, sym, ap, subst, ◌∙◌, append-nil, arith}
+-- What a run of workers comes to, behind the close.
+use Rattle.std.proofs.Common.{◌≡◌, ◌⊎◌, ◌<◌, ◌≤◌, ◌+◌, ◌-◌, ◌++◌, ℕ, zero, suc, List, [], ◌∷◌, length, Bool, true, inl, inr, refl, sym, ap, subst, ◌∙◌, arith}
 use Rattle.std.proofs.lemmas.List.{map-append}
 use Rattle.std.specs.Prelude.{Option, Some, None, IfSome, is_some, slice_get}
 use Rattle.fsfs_base.specs.Files.{Files}
@@ -38,8 +38,8 @@ use Rattle.fsfs_job_run.proofs.BesideLemmas.{all_stay, begins_on, begins_itself,
 use Rattle.fsfs_job_run.proofs.Bytes.{bytes_stay}
 use Rattle.fsfs_job_run.proofs.RunLemmas.{a_part, doubt_of, doubt_follows}
 use Rattle.fsfs_job_run.specs.Runs.{AllStandFor, HoldsAll}
-use Rattle.fsfs_workers.specs.Ready.{IsAtRest}
-use Rattle.fsfs_workers.specs.Two.{BothWorked, RanTwo}
+use Rattle.fsfs_workers.specs.Beside.{HaveWorked, WorkedBeside, told_by}
+use Rattle.fsfs_workers.specs.ByWorkers.{RanBeside}
 use Rattle.fsfs_workers.proofs.Shares.{shares_tell, shares_tell_once}
 
 -- ---- histories and their revisions
@@ -54,8 +54,9 @@ whole_part h g d none (inr (x, is, with)) long = let no : Some x ≡ None = sym 
 
 -- ---- the run
 
--- v is what the first pass knew as it began, u what it knew when the other was joined into it; behind that it looked, and closed the repository
-module _ (moment young : ℕ) (js : List Job) (answers : List JobAnswer) (v u : SeatView) (met : Option Trace) (t : Trace) (both : BothWorked moment js answers v u) (looked : Looked young (view_of u) (view_of (look_view young met u))) (leaves : Leaves (look_view young met u) t)
+-- v is what the first pass knew as it began, u what it knew when the others were joined into it; behind that it looked, and closed the repository. There were
+-- m workers more
+module _ (moment m young : ℕ) (packs : Option Bool) (js : List Job) (answers : List JobAnswer) (v u : SeatView) (met : Option Trace) (t : Trace) (both : WorkedBeside moment (suc m) packs js answers v u) (looked : Looked young (view_of u) (view_of (look_view young met u))) (leaves : Leaves (look_view young met u) t)
     (opened : v.opened ≡ length v.seen) (had : HoldBytes v.since.files v.seen) (mine : v.pass.mine ≡ []) (faults : v.pass.faults ≡ []) (clear : v.left ≡ None) (outside : u.section ≡ None) (kin : v.kin ≡ alone) (parts : u.kin.parts ≡ all_parts) where
   abbrev h : List Recorded
   h = leaves.history
@@ -74,15 +75,12 @@ module _ (moment young : ℕ) (js : List Job) (answers : List JobAnswer) (v u : 
 
   -- ---- whose each revision is
 
-  abbrev all_told : List ℕ
-  all_told = own_of_all (dealt 2 0 answers) ++ own_of_all (dealt 2 1 answers)
-
-  own_are : all_own (look_view young met u) ≡ all_told
+  own_are : all_own (look_view young met u) ≡ told_by (suc m) 0 (suc m) answers
   own_are =
-      let first : u.pass.mine ≡ own_of_all (dealt 2 0 answers) = both.own ∙ ap (λ (l : List ℕ). l ++ own_of_all (dealt 2 0 answers)) mine in
-      let joined : u.kin.joined ≡ (both.other, own_of_all (dealt 2 1 answers)) ∷ [] = both.joined ∙ ap (λ (k : Kin). k.joined ++ (both.other, own_of_all (dealt 2 1 answers)) ∷ []) kin in
-      let second : own_in u.kin.joined ≡ own_of_all (dealt 2 1 answers) = ap own_in joined ∙ append-nil (own_of_all (dealt 2 1 answers)) in
-      ap (λ (l : List ℕ). l ++ own_in u.kin.joined) first ∙ ap (λ (l : List ℕ). own_of_all (dealt 2 0 answers) ++ l) second
+      let first : u.pass.mine ≡ own_of_all (dealt (suc m) 0 answers) = both.own ∙ ap (λ (l : List ℕ). l ++ own_of_all (dealt (suc m) 0 answers)) mine in
+      let others : own_in u.kin.joined ≡ told_by (suc m) 1 (suc m - 1) answers = both.joined ∙ ap (λ (k : Kin). own_in k.joined ++ told_by (suc m) 1 (suc m - 1) answers) kin in
+      let count : suc m - 1 ≡ m = omega arith in
+      ap (λ (l : List ℕ). l ++ own_in u.kin.joined) first ∙ ap (λ (l : List ℕ). own_of_all (dealt (suc m) 0 answers) ++ l) (others ∙ ap (λ k. told_by (suc m) 1 k answers) count)
 
   -- ---- the lines
 
@@ -92,17 +90,17 @@ module _ (moment young : ℕ) (js : List Job) (answers : List JobAnswer) (v u : 
   on : IsOnward (view_of u) h
   on = record { begins = begins; has = let long = grown_long h u.seen begins in omega (arith, looked.least, leaves.least, long) }
 
-  lines_hold : (w : ℕ) → w < 2 → WorkerLines moment h (last_of (revisions v.seen)) (dealt 2 w js) (dealt 2 w answers)
-  lines_hold w less = all_stay moment h h (last_known (view_of v)) (last_of (revisions v.seen)) (dealt 2 w js) (dealt 2 w answers) (begins_itself h) knew_all (both.lines h on w less)
+  lines_hold : (w : ℕ) → w < suc m → WorkerLines moment h (last_of (revisions v.seen)) (dealt (suc m) w js) (dealt (suc m) w answers)
+  lines_hold w less = all_stay moment h h (last_known (view_of v)) (last_of (revisions v.seen)) (dealt (suc m) w js) (dealt (suc m) w answers) (begins_itself h) knew_all (both.lines h on w less)
 
-  lines : JobLines moment 2 js answers (revisions v.seen) h
+  lines : JobLines moment (suc m) js answers (revisions v.seen) h
   lines = record {
     each = both.each;
     grew = goes_on h v.seen (begins_on h u.seen v.seen begins both.grows);
     lines = lines_hold;
     told = λ r from less.
-        shares_tell answers r (subst (λ (l : List ℕ). IsIn r l) own_are (leaves.added parts r (omega (arith, from, since_then)) less));
-    once = shares_tell_once answers (subst AreOnce own_are leaves.once);
+        shares_tell (suc m) 0 (suc m) answers r (subst (λ (l : List ℕ). IsIn r l) own_are (leaves.added parts r (omega (arith, from, since_then)) less));
+    once = shares_tell_once m answers (subst AreOnce own_are leaves.once);
   }
 
   -- ---- the disk
@@ -155,8 +153,8 @@ module _ (moment young : ℕ) (js : List Job) (answers : List JobAnswer) (v u : 
       each : (m : Files) → IsImage t.first t.operations m → StandsFor m (revisions h)
       each m image = let p = leaves.now m image in subst (λ (g : List Recorded). StandsFor m (revisions g)) (whole_part h p.0 leaves.doubt none p.1 p.2) p.4
 
-  pub ran_two : (are_harmless u.pass.faults ≡ true → (leaves.doubt ≡ None) × (u.pass.stuck ≡ None)) → RanTwo moment v.since js answers young (revisions v.seen) t
-  ran_two calm =
+  pub ran_beside : (are_harmless u.pass.faults ≡ true → (leaves.doubt ≡ None) × (u.pass.stuck ≡ None)) → RanBeside moment v.since (suc m) packs js answers young (revisions v.seen) (Some t)
+  ran_beside calm =
       let few : are_harmless v.pass.faults ≡ true = ap are_harmless faults in
       record {
         now = h;
@@ -164,18 +162,20 @@ module _ (moment young : ℕ) (js : List Job) (answers : List JobAnswer) (v u : 
         last = last;
         held = held;
         full = λ told. leaves.full (both.full told);
-        stuck = λ quiet. both.found (calm (both.doubtless quiet few)).1;
-        certain = λ quiet. stands_all (calm (both.doubtless quiet few)).0;
+        stuck = λ free quiet. both.found (calm (both.doubtless free quiet few)).1;
+        certain = λ free quiet. stands_all (calm (both.doubtless free quiet few)).0;
+        serial = λ alone. both.serial alone h on (λ r from less. lines.told r (omega (arith, from, was_long)) less);
       }
 
 -- the same, where the disk that was given back tells; s is what the first pass knew as it closed the repository
-pub ran_so : (moment young : ℕ) (js : List Job) (answers : List JobAnswer) (v u s : SeatView) (told : Option Trace) (t : Trace) → told ≡ Some t → s ≡ look_view young s.met u → s.told ≡ is_some told → IfSome told (λ t. Leaves s t)
-    → (v.told ≡ true → BothWorked moment js answers v u) → (u.told ≡ true → Looked young (view_of u) (view_of (look_view young s.met u))) → IsAtRest u → u.told ≡ v.told
-    → (v.told ≡ true → (v.opened ≡ length v.seen) × (v.pass.mine ≡ []) × (v.pass.faults ≡ []) × HoldBytes v.since.files v.seen × (v.left ≡ None)) → v.kin ≡ alone → u.kin.parts ≡ v.kin.parts → RanTwo moment v.since js answers young (revisions v.seen) t
-ran_so moment young js answers v u s told t is s_is closed left both looked rests duty seen kin same_parts =
+pub ran_so : (moment workers young : ℕ) (packs : Option Bool) (js : List Job) (answers : List JobAnswer) (v u s : SeatView) (told : Option Trace) (t : Trace) → 1 ≤ workers → told ≡ Some t → s ≡ look_view young s.met u → s.told ≡ is_some told → IfSome told (λ t. Leaves s t)
+    → HaveWorked moment workers packs js answers v u → (u.told ≡ true → Looked young (view_of u) (view_of (look_view young s.met u)))
+    → (v.told ≡ true → (v.opened ≡ length v.seen) × (v.pass.mine ≡ []) × (v.pass.faults ≡ []) × HoldBytes v.since.files v.seen × (v.left ≡ None)) → v.kin ≡ alone → RanBeside moment v.since workers packs js answers young (revisions v.seen) (Some t)
+ran_so moment zero young packs js answers v u s told t some is s_is closed left have looked seen kin = absurd (omega (arith, some))
+ran_so moment (suc m) young packs js answers v u s told t some is s_is closed left have looked seen kin =
     let told_last : u.told ≡ true = sym (ap (λ (z : SeatView). z.told) s_is) ∙ closed ∙ ap (λ (o : Option Trace). is_some o) is in
-    let told_first : v.told ≡ true = sym duty ∙ told_last in
+    let told_first : v.told ≡ true = sym have.duty ∙ told_last in
     let begun = seen told_first in
-    let parts : u.kin.parts ≡ all_parts = same_parts ∙ ap (λ (k : Kin). k.parts) kin in
+    let parts : u.kin.parts ≡ all_parts = have.parts ∙ ap (λ (k : Kin). k.parts) kin in
     let leaves = subst (λ (z : SeatView). Leaves z t) s_is (subst (λ (o : Option Trace). IfSome o (λ t. Leaves s t)) is left) in
-    ran_two moment young js answers v u s.met t (both told_first) (looked told_last) leaves begun.0 begun.3 begun.1 begun.2 begun.4 (rests.outside told_last) kin parts (leaves.calm parts (rests.outside told_last))
+    ran_beside moment m young packs js answers v u s.met t (have.did told_first) (looked told_last) leaves begun.0 begun.3 begun.1 begun.2 begun.4 (have.rests.outside told_last) kin parts (leaves.calm parts (have.rests.outside told_last))

@@ -1,11 +1,12 @@
--- What the lines of two workers tell, of their lines in the order of the jobs.
-use Rattle.std.proofs.Common.{◌≡◌, ◌⊎◌, ◌-◌, ◌||◌, ℕ, zero, suc, List, [], ◌∷◌, ◌++◌, Bool, true, ⊎_elim, sym, ap, subst, inl, inr, append_assoc, append-nil}
+-- What the lines of workers tell, of their lines in the order of the jobs.
+use Rattle.std.proofs.Common.{◌≡◌, ◌⊎◌, ◌+◌, ◌-◌, ◌||◌, ℕ, zero, suc, List, [], ◌∷◌, ◌++◌, Bool, true, ⊎_elim, refl, sym, ap, subst, ◌∙◌, inl, inr, append_assoc, append-nil, arith}
 use Rattle.fsfs_machine.specs.Kept.{IsIn, AreOnce}
 use Rattle.fsfs_jobs.specs.declared.answer.JobAnswer.{JobAnswer}
 use Rattle.fsfs_jobs.specs.declared.answer.JobAnswer.TheVariants.{Committed, Read, Conflict, Stopped}
 use Rattle.fsfs_job_run.proofs.Full.{one_true, then_true}
 use Rattle.fsfs_job_run.specs.Serial.Jobs.{own_of, own_of_all, TellNoDoubt, tell_full, tells_full}
 use Rattle.fsfs_job_run.specs.Workers.Lines.{dealt, TellNoneStuck}
+use Rattle.fsfs_workers.specs.Beside.{told_by}
 
 -- ---- what stands in two lists
 
@@ -57,28 +58,50 @@ share_tells n w [] r there = there
 share_tells n zero (answer ∷ answers) r there = in_both r (own_of answer) (own_of_all (dealt n (n - 1) answers)) (own_of_all answers) (λ at. share_tells n (n - 1) answers r at) there
 share_tells n (suc w) (answer ∷ answers) r there = in_right r (own_of answer) (own_of_all answers) (share_tells n w answers r there)
 
-pub shares_tell : (answers : List JobAnswer) (r : ℕ) → IsIn r (own_of_all (dealt 2 0 answers) ++ own_of_all (dealt 2 1 answers)) → IsIn r (own_of_all answers)
-shares_tell answers r there = ⊎_elim (λ at. share_tells 2 0 answers r at) (λ at. share_tells 2 1 answers r at) (in_either r (own_of_all (dealt 2 0 answers)) (own_of_all (dealt 2 1 answers)) there)
+pub shares_tell : (n w more : ℕ) (answers : List JobAnswer) (r : ℕ) → IsIn r (told_by n w more answers) → IsIn r (own_of_all answers)
+shares_tell n w zero answers r there = absurd there
+shares_tell n w (suc more) answers r there = ⊎_elim (λ at. share_tells n w answers r at) (λ at. shares_tell n (suc w) more answers r at) (in_either r (own_of_all (dealt n w answers)) (told_by n (suc w) more answers) there)
 
--- each that they tell is told in one of the two shares
-told_in_shares : (answers : List JobAnswer) (r : ℕ) → IsIn r (own_of_all answers) → IsIn r (own_of_all (dealt 2 0 answers) ++ own_of_all (dealt 2 1 answers))
-told_in_shares [] r there = there
-told_in_shares (answer ∷ answers) r there =
-    let mine = own_of_all (dealt 2 1 answers) in
-    let others = own_of_all (dealt 2 0 answers) in
-    subst (λ (l : List ℕ). IsIn r l) (sym (append_assoc (own_of answer) mine others))
-    (in_both r (own_of answer) (own_of_all answers) (mine ++ others) (λ at. in_turned r others mine (told_in_shares answers r at)) there)
+-- an answer more in front is that of the worker with none before it; each other one has one less before it then
+shifted : (n w more : ℕ) (answer : JobAnswer) (answers : List JobAnswer) → told_by n (suc w) more (answer ∷ answers) ≡ told_by n w more answers
+shifted n w zero answer answers = refl
+shifted n w (suc more) answer answers = ap (λ (l : List ℕ). own_of_all (dealt n w answers) ++ l) (shifted n (suc w) more answer answers)
 
--- none is told twice, where none is told twice in the two shares
-pub shares_tell_once : (answers : List JobAnswer) → AreOnce (own_of_all (dealt 2 0 answers) ++ own_of_all (dealt 2 1 answers)) → AreOnce (own_of_all answers)
-shares_tell_once [] once = once
-shares_tell_once (Committed rev ∷ answers) once = (
-  (λ there. once.0 (in_turned rev (own_of_all (dealt 2 0 answers)) (own_of_all (dealt 2 1 answers)) (told_in_shares answers rev there))),
-  shares_tell_once answers (once_turned (own_of_all (dealt 2 1 answers)) (own_of_all (dealt 2 0 answers)) once.1),
-)
-shares_tell_once (Read text ∷ answers) once = shares_tell_once answers (once_turned (own_of_all (dealt 2 1 answers)) (own_of_all (dealt 2 0 answers)) once)
-shares_tell_once (Conflict head path ∷ answers) once = shares_tell_once answers (once_turned (own_of_all (dealt 2 1 answers)) (own_of_all (dealt 2 0 answers)) once)
-shares_tell_once (Stopped line fault ∷ answers) once = shares_tell_once answers (once_turned (own_of_all (dealt 2 1 answers)) (own_of_all (dealt 2 0 answers)) once)
+-- the last of them stands last
+last_share : (n w more at : ℕ) (answers : List JobAnswer) → at ≡ w + more → told_by n w (suc more) answers ≡ told_by n w more answers ++ own_of_all (dealt n at answers)
+last_share n w zero at answers is = append-nil (own_of_all (dealt n w answers)) ∙ ap (λ (i : ℕ). own_of_all (dealt n i answers)) (let e : w ≡ at = omega (arith, is) in e)
+last_share n w (suc more) at answers is =
+    ap (λ (l : List ℕ). own_of_all (dealt n w answers) ++ l) (last_share n (suc w) more at answers (omega (arith, is))) ∙ sym (append_assoc (own_of_all (dealt n w answers)) (told_by n (suc w) more answers) (own_of_all (dealt n at answers)))
+
+-- what n = m + 1 workers tell, of one answer more in front
+one_in_front : (m : ℕ) (answer : JobAnswer) (answers : List JobAnswer) → told_by (suc m) 0 (suc m) (answer ∷ answers) ≡ own_of answer ++ (own_of_all (dealt (suc m) m answers) ++ told_by (suc m) 0 m answers)
+one_in_front m answer answers =
+    ap (λ (k : ℕ). (own_of answer ++ own_of_all (dealt (suc m) k answers)) ++ told_by (suc m) 1 m (answer ∷ answers)) (let e : suc m - 1 ≡ m = omega arith in e)
+    ∙ ap (λ (l : List ℕ). (own_of answer ++ own_of_all (dealt (suc m) m answers)) ++ l) (shifted (suc m) 0 m answer answers)
+    ∙ append_assoc (own_of answer) (own_of_all (dealt (suc m) m answers)) (told_by (suc m) 0 m answers)
+
+-- each that they tell is told by one of the workers
+told_in_shares : (m : ℕ) (answers : List JobAnswer) (r : ℕ) → IsIn r (own_of_all answers) → IsIn r (told_by (suc m) 0 (suc m) answers)
+told_in_shares m [] r there = absurd there
+told_in_shares m (answer ∷ answers) r there =
+    let last = own_of_all (dealt (suc m) m answers) in
+    let others = told_by (suc m) 0 m answers in
+    subst (λ (l : List ℕ). IsIn r l) (sym (one_in_front m answer answers))
+    (in_both r (own_of answer) (own_of_all answers) (last ++ others) (λ at. in_turned r others last (subst (λ (l : List ℕ). IsIn r l) (last_share (suc m) 0 m m answers (omega arith)) (told_in_shares m answers r at))) there)
+
+-- none is told twice, where none is told twice by the workers
+once_with : (m : ℕ) (answer : JobAnswer) (answers : List JobAnswer) (last others : List ℕ) → told_by (suc m) 0 (suc m) answers ≡ others ++ last → (AreOnce (told_by (suc m) 0 (suc m) answers) → AreOnce (own_of_all answers))
+    → AreOnce (own_of answer ++ (last ++ others)) → AreOnce (own_of_all (answer ∷ answers))
+once_with m (Committed rev) answers last others are rest once =
+    ((λ there. once.0 (in_turned rev others last (subst (λ (l : List ℕ). IsIn rev l) are (told_in_shares m answers rev there)))), rest (subst AreOnce (sym are) (once_turned last others once.1)))
+once_with m (Read text) answers last others are rest once = rest (subst AreOnce (sym are) (once_turned last others once))
+once_with m (Conflict head path) answers last others are rest once = rest (subst AreOnce (sym are) (once_turned last others once))
+once_with m (Stopped line fault) answers last others are rest once = rest (subst AreOnce (sym are) (once_turned last others once))
+
+pub shares_tell_once : (m : ℕ) (answers : List JobAnswer) → AreOnce (told_by (suc m) 0 (suc m) answers) → AreOnce (own_of_all answers)
+shares_tell_once m [] once = tt
+shares_tell_once m (answer ∷ answers) once =
+    once_with m answer answers (own_of_all (dealt (suc m) m answers)) (told_by (suc m) 0 m answers) (last_share (suc m) 0 m m answers (omega arith)) (shares_tell_once m answers) (subst AreOnce (one_in_front m answer answers) once)
 
 -- ---- doubt, and a lock that is stuck
 

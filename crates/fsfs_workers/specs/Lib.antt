@@ -2,8 +2,10 @@ pub mod Working
 pub mod InTurn
 pub mod Ready
 pub mod OneWorker
-pub mod Two
 pub mod ByWorkers
+pub mod PackCalls
+pub mod Crews
+pub mod Beside
 pub mod Works
 pub use Rattle.fsfs_job_run.specs.Workers.Lines
 pub use Rattle.fsfs_job_run.specs.Serial.Listed
@@ -12,4 +14,5 @@ pub use Rattle.fsfs_job_run.specs.Runs
 pub use Rattle.fsfs_job_run.specs.Unprinted
 pub use Rattle.fsfs_job_run.specs.declared.running.JobsDone
 pub use Rattle.fsfs_jobs.specs.declared.answer.JobAnswer
+pub use Rattle.fsfs_jobs.specs.declared.ending.Ending
 pub use Rattle.fsfs_jobs.specs.Lines as RunTexts

@@ -7,6 +7,7 @@ use fsfs_jobs::JobAnswer;
 use std::alloc::{AllocError, Global};
 
 /// Room for the answers of two workers, and for both's in the order of the jobs.
+#[derive(Drop)]
 pub(crate) struct Rooms {
     pub(crate) first: Vec<JobAnswer>,
     pub(crate) second: Vec<JobAnswer>,

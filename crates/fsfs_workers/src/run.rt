@@ -1,5 +1,5 @@
 //! A run of two workers over a repository.
-ghost use Rattle.std.specs.Prelude.{◌≡◌, ◌≤◌, [], length, true, Some, is_some, IfOk, OnErr};
+ghost use Rattle.std.specs.Prelude.{◌≡◌, ◌≤◌, [], length, true, Some, None, is_some, IfOk, OnErr, IsTrue};
 ghost use Rattle.fsfs_disk.specs.Trace.{Trace};
 ghost use Rattle.fsfs_machine.specs.Machine.{revisions};
 ghost use Rattle.fsfs_pass.specs.OtherLabels.{KeepsOthersOf};
@@ -8,7 +8,7 @@ ghost use Rattle.fsfs_job_run.specs.Known.{HoldBytes};
 ghost use Rattle.fsfs_job_run.specs.Workers.Lines.{disk_faults_in, RoseBy};
 ghost use Rattle.fsfs_job_run.specs.Serial.Jobs.{bench_faults_in};
 ghost use Rattle.fsfs_workers.specs.Ready.{IsReady};
-ghost use Rattle.fsfs_workers.specs.Two.{RanTwo};
+ghost use Rattle.fsfs_workers.specs.ByWorkers.{RanBeside};
 
 use crate::two_workers::do_beside;
 use fsfs_base::Gate;
@@ -43,17 +43,18 @@ where
     // The table began with that disk.
     requires began { (repo.board.shared.key.value.disk.mount_path ≡ D.mount_path repo.first.value) × (repo.board.shared.key.value.disk.faults ≡ D.faults repo.first.value) × (repo.board.shared.key.value.disk.bench_faults ≡ D.bench_faults repo.first.value) }
     requires fresh { (seat.me.0.met ≡ D.trace repo.first.value) × (seat.me.0.failures ≡ 0) × (seat.me.0.bench_failures ≡ 0) }
-    ensures ran { (t : Trace) → D.trace result.0 ≡ Some t → IfOk result.1 (λ done. RanTwo micros seat.me.0.since jobs.now done.answers.items done.youngest (revisions seat.me.0.seen) t) }
+    ensures ran { (t : Trace) → D.trace result.0 ≡ Some t → IfOk result.1 (λ done. RanBeside micros seat.me.0.since 2 None jobs.now done.answers.items done.youngest (revisions seat.me.0.seen) (Some t)) }
     ensures told { is_some (D.trace result.0) ≡ seat.me.0.told }
     // Of the labels that were kept as the table began all are, and no more, but for transactions whose names are above those that were given then, and for
     // packs where passes may pack.
     ensures labels { KeepsOthersOf repo.board.shared.key.value.seat.since.packs repo.board.shared.key.value.seat.given repo.board.shared.key.value.disk.trace (D.trace result.0) }
     ensures each { IfOk result.1 (λ done. length done.answers.items ≡ length jobs.now) }
-    ensures laid { IfOk result.1 (λ done. done.layout ≡ repo.layout) }
+    ensures laid { IfOk result.1 (λ done. (done.layout ≡ repo.layout) × (done.floor ≡ repo.floor)) }
     ensures none { OnErr result.1 (D.trace result.0 ≡ D.trace repo.first.value) }
     // Whatever the disk tells: as many calls of it failed as lines tell of, and as many of its benches.
     ensures cause { IfOk result.1 (λ done. RoseBy (disk_faults_in done.answers.items) (D.faults repo.first.value) (D.faults result.0)) }
     ensures benches { IfOk result.1 (λ done. RoseBy (bench_faults_in done.answers.items) (D.bench_faults repo.first.value) (D.bench_faults result.0)) }
+    ensures right { IsTrue (D.may_write result.0) }
     ensures mounted { D.mount_path result.0 ≡ D.mount_path repo.first.value }
     ensures later { D.faults repo.first.value ≤ D.faults result.0 }
 {
@@ -71,6 +72,7 @@ where
                 answers,
                 youngest,
                 layout,
+                floor,
             };
             (repo.close(rt, seat), Ok(done))
         }

@@ -1,5 +1,5 @@
 //! A script is run by two workers.
-ghost use Rattle.std.specs.Prelude.{◌≡◌, ◌≤◌, List, true, false, IfOk, IfSome, IsTrue};
+ghost use Rattle.std.specs.Prelude.{◌≡◌, ◌≤◌, List, true, false, None, IfOk, IfSome, IsTrue};
 ghost use Rattle.fsfs_tree.specs.Revisions.{Revision};
 ghost use Rattle.fsfs_disk.specs.Trace.{files_now};
 ghost use Rattle.fsfs_layout.specs.declared.opened.Opened.{Opened};
@@ -35,9 +35,10 @@ where
     requires moment { micros ≤ 4102444799999999 }
     // Passes rest on each other, so where the disk tells its files they stand for a history.
     requires stands { IfSome (D.trace disk) (λ t. (h : List Revision) × StandsFor (files_now t) h) }
-    ensures works { Works micros 2 true (D.faults disk) (D.faults result.0) (λ n. RoseBy n 0 (D.bench_faults result.0)) (D.trace disk) (D.trace result.0) (I.remaining input.old) (I.remaining input.new) (I.faults input.old) (I.faults input.new) result.1 }
-    // The layout is the one that the opening read.
-    ensures laid { IfOk result.1 (λ done. (o : Opened) × OpensAs (D.trace disk) o × (done.layout ≡ o.layout)) }
+    ensures works { Works micros 2 true None (D.faults disk) (D.faults result.0) (λ n. RoseBy n 0 (D.bench_faults result.0)) (D.trace disk) (D.trace result.0) (I.remaining input.old) (I.remaining input.new) (I.faults input.old) (I.faults input.new) result.1 }
+    // The layout and the floor are those that the opening read.
+    ensures laid { IfOk result.1 (λ done. (o : Opened) × OpensAs (D.trace disk) o × (done.layout ≡ o.layout) × (done.floor ≡ o.min_unpacked_rev)) }
+    ensures right { IfOk result.1 (λ done. IsTrue (D.may_write result.0)) }
     ensures mounted { D.mount_path result.0 ≡ D.mount_path disk }
     ensures later { D.faults disk ≤ D.faults result.0 }
 {
@@ -69,7 +70,8 @@ where
     D::Bench: Send,
     requires right { IsTrue (D.may_write disk) }
     requires moment { micros ≤ 4102444799999999 }
-    ensures works { Works micros 2 false (D.faults disk) (D.faults result.0) (λ n. RoseBy n 0 (D.bench_faults result.0)) (D.trace disk) (D.trace result.0) (I.remaining input.old) (I.remaining input.new) (I.faults input.old) (I.faults input.new) result.1 }
+    ensures works { Works micros 2 false None (D.faults disk) (D.faults result.0) (λ n. RoseBy n 0 (D.bench_faults result.0)) (D.trace disk) (D.trace result.0) (I.remaining input.old) (I.remaining input.new) (I.faults input.old) (I.faults input.new) result.1 }
+    ensures right { IfOk result.1 (λ done. IsTrue (D.may_write result.0)) }
     ensures mounted { D.mount_path result.0 ≡ D.mount_path disk }
     ensures later { D.faults disk ≤ D.faults result.0 }
 {
@@ -107,9 +109,10 @@ where
     requires right { IsTrue (D.may_write disk) }
     requires moment { micros ≤ 4102444799999999 }
     requires stands { known ≡ true → IfSome (D.trace disk) (λ t. (h : List Revision) × StandsFor (files_now t) h) }
-    ensures works { Works micros 2 known (D.faults disk) (D.faults result.0) (λ n. RoseBy n 0 (D.bench_faults result.0)) (D.trace disk) (D.trace result.0) (I.remaining input.old) (I.remaining input.new) (I.faults input.old) (I.faults input.new) result.1 }
-    // The layout is the one that the opening read.
-    ensures laid { known ≡ true → IfOk result.1 (λ done. (o : Opened) × OpensAs (D.trace disk) o × (done.layout ≡ o.layout)) }
+    ensures works { Works micros 2 known None (D.faults disk) (D.faults result.0) (λ n. RoseBy n 0 (D.bench_faults result.0)) (D.trace disk) (D.trace result.0) (I.remaining input.old) (I.remaining input.new) (I.faults input.old) (I.faults input.new) result.1 }
+    // The layout and the floor are those that the opening read.
+    ensures laid { known ≡ true → IfOk result.1 (λ done. (o : Opened) × OpensAs (D.trace disk) o × (done.layout ≡ o.layout) × (done.floor ≡ o.min_unpacked_rev)) }
+    ensures right { IfOk result.1 (λ done. IsTrue (D.may_write result.0)) }
     ensures mounted { D.mount_path result.0 ≡ D.mount_path disk }
     ensures later { D.faults disk ≤ D.faults result.0 }
 {
@@ -143,7 +146,7 @@ where
     requires right { IsTrue (D.may_write disk) }
     requires moment { micros ≤ 4102444799999999 }
     requires stands { known ≡ true → IfSome (D.trace disk) (λ t. (h : List Revision) × StandsFor (files_now t) h) }
-    ensures ran { RunsByWorkers micros 2 known (D.faults disk) (D.faults result.0) (λ n. RoseBy n 0 (D.bench_faults result.0)) (run_scene (D.trace disk) (I.remaining input.old) (I.faults input.old) (O.written out.old) (O.faults out.old))
+    ensures ran { RunsByWorkers micros 2 known None (D.faults disk) (D.faults result.0) (λ n. RoseBy n 0 (D.bench_faults result.0)) (run_scene (D.trace disk) (I.remaining input.old) (I.faults input.old) (O.written out.old) (O.faults out.old))
         (run_scene (D.trace result.0) (I.remaining input.new) (I.faults input.new) (O.written out.new) (O.faults out.new)) result.1 }
     ensures mounted { D.mount_path result.0 ≡ D.mount_path disk }
     ensures later { D.faults disk ≤ D.faults result.0 }

@@ -1,10 +1,10 @@
 //! Two workers beside each other.
-ghost use Rattle.std.specs.Prelude.{◌≡◌, ◌<◌, ◌≤◌, [], length, true, is_some, IfOk, OnErr};
+ghost use Rattle.std.specs.Prelude.{◌≡◌, ◌<◌, ◌≤◌, [], length, true, None, is_some, IfOk, OnErr};
 ghost use Rattle.std.specs.Vec.{vec_capacity};
-ghost use Rattle.fsfs_job_run.specs.Workers.Lines.{dealt, disk_faults_in, RoseBy};
-ghost use Rattle.fsfs_job_run.specs.Serial.Jobs.{bench_faults_in};
+ghost use Rattle.fsfs_job_run.specs.Workers.Lines.{dealt};
+ghost use Rattle.fsfs_workers.specs.Beside.{HaveWorked};
+ghost use Rattle.fsfs_workers.specs.Crews.{IsRoom};
 ghost use Rattle.fsfs_workers.specs.Ready.{IsAtRest, IsReady};
-ghost use Rattle.fsfs_workers.specs.Two.{BothWorked};
 ghost use Rattle.fsfs_workers.specs.OneWorker.{HasWorked};
 
 use crate::answers::{Rooms, in_order};
@@ -54,27 +54,50 @@ where
     requires sits { (seat.table_id ≡ board.now.shared.table_id) × (board.now.shared.table_id.words ≡ 3) × (board.now.shared.table_id.slots ≡ 1) × (seat.me.1 ≡ []) }
     requires parts { 1 < seat.me.0.kin.parts }
     requires ready { IsReady layout floor (is_some (D.trace first.now.value)) seat.me.0 }
-    // Where the disk tells: the lines of both hold of the one history, and each revision that they tell is the pass's own or the other's.
-    ensures did { seat.me.0.told ≡ true → IfOk result.1 (λ answers. BothWorked micros jobs.now answers.items seat.me.0 result.0.me.0) }
-    ensures each { IfOk result.1 (λ answers. length answers.items ≡ length jobs.now) }
-    // Whatever the disk tells: as many turns failed as lines tell of, and as many calls of benches.
-    ensures cause { IfOk result.1 (λ answers. RoseBy (disk_faults_in answers.items) seat.me.0.failures result.0.me.0.failures) }
-    ensures benches { IfOk result.1 (λ answers. RoseBy (bench_faults_in answers.items) seat.me.0.bench_failures result.0.me.0.bench_failures) }
+    ensures done { IfOk result.1 (λ answers. HaveWorked micros 2 None jobs.now answers.items seat.me.0 result.0.me.0) }
     ensures none { OnErr result.1 (result.0 ≡ seat) }
     ensures sits { (result.0.table_id ≡ seat.table_id) × (result.0.me.1 ≡ []) }
     ensures rests { IsAtRest result.0.me.0 }
-    // No part of the right to know that no other sits is lost.
-    ensures parts { result.0.me.0.kin.parts ≡ seat.me.0.kin.parts }
-    ensures duty { result.0.me.0.told ≡ seat.me.0.told }
+{
+    let rooms = match Rooms::new(alloc, jobs.len()) {
+        Ok(rooms) => rooms,
+        Err(error) => return (seat, Err(error)),
+    };
+    let (seat, answers) = do_in_rooms(
+        rt, alloc, board, seat, layout, floor, first, jobs, micros, gate, rooms,
+    );
+    (seat, Ok(answers))
+}
+
+/// The same where there is room for the answers.
+pub(crate) fn do_in_rooms<R: Threads + Wait + Sync, D: Disk + Drop + Send, G: Gate + Sync>(
+    rt: &R,
+    alloc: Global,
+    board: &Board<D>,
+    seat: SharedSeat<D>,
+    layout: Layout,
+    floor: RevNum,
+    first: &Note<D>,
+    jobs: &[Job],
+    micros: u64,
+    gate: &G,
+    rooms: Rooms,
+) -> (SharedSeat<D>, Vec<JobAnswer>)
+where
+    D::Bench: Send,
+    requires moment { micros ≤ 4102444799999999 }
+    requires room { IsRoom (length jobs.now) rooms }
+    requires sits { (seat.table_id ≡ board.now.shared.table_id) × (board.now.shared.table_id.words ≡ 3) × (board.now.shared.table_id.slots ≡ 1) × (seat.me.1 ≡ []) }
+    requires parts { 1 < seat.me.0.kin.parts }
+    requires ready { IsReady layout floor (is_some (D.trace first.now.value)) seat.me.0 }
+    ensures done { HaveWorked micros 2 None jobs.now result.1.items seat.me.0 result.0.me.0 }
+    ensures sits { (result.0.table_id ≡ seat.table_id) × (result.0.me.1 ≡ []) }
 {
     let Rooms {
         first: firsts,
         second: seconds,
         both,
-    } = match Rooms::new(alloc, jobs.len()) {
-        Ok(rooms) => rooms,
-        Err(error) => return (seat, Err(error)),
-    };
+    } = rooms;
     let mut seat = seat;
     let other = split(board, &mut seat);
     let note = said_again(first);
@@ -108,5 +131,5 @@ where
         },
     );
     join(board, &mut seat, other);
-    (seat, Ok(in_order(firsts, seconds, both)))
+    (seat, in_order(firsts, seconds, both))
 }

@@ -49,6 +49,7 @@ impl<D: Disk> Repo<D> {
         ensures right { IfErr result (λ e. D.may_write e.disk ≡ D.may_write disk) }
         ensures later { MatchResult result (λ o. D.faults disk ≤ ⟦<Owned<D> as Turns<()>>⟧.faults o.repo.turns) (λ e. D.faults disk ≤ D.faults e.disk) }
         ensures mounted { MatchResult result (λ o. D.mount_path o.repo.turns.disk ≡ D.mount_path disk) (λ e. D.mount_path e.disk ≡ D.mount_path disk) }
+        ensures benches { MatchResult result (λ o. D.bench_faults o.repo.turns.disk ≡ D.bench_faults disk) (λ e. D.bench_faults e.disk ≡ D.bench_faults disk) }
     {
         match open_store(alloc, disk) {
             Ok(OpenedStore { store, said }) => Ok(OpenedRepo {

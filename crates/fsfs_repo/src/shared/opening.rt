@@ -119,6 +119,7 @@ impl<D: Disk + Drop> SharedRepo<D> {
         ensures firm { IfOk result (λ o. Performs FirmNames (D.trace disk) (D.trace o.repo.first.value)) }
         ensures left { IfErr result (λ e. FailsAt FirmNames (D.trace disk) (D.trace e.disk)) }
         ensures mounted { MatchResult result (λ o. D.mount_path o.repo.first.value ≡ D.mount_path disk) (λ e. D.mount_path e.disk ≡ D.mount_path disk) }
+        ensures benches { MatchResult result (λ o. D.bench_faults o.repo.first.value ≡ D.bench_faults disk) (λ e. D.bench_faults e.disk ≡ D.bench_faults disk) }
         ensures later { MatchResult result (λ o. D.faults disk ≤ D.faults o.repo.first.value) (λ e. D.faults disk ≤ D.faults e.disk) }
         ensures laid { IfOk result (λ o. (o.repo.layout ≡ o.said.layout) × (o.repo.floor ≡ o.said.min_unpacked_rev) × (ground_of o.seat.me.0 ≡ record { layout = o.said.layout; low = o.said.min_unpacked_rev })) }
         // The table began with that disk.
@@ -147,6 +148,7 @@ impl<D: Disk + Drop> SharedRepo<D> {
         ensures firm { IfOk result (λ o. Performs FirmNames (D.trace disk) (D.trace o.repo.first.value)) }
         ensures left { IfErr result (λ e. FailsAt FirmNames (D.trace disk) (D.trace e.disk)) }
         ensures mounted { MatchResult result (λ o. D.mount_path o.repo.first.value ≡ D.mount_path disk) (λ e. D.mount_path e.disk ≡ D.mount_path disk) }
+        ensures benches { MatchResult result (λ o. D.bench_faults o.repo.first.value ≡ D.bench_faults disk) (λ e. D.bench_faults e.disk ≡ D.bench_faults disk) }
         ensures later { MatchResult result (λ o. D.faults disk ≤ D.faults o.repo.first.value) (λ e. D.faults disk ≤ D.faults e.disk) }
         ensures laid { IfOk result (λ o. (o.repo.layout ≡ o.said.layout) × (o.repo.floor ≡ o.said.min_unpacked_rev) × (ground_of o.seat.me.0 ≡ record { layout = o.said.layout; low = o.said.min_unpacked_rev })) }
         // The table began with that disk.
@@ -175,6 +177,7 @@ impl<D: Disk + Drop> SharedRepo<D> {
         ensures firm { IfOk result (λ o. Performs FirmNames (D.trace disk) (D.trace o.repo.first.value)) }
         ensures left { IfErr result (λ e. FailsAt FirmNames (D.trace disk) (D.trace e.disk)) }
         ensures mounted { MatchResult result (λ o. D.mount_path o.repo.first.value ≡ D.mount_path disk) (λ e. D.mount_path e.disk ≡ D.mount_path disk) }
+        ensures benches { MatchResult result (λ o. D.bench_faults o.repo.first.value ≡ D.bench_faults disk) (λ e. D.bench_faults e.disk ≡ D.bench_faults disk) }
         ensures later { MatchResult result (λ o. D.faults disk ≤ D.faults o.repo.first.value) (λ e. D.faults disk ≤ D.faults e.disk) }
         ensures laid { IfOk result (λ o. (o.repo.layout ≡ o.said.layout) × (o.repo.floor ≡ o.said.min_unpacked_rev) × (ground_of o.seat.me.0 ≡ record { layout = o.said.layout; low = o.said.min_unpacked_rev })) }
         // The table began with that disk.

@@ -1,5 +1,5 @@
-use Rattle.std.proofs.Common.{◌≡◌, ◌∙◌, ap, length, arith}
-use Rattle.std.specs.Prelude.{option_map}
+use Rattle.std.proofs.Common.{◌≡◌, ◌∙◌, sym, ap, subst, length, arith}
+use Rattle.std.specs.Prelude.{option_map, IsTrue}
 use Rattle.fsfs_disk.specs.Trace.{labels_now}
 use Rattle.fsfs_turn.specs.Telling.{state_of}
 use Rattle.fsfs_turn.specs.OwnedLemmas.{known_still}
@@ -57,3 +57,9 @@ returns-in-Err-clause-listed g c = λ least has.
     let now = count c.close-disk.result in
     let back : now ≡ count c.youngest-youngest.new.self.turns.disk = ap count c.close-disk.ensures in
     lists_then (Rose start mid) (Rose start now) least (length c.args.jobs.now) _ _ _ (λ r. omega (arith, r, c.youngest-youngest.ensures.faults, back)) (ap (λ d. option_map labels_now (told d)) c.close-disk.ensures ∙ c.youngest-youngest.ensures.listed) (c.run_jobs-repo.ensures.listed least has)
+
+pub returns-in-Ok-clause-right : goal.returns-in-Ok-clause-right
+returns-in-Ok-clause-right g c = subst (λ d. IsTrue (g.D.Disk.may_write d)) (sym c.close-disk.ensures) c.youngest-youngest.new.self.turns.writes
+
+pub returns-in-Err-clause-right : goal.returns-in-Err-clause-right
+returns-in-Err-clause-right g c = subst (λ d. IsTrue (g.D.Disk.may_write d)) (sym c.close-disk.ensures) c.youngest-youngest.new.self.turns.writes

@@ -1,5 +1,5 @@
-use Rattle.std.proofs.Common.{◌≡◌, ◌⊎◌, ◌∙◌, ℕ, List, length, refl, sym, ap, subst, arith}
-use Rattle.std.specs.Prelude.{option_map}
+use Rattle.std.proofs.Common.{◌≡◌, ◌⊎◌, ◌∙◌, ℕ, List, length, sym, ap, subst, arith}
+use Rattle.std.specs.Prelude.{option_map, IsTrue}
 use Rattle.fsfs_disk.specs.Trace.{FirmNames, FailsAt, labels_now}
 use Rattle.fsfs_script.specs.declared.job_lines.job.Job.{Job}
 use Rattle.fsfs_base.specs.Failures.{Rose}
@@ -55,7 +55,8 @@ returns-in-Ok-done-clause-works g c =
 pub returns-in-Ok-done-clause-laid : goal.returns-in-Ok-done-clause-laid
 returns-in-Ok-done-clause-laid g c =
     let o = c.in-Ok.opened in
-    (o.said, c.in-Ok.ensures.opened, if_ok c.do_jobs-disk.result.1 c.in-Ok-done.done _ c.in-Ok-done.is c.do_jobs-disk.ensures.laid)
+    let laid = if_ok c.do_jobs-disk.result.1 c.in-Ok-done.done _ c.in-Ok-done.is c.do_jobs-disk.ensures.laid in
+    (o.said, c.in-Ok.ensures.opened, laid.0, laid.1)
 
 pub returns-clause-works : goal.returns-clause-works
 returns-clause-works g c =
@@ -64,3 +65,9 @@ returns-clause-works g c =
     let same = on_err c.do_jobs-disk.result.1 c.in-Err-done.field-0 _ c.in-Err-done.is c.do_jobs-disk.ensures.none in
     let firm : FailsAt FirmNames (told c.args.disk) (told c.do_jobs-disk.result.0) = subst (FailsAt FirmNames (told c.args.disk)) (sym same) (firm_fails FirmNames (told c.args.disk) (told o.repo.turns.disk) c.in-Ok.ensures.firm) in
     unroomed c.args.micros _ _ _ _ _ _ _ _ _ o.said c.in-Ok-read_script.jobs c.in-Ok.ensures.opened c.in-Ok-read_script.ensures.read firm
+
+pub returns-in-Err-clause-right : goal.returns-in-Err-clause-right
+returns-in-Err-clause-right g c = subst IsTrue (sym c.in-Err.ensures.right) c.requires.right
+
+pub returns-in-Err-read_script-clause-right : goal.returns-in-Err-read_script-clause-right
+returns-in-Err-read_script-clause-right g c = subst (λ d. IsTrue (g.D.Disk.may_write d)) (sym c.close.ensures) c.in-Ok.opened.repo.turns.writes

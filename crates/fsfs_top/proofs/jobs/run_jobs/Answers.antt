@@ -28,5 +28,5 @@ returns g c =
 
 pub returns-in-Err : goal.returns-in-Err
 returns-in-Err g c =
-    let by : Fault → JobsEnd = λ fault. record { ended = Err fault; unsound = None } in
-    record { did = inr (c.in-Err.fault, c.unchecked.ensures ∙ ap by c.from.ensures, c.in-Err.ensures, refl) }
+    let by : Fault → JobsEnd = λ fault. record { ended = Err fault; unpacked = None; unsound = None } in
+    record { did = inr (c.in-Err.fault, c.of_jobs.ensures ∙ ap by c.from.ensures, c.in-Err.ensures, refl) }

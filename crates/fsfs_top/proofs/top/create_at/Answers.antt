@@ -1,4 +1,4 @@
-use Rattle.std.proofs.Common.{◌≡◌, ◌∙◌, ap, sym, subst, refl, arith}
+use Rattle.std.proofs.Common.{◌≡◌, ◌∙◌, ap, sym, subst, arith}
 use Rattle.fsfs_disk.specs.Crash.{IsFirm}
 use Rattle.fsfs_disk.proofs.CrashLemmas.{same_leaves}
 use Rattle.fsfs_base.specs.Failures.{Rose}

@@ -1,9 +1,9 @@
 use Rattle.std.proofs.Common.{◌≡◌, ◌∙◌, sym, ap, subst, arith}
-use Rattle.std.specs.Prelude.{is_some}
+use Rattle.std.specs.Prelude.{None, is_some}
 use Rattle.fsfs_pass.specs.declared.seats.seat_view.Kin.{Kin}
 use Rattle.fsfs_workers.specs.Ready.{IsReady}
 use Rattle.fsfs_workers.proofs.Ran.{ran_so}
-use Rattle.fsfs_base.proofs.ResultLemmas.{if_ok}
+use Rattle.fsfs_base.proofs.ResultLemmas.{if_ok, on_err}
 use Rattle.fsfs_workers.proofs.run.run_two.Goals as goal
 
 pub do_beside-seat-requires-clause-sits : goal.do_beside-seat-requires-clause-sits
@@ -25,9 +25,20 @@ look-youngest-requires-clause-sits g c = c.do_beside-seat.ensures.rests.sitting
 pub returns-in-Ok-clause-ran : goal.returns-in-Ok-clause-ran
 returns-in-Ok-clause-ran g c = λ t is.
     let b = c.do_beside-seat in
-    ran_so c.args.micros c.look-youngest.result c.args.jobs.now c.in-Ok.answers.items c.args.seat.me.0 b.result.0.me.0 c.look-youngest.new.seat.me.0 (g.D.Disk.trace c.close.result) t is
-    (ap (λ m. m.0) c.look-youngest.ensures.same.2) c.close.ensures.told c.close.ensures.left (λ told. if_ok b.result.1 c.in-Ok.answers _ c.in-Ok.is (b.ensures.did told)) c.look-youngest.ensures.looked b.ensures.rests b.ensures.duty
-    c.requires.seen c.requires.alone b.ensures.parts
+    ran_so c.args.micros 2 c.look-youngest.result None c.args.jobs.now c.in-Ok.answers.items c.args.seat.me.0 b.result.0.me.0 c.look-youngest.new.seat.me.0 (g.D.Disk.trace c.close.result) t (omega arith) is
+    (ap (λ m. m.0) c.look-youngest.ensures.same.2) c.close.ensures.told c.close.ensures.left (if_ok b.result.1 c.in-Ok.answers _ c.in-Ok.is b.ensures.done) c.look-youngest.ensures.looked
+    c.requires.seen c.requires.alone
+
+pub returns-in-Ok-clause-told : goal.returns-in-Ok-clause-told
+returns-in-Ok-clause-told g c =
+    let b = c.do_beside-seat in
+    let duty = (if_ok b.result.1 c.in-Ok.answers _ c.in-Ok.is b.ensures.done).duty in
+    sym c.close.ensures.told ∙ ap (λ m. m.0.told) c.look-youngest.ensures.same.2 ∙ duty
+
+pub returns-clause-told : goal.returns-clause-told
+returns-clause-told g c =
+    let b = c.do_beside-seat in
+    sym c.close-in-Err.ensures.told ∙ ap (λ s. s.me.0.told) (on_err b.result.1 c.in-Err.error _ c.in-Err.is b.ensures.none)
 
 pub returns-in-Ok-clause-labels : goal.returns-in-Ok-clause-labels
 returns-in-Ok-clause-labels g c = c.close.ensures.labels
@@ -38,14 +49,14 @@ returns-clause-labels g c = c.close-in-Err.ensures.labels
 pub returns-in-Ok-clause-cause : goal.returns-in-Ok-clause-cause
 returns-in-Ok-clause-cause g c =
     let b = c.do_beside-seat in
-    let told = if_ok b.result.1 c.in-Ok.answers _ c.in-Ok.is b.ensures.cause in
+    let told = (if_ok b.result.1 c.in-Ok.answers _ c.in-Ok.is b.ensures.done).cause in
     let looked : c.look-youngest.new.seat.me.0.failures ≡ b.result.0.me.0.failures = ap (λ m. m.0.failures) c.look-youngest.ensures.same.2 in
     omega (arith, told, looked, c.close.ensures.rose, c.requires.began.1, c.requires.fresh.1)
 
 pub returns-in-Ok-clause-benches : goal.returns-in-Ok-clause-benches
 returns-in-Ok-clause-benches g c =
     let b = c.do_beside-seat in
-    let told = if_ok b.result.1 c.in-Ok.answers _ c.in-Ok.is b.ensures.benches in
+    let told = (if_ok b.result.1 c.in-Ok.answers _ c.in-Ok.is b.ensures.done).benches in
     let looked : c.look-youngest.new.seat.me.0.bench_failures ≡ b.result.0.me.0.bench_failures = ap (λ m. m.0.bench_failures) c.look-youngest.ensures.same.2 in
     omega (arith, told, looked, c.close.ensures.benches, c.requires.began.2, c.requires.fresh.2)
 

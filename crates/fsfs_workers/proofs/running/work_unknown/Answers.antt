@@ -12,7 +12,7 @@ returns-then-has_lost-clause-works g c =
     let benches = g.D.Disk.bench_faults in
     let start = c.args.disk in
     let end = c.into_disk.result in
-    lost c.args.micros (count start) (count end) (λ n. RoseBy n 0 (benches end)) (told start) (told end) _ _ _ _
+    lost c.args.micros 2 None (count start) (count end) (λ n. RoseBy n 0 (benches end)) (told start) (told end) _ _ _ _
 
 pub returns-clause-works : goal.returns-clause-works
 returns-clause-works g c =
@@ -26,6 +26,6 @@ returns-clause-works g c =
     let new = c.work_known-disk.new.input in
     let start = c.args.disk in
     let end = c.into_disk-2.result in
-    let works = subst (λ n. Works c.args.micros 2 true n (count made.0.disk) (λ n. RoseBy n 0 (benches made.0.disk)) None None (remaining old) (remaining new) (failed old) (failed new) made.1) (ap count c.new.ensures.same) c.work_known-disk.ensures.works in
-    unknown c.args.micros (count start) (count end) (λ n. RoseBy n 0 (benches end)) (told start) (told end) (remaining old) (remaining new) (failed old) (failed new) made.1
-    (subst (λ d. Works c.args.micros 2 true (count start) (count d) (λ n. RoseBy n 0 (benches d)) None None (remaining old) (remaining new) (failed old) (failed new) made.1) (sym c.into_disk-2.ensures) works)
+    let works = subst (λ n. Works c.args.micros 2 true None n (count made.0.disk) (λ n. RoseBy n 0 (benches made.0.disk)) None None (remaining old) (remaining new) (failed old) (failed new) made.1) (ap count c.new.ensures.same) c.work_known-disk.ensures.works in
+    unknown c.args.micros 2 None (count start) (count end) (λ n. RoseBy n 0 (benches end)) (told start) (told end) (remaining old) (remaining new) (failed old) (failed new) made.1
+    (subst (λ d. Works c.args.micros 2 true None (count start) (count d) (λ n. RoseBy n 0 (benches d)) None None (remaining old) (remaining new) (failed old) (failed new) made.1) (sym c.into_disk-2.ensures) works)

@@ -46,6 +46,12 @@ returns-in-Ok-clause-mounted g c =
     (λ o. g.D.Disk.mount_path o.repo.first.value ≡ g.D.Disk.mount_path c.args.disk) (λ e. g.D.Disk.mount_path e.disk ≡ g.D.Disk.mount_path c.args.disk) c.share.result
     (λ o is. ap (λ d. g.D.Disk.mount_path d) (is ∙ c.into_disk-disk.ensures) ∙ c.in-Ok.ensures.mounted) (λ e is. is.2 ∙ ap (λ d. g.D.Disk.mount_path d) c.into_disk-disk.ensures ∙ c.in-Ok.ensures.mounted) c.share.ensures.first c.share.ensures.wanting
 
+pub returns-in-Ok-clause-benches : goal.returns-in-Ok-clause-benches
+returns-in-Ok-clause-benches g c =
+    both_so (λ o. o.repo.first.value ≡ c.into_disk-disk.result) (λ e. (e.why ≡ Memory) × (g.D.Disk.trace e.disk ≡ g.D.Disk.trace c.into_disk-disk.result) × (g.D.Disk.mount_path e.disk ≡ g.D.Disk.mount_path c.into_disk-disk.result) × (g.D.Disk.faults e.disk ≡ g.D.Disk.faults c.into_disk-disk.result) × (g.D.Disk.bench_faults e.disk ≡ g.D.Disk.bench_faults c.into_disk-disk.result))
+    (λ o. g.D.Disk.bench_faults o.repo.first.value ≡ g.D.Disk.bench_faults c.args.disk) (λ e. g.D.Disk.bench_faults e.disk ≡ g.D.Disk.bench_faults c.args.disk) c.share.result
+    (λ o is. ap (λ d. g.D.Disk.bench_faults d) (is ∙ c.into_disk-disk.ensures) ∙ c.in-Ok.ensures.benches) (λ e is. is.4 ∙ ap (λ d. g.D.Disk.bench_faults d) c.into_disk-disk.ensures ∙ c.in-Ok.ensures.benches) c.share.ensures.first c.share.ensures.wanting
+
 pub returns-in-Ok-clause-later : goal.returns-in-Ok-clause-later
 returns-in-Ok-clause-later g c =
     both_so (λ o. o.repo.first.value ≡ c.into_disk-disk.result) (λ e. (e.why ≡ Memory) × (g.D.Disk.trace e.disk ≡ g.D.Disk.trace c.into_disk-disk.result) × (g.D.Disk.mount_path e.disk ≡ g.D.Disk.mount_path c.into_disk-disk.result) × (g.D.Disk.faults e.disk ≡ g.D.Disk.faults c.into_disk-disk.result) × (g.D.Disk.bench_faults e.disk ≡ g.D.Disk.bench_faults c.into_disk-disk.result))

@@ -5,10 +5,10 @@ use Rattle.fsfs_pass.specs.Tells.{TellsIt}
 use Rattle.fsfs_job_run.specs.Workers.Lines.{dealt}
 use Rattle.fsfs_workers.specs.InTurn.{AreDealt}
 use Rattle.fsfs_workers.specs.Ready.{IsReady}
-use Rattle.fsfs_workers.proofs.Both.{both_did, both_rose, both_benches, each_told}
+use Rattle.fsfs_workers.proofs.Both.{both_have}
 use Rattle.fsfs_workers.proofs.InTurnLemmas.{shares_are_dealt, shares_are_all}
 use Rattle.fsfs_workers.proofs.Readiness.{halved_ready, split_ready}
-use Rattle.fsfs_workers.proofs.two_workers.do_beside.Goals as goal
+use Rattle.fsfs_workers.proofs.two_workers.do_in_rooms.Goals as goal
 
 pub split-other-requires-clause-sits : goal.split-other-requires-clause-sits
 split-other-requires-clause-sits g c = c.requires.ready.sitting
@@ -17,7 +17,7 @@ pub join-seat-requires-after_bounds : goal.join-seat-requires-after_bounds
 join-seat-requires-after_bounds g c κs within =
     let r = c.requires in
     let split = c.split-other.ensures in
-    let room = c.in-Ok.ensures in
+    let room = c.requires.room in
     let tells = is_some (g.D.Disk.trace c.args.first.now.value) in
     let half = subst (λ (z : SeatView). IsReady c.args.layout c.args.floor tells z) (sym (ap (λ m. m.0) split.same.2)) (halved_ready c.args.layout c.args.floor tells c.args.seat.me.0 r.ready) in
     let new = subst (λ (z : SeatView). IsReady c.args.layout c.args.floor tells z) (sym split.split.1)
@@ -25,7 +25,7 @@ join-seat-requires-after_bounds g c κs within =
       (
         r.moment,
         (
-          (room.empty.0, omega (arith, room.many.0)),
+          (room.first, omega (arith, room.first_many)),
           (
             (split.same.0 ∙ r.sits.0, r.sits.1, r.sits.2, ap (λ m. m.1) split.same.2 ∙ r.sits.3),
             subst (λ d. IsReady c.args.layout c.args.floor (is_some (g.D.Disk.trace d)) c.split-other.new.seat.me.0) (sym c.said_again-note.ensures) half,
@@ -35,7 +35,7 @@ join-seat-requires-after_bounds g c κs within =
       (
         r.moment,
         (
-          (room.empty.1, omega (arith, room.many.1)),
+          (room.second, omega (arith, room.second_many)),
           (
             (split.new.0 ∙ r.sits.0, r.sits.1, r.sits.2, split.new.1),
             subst (λ d. IsReady c.args.layout c.args.floor (is_some (g.D.Disk.trace d)) c.split-other.result.me.0) (sym c.said_again-other_note.ensures) new,
@@ -59,34 +59,12 @@ in_order-requires-clause-room g c =
     let a : vec_len firsts ≡ length (dealt 2 0 c.args.jobs.now) = firsts.ok.0 ∙ c.join-seat.ensures.first.0.each in
     let b : vec_len seconds ≡ length (dealt 2 1 c.args.jobs.now) = seconds.ok.0 ∙ c.join-seat.ensures.second.0.each in
     let all = shares_are_all c.args.jobs.now in
-    (c.in-Ok.ensures.empty.2, omega (arith, a, b, all, c.in-Ok.ensures.many.2))
+    (c.requires.room.both, omega (arith, a, b, all, c.requires.room.both_many))
 
-pub returns-clause-did : goal.returns-clause-did
-returns-clause-did g c = λ told.
-    let split = c.split-other.ensures in
-    let is = ap (λ m. m.0) c.join.ensures.joined in
-    let j = c.join-seat.ensures in
-    let seen = c.join.ensures.seen (j.first.0.duty ∙ ap (λ m. m.0.told) split.same.2 ∙ told) in
-    both_did c.args.micros c.args.jobs.now c.join-seat.result.0.1.items c.join-seat.result.1.1.items c.in_order.result.items c.args.seat.me.0 c.split-other.new.seat.me.0 c.split-other.result.me.0 c.join-seat.result.0.0.me.0 c.join-seat.result.1.0.me.0 c.join.new.seat.me.0 split.split.0
-    (ap (λ m. m.0) split.same.2) split.split.1 is c.in_order.ensures j.first.0 j.second.0 told seen.0 seen.1
-
-pub returns-clause-each : goal.returns-clause-each
-returns-clause-each g c =
+pub returns-clause-done : goal.returns-clause-done
+returns-clause-done g c =
     let split = c.split-other.ensures in
     let j = c.join-seat.ensures in
-    each_told c.args.micros c.args.jobs.now c.join-seat.result.0.1.items c.join-seat.result.1.1.items c.in_order.result.items c.args.seat.me.0 c.split-other.new.seat.me.0 c.split-other.result.me.0 c.join-seat.result.0.0.me.0 c.join-seat.result.1.0.me.0 c.join.new.seat.me.0 split.split.0
+    both_have c.args.micros c.args.jobs.now c.join-seat.result.0.1.items c.join-seat.result.1.1.items c.in_order.result.items c.args.seat.me.0 c.split-other.new.seat.me.0 c.split-other.result.me.0 c.join-seat.result.0.0.me.0 c.join-seat.result.1.0.me.0 c.join.new.seat.me.0 split.split.0
     (ap (λ m. m.0) split.same.2) split.split.1 (ap (λ m. m.0) c.join.ensures.joined) c.in_order.ensures j.first.0 j.second.0
-
-pub returns-clause-cause : goal.returns-clause-cause
-returns-clause-cause g c =
-    let split = c.split-other.ensures in
-    let j = c.join-seat.ensures in
-    both_rose c.args.micros c.args.jobs.now c.join-seat.result.0.1.items c.join-seat.result.1.1.items c.in_order.result.items c.args.seat.me.0 c.split-other.new.seat.me.0 c.split-other.result.me.0 c.join-seat.result.0.0.me.0 c.join-seat.result.1.0.me.0 c.join.new.seat.me.0 split.split.0
-    (ap (λ m. m.0) split.same.2) split.split.1 (ap (λ m. m.0) c.join.ensures.joined) c.in_order.ensures j.first.0 j.second.0
-
-pub returns-clause-benches : goal.returns-clause-benches
-returns-clause-benches g c =
-    let split = c.split-other.ensures in
-    let j = c.join-seat.ensures in
-    both_benches c.args.micros c.args.jobs.now c.join-seat.result.0.1.items c.join-seat.result.1.1.items c.in_order.result.items c.args.seat.me.0 c.split-other.new.seat.me.0 c.split-other.result.me.0 c.join-seat.result.0.0.me.0 c.join-seat.result.1.0.me.0 c.join.new.seat.me.0 split.split.0
-    (ap (λ m. m.0) split.same.2) split.split.1 (ap (λ m. m.0) c.join.ensures.joined) c.in_order.ensures j.first.0 j.second.0
+    (λ told. c.join.ensures.seen (j.first.0.duty ∙ ap (λ m. m.0.told) split.same.2 ∙ told))

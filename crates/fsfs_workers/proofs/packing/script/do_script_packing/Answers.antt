@@ -1,0 +1,94 @@
+use Rattle.std.proofs.Common.{◌≡◌, ◌∙◌, ℕ, List, length, sym, ap, subst, arith}
+use Rattle.std.specs.Prelude.{Some, true, false}
+use Rattle.fsfs_disk.specs.Trace.{Trace, FirmNames, FailsAt}
+use Rattle.fsfs_machine.specs.Machine.{revisions}
+use Rattle.fsfs_pass.specs.declared.seats.seat_view.Kin.{Kin}
+use Rattle.fsfs_script.specs.declared.job_lines.job.Job.{Job}
+use Rattle.fsfs_job_run.proofs.RunLemmas.{firm_fails}
+use Rattle.fsfs_job_run.specs.Serial.Jobs.{bench_faults_in}
+use Rattle.fsfs_job_run.specs.Workers.Lines.{disk_faults_in, RoseBy}
+use Rattle.fsfs_workers.specs.ByWorkers.{RanBeside}
+use Rattle.fsfs_base.specs.Failures.{Rose}
+use Rattle.fsfs_workers.specs.PackCalls.{PackedOften}
+use Rattle.fsfs_workers.proofs.PackOften.{packed_weaker}
+use Rattle.fsfs_workers.proofs.Begun.{is_ready, has_nothing, may_pack, beside_over, keeps_earlier}
+use Rattle.fsfs_workers.proofs.Ends.{rose_since, unopened, unread, unroomed, worked}
+use Rattle.fsfs_base.proofs.ResultLemmas.{if_ok, on_err}
+use Rattle.fsfs_workers.proofs.packing.script.do_script_packing.Goals as goal
+
+pub run_packing-disk-requires-clause-ready : goal.run_packing-disk-requires-clause-ready
+run_packing-disk-requires-clause-ready g c κs within =
+    let o = c.in-Ok.opened in
+    let e = c.in-Ok.ensures in
+    let told = g.D.Disk.trace in
+    is_ready true (told c.args.disk) (told o.repo.first.value) o.seat.me.0 e.firm e.fresh.0 e.tells e.seen o.repo.layout o.repo.floor e.sits.2 (e.laid.2 ∙ sym (λ i. record { layout = e.laid.0 i; low = e.laid.1 i }))
+
+pub run_packing-disk-requires-clause-seen : goal.run_packing-disk-requires-clause-seen
+run_packing-disk-requires-clause-seen g c κs within =
+    let o = c.in-Ok.opened in
+    let e = c.in-Ok.ensures in
+    let told = g.D.Disk.trace in
+    has_nothing true (told c.args.disk) (told o.repo.first.value) o.seat.me.0 e.firm e.fresh.0 e.tells e.seen
+
+pub run_packing-disk-requires-clause-packs : goal.run_packing-disk-requires-clause-packs
+run_packing-disk-requires-clause-packs g c κs within =
+    let o = c.in-Ok.opened in
+    let e = c.in-Ok.ensures in
+    may_pack true (g.D.Disk.trace c.args.disk) (g.D.Disk.trace o.repo.first.value) o.seat.me.0 e.firm e.fresh.0 e.tells e.seen
+
+pub returns-in-Err-clause-works : goal.returns-in-Err-clause-works
+returns-in-Err-clause-works g c = unopened c.args.micros c.args.workers (Some false) _ _ _ _ _ (g.I.Source.remaining c.args.input.now) (g.I.Source.remaining c.args.input.now) (g.I.Source.faults c.args.input.now) (g.I.Source.faults c.args.input.now) c.in-Err.unopened.why c.from.result c.from.ensures c.in-Err.ensures.refused c.in-Err.ensures.left
+
+pub returns-in-Err-read_script-clause-works : goal.returns-in-Err-read_script-clause-works
+returns-in-Err-read_script-clause-works g c =
+    let told = g.D.Disk.trace in
+    let o = c.in-Ok.opened in
+    let e = c.in-Ok.ensures in
+    let same : told c.close.result ≡ told o.repo.first.value = c.close.ensures.alone (ap {A = Kin} (λ k. k.parts) e.alone) ∙ e.fresh.0 in
+    let firm : FailsAt FirmNames (told c.args.disk) (told c.close.result) = subst (FailsAt FirmNames (told c.args.disk)) (sym same) (firm_fails FirmNames (told c.args.disk) (told o.repo.first.value) e.firm) in
+    unread c.args.micros c.args.workers (Some false) _ _ _ _ _ _ _ _ _ o.said c.in-Err-read_script.error c.from-in-Err-read_script.result c.from-in-Err-read_script.ensures e.opened c.in-Err-read_script.ensures.read c.in-Err-read_script.ensures.cause.failed firm
+
+pub returns-in-Ok-done-clause-works : goal.returns-in-Ok-done-clause-works
+returns-in-Ok-done-clause-works g c =
+    let told = g.D.Disk.trace in
+    let count = g.D.Disk.faults in
+    let o = c.in-Ok.opened in
+    let e = c.in-Ok.ensures in
+    let js = c.in-Ok-read_script.jobs in
+    let packed = c.in-Ok-done.done in
+    let done = packed.done in
+    let made = c.run_packing-disk.result in
+    let given : c.as_slice.result.now ≡ js = c.as_slice.ensures in
+    let each : length done.answers.items ≡ length js = if_ok made.1 packed _ c.in-Ok-done.is c.run_packing-disk.ensures.each ∙ ap (λ (l : List Job). length l) given in
+    let rose = rose_since (disk_faults_in done.answers.items) (count c.args.disk) (count o.repo.first.value) (count made.0) e.later (if_ok made.1 packed _ c.in-Ok-done.is c.run_packing-disk.ensures.cause) in
+    let over = beside_over c.args.workers (Some packed.packs.sticks) (told c.args.disk) (told made.0) o.seat.me.0 e.seen c.run_packing-disk.ensures.told c.args.micros js done.answers.items done.youngest
+    (λ (t : Trace) is. subst (λ l. RanBeside c.args.micros o.seat.me.0.since c.args.workers (Some packed.packs.sticks) l done.answers.items done.youngest (revisions o.seat.me.0.seen) (Some t)) given (if_ok made.1 packed _ c.in-Ok-done.is (c.run_packing-disk.ensures.ran t is))) in
+    let failed = if_ok made.1 packed _ c.in-Ok-done.is c.run_packing-disk.ensures.benches in
+    let benches : RoseBy (bench_faults_in done.answers.items) 0 (g.D.Disk.bench_faults made.0) = omega (arith, failed) in
+    let kept = keeps_earlier o.said.next_txn.number true o.repo.board.shared.key.value.seat.since.packs o.repo.board.shared.key.value.seat.given (told c.args.disk) (told o.repo.first.value) o.repo.board.shared.key.value.disk.trace (told made.0) e.firm e.labels.0 e.labels.1 c.run_packing-disk.ensures.labels in
+    worked c.args.micros c.args.workers (Some c.in-Ok-done.done.packs.sticks) (count c.args.disk) (count made.0) (λ n. RoseBy n 0 (g.D.Disk.bench_faults made.0)) (told c.args.disk) (told made.0) (g.I.Source.remaining c.args.input.now) (g.I.Source.remaining c.read_script.new.source) (g.I.Source.faults c.args.input.now) (g.I.Source.faults c.read_script.new.source) o.said js done e.opened c.in-Ok-read_script.ensures.read c.in-Ok-read_script.ensures.whole each rose benches kept over
+
+pub returns-clause-works : goal.returns-clause-works
+returns-clause-works g c =
+    let told = g.D.Disk.trace in
+    let o = c.in-Ok.opened in
+    let e = c.in-Ok.ensures in
+    let same = on_err c.run_packing-disk.result.1 c.in-Err-done.field-0 _ c.in-Err-done.is c.run_packing-disk.ensures.none in
+    let firm : FailsAt FirmNames (told c.args.disk) (told c.run_packing-disk.result.0) = subst (FailsAt FirmNames (told c.args.disk)) (sym same) (firm_fails FirmNames (told c.args.disk) (told o.repo.first.value) e.firm) in
+    unroomed c.args.micros c.args.workers (Some false) _ _ _ _ _ _ _ _ _ o.said c.in-Ok-read_script.jobs e.opened c.in-Ok-read_script.ensures.read firm
+
+pub returns-in-Ok-done-clause-laid : goal.returns-in-Ok-done-clause-laid
+returns-in-Ok-done-clause-laid g c =
+    let e = c.in-Ok.ensures in
+    let laid = if_ok c.run_packing-disk.result.1 c.in-Ok-done.done _ c.in-Ok-done.is c.run_packing-disk.ensures.laid in
+    (c.in-Ok.opened.said, e.opened, laid.0 ∙ e.laid.0, laid.1 ∙ e.laid.1)
+
+pub returns-in-Ok-done-clause-packs : goal.returns-in-Ok-done-clause-packs
+returns-in-Ok-done-clause-packs g c =
+    let e = c.in-Ok.ensures in
+    let packed = c.in-Ok-done.done in
+    let made = c.run_packing-disk in
+    let given : c.as_slice.result.now ≡ c.in-Ok-read_script.jobs = c.as_slice.ensures in
+    let each = if_ok made.result.1 packed _ c.in-Ok-done.is made.ensures.each in
+    subst (λ (n : ℕ). PackedOften n packed.packs (Rose (g.D.Disk.faults c.args.disk) (g.D.Disk.faults made.result.0)) (Rose 0 (g.D.Disk.bench_faults made.result.0))) (sym each)
+    (packed_weaker (length c.as_slice.result.now) packed.packs (λ rose. omega (arith, rose, e.later)) (λ rose. omega (arith, rose)) (if_ok made.result.1 packed _ c.in-Ok-done.is made.ensures.packs))

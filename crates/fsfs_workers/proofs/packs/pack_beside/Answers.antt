@@ -1,0 +1,62 @@
+use Rattle.std.proofs.Common.{◌≡◌, ◌∙◌, sym, ap, subst, true, arith}
+use Rattle.fsfs_turn.specs.Views.{View}
+use Rattle.fsfs_pass.specs.Passes.{Seating}
+use Rattle.fsfs_pass.specs.Seats.{view_of}
+use Rattle.fsfs_workers.specs.PackCalls.{PackCalls}
+use Rattle.fsfs_workers.proofs.PackOften.{some_bench, some_disk}
+use Rattle.fsfs_workers.proofs.packs.pack_beside.Goals as goal
+
+pub new-pass-requires-clause-sitting : goal.new-pass-requires-clause-sitting
+new-pass-requires-clause-sitting g c = c.requires.ready.sitting
+
+pub new-pass-requires-clause-layout : goal.new-pass-requires-clause-layout
+new-pass-requires-clause-layout g c = c.requires.ready.laid
+
+pub new-pass-requires-clause-met : goal.new-pass-requires-clause-met
+new-pass-requires-clause-met g c = c.requires.ready.met
+
+pub new-pass-requires-clause-short : goal.new-pass-requires-clause-short
+new-pass-requires-clause-short g c = c.requires.ready.short
+
+pub pack_often-pass-requires : goal.pack_often-pass-requires
+pack_often-pass-requires g c = record {
+  due = λ bound.
+      let r = c.requires.ready in
+      let told : c.args.seat.me.0.told ≡ true = sym (ap (λ s. s.me.0.told) c.new-pass.ensures.seat) ∙ bound in
+      (view_of c.args.seat.me.0, c.new-pass.ensures.known (r.disk told) told (r.seen told), r.outside told, c.requires.packs told);
+}
+
+pub returns-clause-packed : goal.returns-clause-packed
+returns-clause-packed g c =
+    let r = c.requires.ready in
+    let seat = c.args.seat.me.0 in
+    let was = c.new-pass.ensures.seat in
+    let is = c.into_seat.ensures.seat in
+    let s = c.pack_often-pass.ensures in
+    let p = s.packed.0 in
+    let kin = ap (λ (x : Seating). x.kin) s.mounted in
+    let failures = ap (λ z. z.me.0.failures) was in
+    let failures_now = ap (λ z. z.me.0.failures) is in
+    let benches = ap (λ z. z.me.0.bench_failures) was in
+    let benches_now = ap (λ z. z.me.0.bench_failures) is in
+    let known = λ (told : seat.told ≡ true). s.packed.1 (view_of seat) (c.new-pass.ensures.known (r.disk told) told (r.seen told)) (r.outside told) (c.requires.packs told) in
+    let after = λ (told : seat.told ≡ true). sym (known told).1.is ∙ sym (ap (λ z. view_of z.me.0) is) in
+    record {
+      packed = record {
+        calls = p.calls;
+        sums = p.sums;
+        cause = some_disk c.pack_often-pass.result.1.fault (λ rose. omega (arith, rose, failures, failures_now)) p.cause;
+        bench_cause = some_bench c.pack_often-pass.result.1.fault (λ rose. omega (arith, rose, benches, benches_now)) p.bench_cause;
+      };
+      did = λ told. subst (λ (z : View). PackCalls p.calls (view_of seat) z) (after told) (known told).2;
+      rests = record {
+        sitting = c.into_seat.ensures.sitting;
+        outside = λ told. let had : seat.told ≡ true = sym (ap (λ z. z.me.0.told) was) ∙ sym s.duty ∙ sym (ap (λ z. z.me.0.told) is) ∙ told in sym (ap (λ (z : View). z.section) (after had)) ∙ (known had).3;
+      };
+      kin = ap (λ z. z.me.0.kin) is ∙ kin ∙ ap (λ z. z.me.0.kin) was;
+      duty = ap (λ z. z.me.0.told) is ∙ s.duty ∙ ap (λ z. z.me.0.told) was;
+    }
+
+pub returns-clause-sits : goal.returns-clause-sits
+returns-clause-sits g c =
+    (ap (λ z. z.table_id) c.into_seat.ensures.seat ∙ ap (λ (x : Seating). x.table) c.pack_often-pass.ensures.mounted ∙ ap (λ z. z.table_id) c.new-pass.ensures.seat, c.into_seat.ensures.sits.1)
