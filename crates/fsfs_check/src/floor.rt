@@ -13,7 +13,7 @@ use fsfs_revision::{Refusal, Wrong};
 use fsfs_stands::LookFault;
 
 /// The floor that the files of a disk have, in this layout. It is read by one call.
-pub(crate) fn floor_now<D: Disk>(disk: &mut D, layout: Layout) -> Result<RevNum, LookError>
+pub fn floor_now<D: Disk>(disk: &mut D, layout: Layout) -> Result<RevNum, LookError>
     ensures told { IfSome (D.trace disk.old) (λ t. IsFloor (floor_in layout (files_now t)) result) }
     ensures same { D.trace disk.new ≡ D.trace disk.old }
     ensures mounted { D.mount_path disk.new ≡ D.mount_path disk.old }

@@ -7,4 +7,5 @@ mod laws;
 mod nowhere;
 
 pub use checking::check;
+pub use floor::floor_now;
 pub use laws::sound_histories_are_open;

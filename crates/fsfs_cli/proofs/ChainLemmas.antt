@@ -108,6 +108,12 @@ own_pack = own_by (codes "pack") 112 refl (λ e. omega (arith, e)) (λ e. omega 
 pub own_check : IsOwn (codes "check")
 own_check = own_by (codes "check") 99 refl (λ e. omega (arith, e)) (λ e. omega (arith, e)) (λ e. omega (arith, e))
 
+pub own_make : IsOwn (codes "make")
+own_make = own_by (codes "make") 109 refl (λ e. omega (arith, e)) (λ e. omega (arith, e)) (λ e. omega (arith, e))
+
+pub own_count : IsOwn (codes "count")
+own_count = own_by (codes "count") 99 refl (λ e. omega (arith, e)) (λ e. omega (arith, e)) (λ e. omega (arith, e))
+
 pub own_revision : IsOwn (codes "revision")
 own_revision = own_by (codes "revision") 114 refl (λ e. omega (arith, e)) (λ e. omega (arith, e)) (λ e. omega (arith, e))
 

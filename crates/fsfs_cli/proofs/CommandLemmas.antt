@@ -5,7 +5,7 @@ use Rattle.clap.specs.Words.{App, Rule, app_of, rule_of, with_rule}
 use Rattle.clap.specs.declared.builder.arg.Arg.{Arg}
 use Rattle.clap.specs.declared.builder.command.Command.{Command}
 use Rattle.fsfs_cli.specs.Chains.{Fits, NeedsValue, IsChain, HasValue}
-use Rattle.fsfs_cli.proofs.ChainLemmas.{chain_more, all_apart, all_none, all_more, IsOwn, fits_chain, has_value, own_repos, own_path, own_shard, own_workers, own_pack, own_check, own_txns, own_revision, own_show_ids}
+use Rattle.fsfs_cli.proofs.ChainLemmas.{chain_more, all_apart, all_none, all_more, IsOwn, fits_chain, has_value, own_repos, own_path, own_shard, own_workers, own_pack, own_check, own_make, own_count, own_txns, own_revision, own_show_ids}
 
 -- what clap is told, an argument more
 pub told_more : (c d : Command) (a : Arg) (app : App) (rule : Rule) → AddsArg c a d → a.global ≡ false → app_of c ≡ app → rule_of a ≡ rule → app_of d ≡ with_rule app rule
@@ -31,15 +31,19 @@ create_repos c d repos shard = more_repos c d repos shard (codes "shard") own_sh
 three_chain : (c1 c2 c3 : Command) (repos second third : Arg) → IsChain (repos ∷ []) c1 → AddsArg c1 second c2 → AddsArg c2 third c3 → IsChain (repos ∷ second ∷ third ∷ []) c3
 three_chain c1 c2 c3 repos second third chain a b = chain_more c2 c3 (repos ∷ second ∷ []) third (chain_more c1 c2 (repos ∷ []) second chain a) b
 
-pub jobs_repos : (c1 c2 c3 c4 : Command) (repos workers pack check : Arg) → NeedsValue (codes "REPOS") repos → Fits (codes "workers") workers → Fits (codes "pack") pack → Fits (codes "check") check
-    → IsChain (repos ∷ []) c1 → AddsArg c1 workers c2 → AddsArg c2 pack c3 → AddsArg c3 check c4 → HasValue (codes "REPOS") c4
-jobs_repos c1 c2 c3 c4 repos workers pack check r w p k chain a b c =
-    let apart : all_apart (map (λ (a : Arg). a.id.now) (repos ∷ workers ∷ pack ∷ check ∷ [])) ≡ true = rw (r.fits.id, w.id, p.id, k.id) refl in
-    has_value c4 (repos ∷ workers ∷ pack ∷ check ∷ []) 0 repos (codes "REPOS") (chain_more c3 c4 (repos ∷ workers ∷ pack ∷ []) check (three_chain c1 c2 c3 repos workers pack chain a b) c)
-    (all_more FitsChain repos (workers ∷ pack ∷ check ∷ []) (fits_chain (codes "REPOS") repos own_repos r.fits)
-    (all_more FitsChain workers (pack ∷ check ∷ []) (fits_chain (codes "workers") workers own_workers w)
-    (all_more FitsChain pack (check ∷ []) (fits_chain (codes "pack") pack own_pack p)
-    (all_more FitsChain check [] (fits_chain (codes "check") check own_check k) (all_none FitsChain))))) apart (omega arith) r.value r.fits.id
+pub jobs_repos : (c1 c2 c3 c4 c5 c6 : Command) (repos workers pack check make count : Arg) → NeedsValue (codes "REPOS") repos → Fits (codes "workers") workers → Fits (codes "pack") pack → Fits (codes "check") check
+    → Fits (codes "make") make → Fits (codes "count") count → IsChain (repos ∷ []) c1 → AddsArg c1 workers c2 → AddsArg c2 pack c3 → AddsArg c3 check c4 → AddsArg c4 make c5 → AddsArg c5 count c6 → HasValue (codes "REPOS") c6
+jobs_repos c1 c2 c3 c4 c5 c6 repos workers pack check make count r w p k m n chain a b c d e =
+    let apart : all_apart (map (λ (a : Arg). a.id.now) (repos ∷ workers ∷ pack ∷ check ∷ make ∷ count ∷ [])) ≡ true = rw (r.fits.id, w.id, p.id, k.id, m.id, n.id) refl in
+    let four = chain_more c3 c4 (repos ∷ workers ∷ pack ∷ []) check (three_chain c1 c2 c3 repos workers pack chain a b) c in
+    let five = chain_more c4 c5 (repos ∷ workers ∷ pack ∷ check ∷ []) make four d in
+    has_value c6 (repos ∷ workers ∷ pack ∷ check ∷ make ∷ count ∷ []) 0 repos (codes "REPOS") (chain_more c5 c6 (repos ∷ workers ∷ pack ∷ check ∷ make ∷ []) count five e)
+    (all_more FitsChain repos (workers ∷ pack ∷ check ∷ make ∷ count ∷ []) (fits_chain (codes "REPOS") repos own_repos r.fits)
+    (all_more FitsChain workers (pack ∷ check ∷ make ∷ count ∷ []) (fits_chain (codes "workers") workers own_workers w)
+    (all_more FitsChain pack (check ∷ make ∷ count ∷ []) (fits_chain (codes "pack") pack own_pack p)
+    (all_more FitsChain check (make ∷ count ∷ []) (fits_chain (codes "check") check own_check k)
+    (all_more FitsChain make (count ∷ []) (fits_chain (codes "make") make own_make m)
+    (all_more FitsChain count [] (fits_chain (codes "count") count own_count n) (all_none FitsChain))))))) apart (omega arith) r.value r.fits.id
 
 pub rmtxns_repos : (c d : Command) (repos txns : Arg) → NeedsValue (codes "REPOS") repos → Fits (codes "TXN") txns → IsChain (repos ∷ []) c → AddsArg c txns d → HasValue (codes "REPOS") d
 rmtxns_repos c d repos txns = more_repos c d repos txns (codes "TXN") own_txns refl

@@ -10,7 +10,7 @@ use Rattle.std.proofs.lemmas.Fmt.{digits_value-decimal}
 use Rattle.std.proofs.lemmas.Slice.Eq.{bytes_eq-Decides}
 use Rattle.fsfs_base.specs.Grammar.Numeral.{IsPlain}
 use Rattle.fsfs_base.proofs.Unique.{decimal_plain}
-use Rattle.fsfs_cli.specs.Grammars.{is_revision, revision_of, IsShard, is_shard, shard_of}
+use Rattle.fsfs_cli.specs.Grammars.{is_revision, revision_of, IsNumberIn, is_number_in, number_in}
 
 digits : IsNumeralModel (λ ds. list_all is_ascii_digit ds ≡ true) (digits_value 10)
 digits = numerals_by_value (λ ds. list_all is_ascii_digit ds ≡ true) (search rules)
@@ -37,41 +37,41 @@ pub revision_none : (text : List ℕ) → is_revision text ≡ false → revisio
 unfolding revision_of
 revision_none text is = rw is refl
 
--- ---- the size of a shard
+-- ---- a number in a range
 
 parts_true : (a b c : Bool) → a ≡ true → b ≡ true → c ≡ true → (a && b && c) ≡ true
 parts_true a b c x y z = rw (x, y, z) refl
 
-pub shard_is : (text : List ℕ) (n : ℕ) → IsShard text n → shard_of text ≡ Some n
-unfolding shard_of
-shard_is text n is =
-    let small : n < 2 ^ 64 = omega (arith, is.2) in
+pub number_is : (low high : ℕ) (text : List ℕ) (n : ℕ) → high ≤ 18446744073709551615 → IsNumberIn low high text n → number_in low high text ≡ Some n
+unfolding number_in
+number_is low high text n fits is =
+    let small : n < 2 ^ 64 = omega (arith, is.2, fits) in
     let value : digits_value 10 text ≡ n = ap (digits_value 10) is.0 ∙ digits_value-decimal digits n small in
     let same : bytes_eq text (decimal n) ≡ true = (bytes_eq-Decides text (decimal n)).1 is.0 in
-    rw (value, parts_true (bytes_eq text (decimal n)) (nat_le 1 n) (nat_le n 100_000) same (grind (arith, is.1)) (grind (arith, is.2))) refl
+    rw (value, parts_true (bytes_eq text (decimal n)) (nat_le low n) (nat_le n high) same (grind (arith, is.1)) (grind (arith, is.2))) refl
 
-shard_by : (text : List ℕ) (n m : ℕ) (b : Bool) → is_shard text n ≡ b → cond b (Some n) None ≡ Some m → IsShard text m
-shard_by text n m true is e =
-    let parts = both_true (bytes_eq text (decimal n)) (nat_le 1 n) (nat_le n 100_000) is in
+number_by : (low high : ℕ) (text : List ℕ) (n m : ℕ) (b : Bool) → is_number_in low high text n ≡ b → cond b (Some n) None ≡ Some m → IsNumberIn low high text m
+number_by low high text n m true is e =
+    let parts = both_true (bytes_eq text (decimal n)) (nat_le low n) (nat_le n high) is in
     let same : n ≡ m = cc in
-    let P : ℕ → Type 0 = IsShard text in
+    let P : ℕ → Type 0 = IsNumberIn low high text in
     subst P same ((bytes_eq-Decides text (decimal n)).0 parts.0, grind (arith, parts.1), grind (arith, parts.2))
-shard_by text n m false is e = absurd cc
+number_by low high text n m false is e = absurd cc
 
-pub shard_found : (text : List ℕ) (n : ℕ) → shard_of text ≡ Some n → IsShard text n
-unfolding shard_of
-shard_found text n e = shard_by text (digits_value 10 text) n (is_shard text (digits_value 10 text)) refl e
+pub number_found : (low high : ℕ) (text : List ℕ) (n : ℕ) → number_in low high text ≡ Some n → IsNumberIn low high text n
+unfolding number_in
+number_found low high text n e = number_by low high text (digits_value 10 text) n (is_number_in low high text (digits_value 10 text)) refl e
 
--- what is read is the size, where read_dec says so
-pub shard_read : (read : Option ℕ) (text : List ℕ) → ((n : ℕ) → IsPlain 10 18446744073709551615 text n → read ≡ Some n) → (shard : ℕ) → IsShard text shard → read ≡ Some shard
-shard_read read text only shard is =
-    let fits : shard ≤ 18446744073709551615 = omega (arith, is.2) in
-    let small : shard < 2 ^ 64 = omega (arith, is.2) in
-    only shard (subst (λ b. IsPlain 10 18446744073709551615 b shard) (sym is.0) (decimal_plain 18446744073709551615 shard fits small))
+-- what is read is the number, where read_dec says so
+pub number_read : (low high : ℕ) (read : Option ℕ) (text : List ℕ) → high ≤ 18446744073709551615 → ((n : ℕ) → IsPlain 10 18446744073709551615 text n → read ≡ Some n) → (number : ℕ) → IsNumberIn low high text number → read ≡ Some number
+number_read low high read text most only number is =
+    let fits : number ≤ 18446744073709551615 = omega (arith, is.2, most) in
+    let small : number < 2 ^ 64 = omega (arith, is.2, most) in
+    only number (subst (λ b. IsPlain 10 18446744073709551615 b number) (sym is.0) (decimal_plain 18446744073709551615 number fits small))
 
 -- none is, where nothing that is read is in the range
-pub no_shard : (text : List ℕ) → ((n : ℕ) → IsShard text n → ⊥) → shard_of text ≡ None
-no_shard text not = by_value (shard_of text) refl where
-  by_value : (o : Option ℕ) → shard_of text ≡ o → shard_of text ≡ None
+pub no_number : (low high : ℕ) (text : List ℕ) → ((n : ℕ) → IsNumberIn low high text n → ⊥) → number_in low high text ≡ None
+no_number low high text not = by_value (number_in low high text) refl where
+  by_value : (o : Option ℕ) → number_in low high text ≡ o → number_in low high text ≡ None
   by_value None e = e
-  by_value (Some n) e = absurd (not n (shard_found text n e))
+  by_value (Some n) e = absurd (not n (number_found low high text n e))

@@ -1,14 +1,15 @@
 -- Each task is given to its program, and the size of a shard is in its range.
 use Rattle.std.proofs.Common.{◌≡◌, ◌≤◌, ℕ, Bool, true, false, List, [], ◌∷◌, refl, sym, ap, subst, arith}
 use Rattle.std.proofs.lemmas.Option.{same_Some, option_and_then_some}
-use Rattle.std.specs.Prelude.{Option, Some, None, option_map, unwrap_or, codes, if◌then◌else◌}
+use Rattle.std.specs.Prelude.{Option, Some, None, IfSome, option_map, unwrap_or, codes, if◌then◌else◌}
 use Rattle.std.specs.Str.{bytes_eq}
 use Rattle.clap.specs.Words.{Row, first_of}
 use Rattle.fsfs_base.specs.Paths.{Path}
+use Rattle.fsfs_script.specs.declared.making.jobs.Made.{Made}
 use Rattle.fsfs_cli.specs.Commands.{create_app, jobs_app, lstxns_app, rmtxns_app, dump_app, verify_app, pack_app, youngest_app, uuid_app, revision_app, tree_app, history_app, cat_app, revision_verb, verb_named}
-use Rattle.fsfs_cli.specs.Grammars.{shard_of, workers_of}
+use Rattle.fsfs_cli.specs.Grammars.{shard_of, workers_of, seed_of, count_of}
 use Rattle.fsfs_cli.specs.Readings.{Asks}
-use Rattle.fsfs_cli.specs.Words.{Asked, asked, asked_by, asked_by_command, asked_by_jobs, taken, number_of, shard_in, workers_in, flag_in, run_by, run_in, txns_in, revision_in, pathless, create_in, jobs_in, rmtxns_in, tree_in, cat_in, history_in, printed_in, create_asked, jobs_asked, rmtxns_asked, tree_asked, cat_asked, history_asked, printed_asked, printed_by}
+use Rattle.fsfs_cli.specs.Words.{Asked, asked, asked_by, asked_by_command, asked_by_jobs, taken, number_of, shard_in, workers_in, flag_in, made_of, made_by, made_in, run_by, run_in, txns_in, revision_in, pathless, create_in, jobs_in, rmtxns_in, tree_in, cat_in, history_in, printed_in, create_asked, jobs_asked, rmtxns_asked, tree_asked, cat_asked, history_asked, printed_asked, printed_by}
 use Rattle.fsfs_cli.specs.declared.request.JobRun.{JobRun}
 use Rattle.fsfs_cli.specs.declared.request.Look.{Look as LookAt}
 use Rattle.fsfs_cli.specs.declared.request.Look.TheVariants.{Youngest, Uuid, Dump, Verify, AtRevision}
@@ -20,13 +21,17 @@ use Rattle.fsfs_cli.specs.declared.tool.Tool.{Tool}
 use Rattle.fsfs_cli.specs.declared.tool.Tool.TheVariants as tools
 use Rattle.fsfs_cli.specs.declared.verb.Verb.{Verb}
 use Rattle.fsfs_cli.specs.declared.verb.Verb.TheVariants as verb
-use Rattle.fsfs_cli.proofs.NumberLemmas.{shard_found}
+use Rattle.fsfs_cli.proofs.NumberLemmas.{number_found}
 
 abbrev pub IsShardSize : ℕ → Type 0
 IsShardSize n = (1 ≤ n) × (n ≤ 100_000)
 
 abbrev pub AreWorkers : ℕ → Type 0
 AreWorkers n = (1 ≤ n) × (n ≤ 2)
+
+-- no more jobs are made than a script may have
+abbrev pub AreFew : Option Made → Type 0
+AreFew made = IfSome made (λ m. m.count ≤ 4096)
 
 -- the program that looks so
 abbrev pub tool_of_look : LookAt → Tool
@@ -43,14 +48,14 @@ IsTaskOf tool ListTxns = tool ≡ tools.Admin
 IsTaskOf tool (RemoveTxns txns) = tool ≡ tools.Admin
 IsTaskOf tool Pack = tool ≡ tools.Admin
 IsTaskOf tool (Look look) = tool ≡ tool_of_look look
-IsTaskOf tool (RunJobs run) = (tool ≡ tools.Jobs) × AreWorkers run.workers
+IsTaskOf tool (RunJobs run) = (tool ≡ tools.Jobs) × AreWorkers run.workers × AreFew run.made
 
 -- ---- the size of a shard
 
 word_size : (word : List ℕ) (n : ℕ) (o : Option ℕ) → shard_of word ≡ o → option_map (λ k. unwrap_or k 1000) (option_map (λ (k : ℕ). Some k) o) ≡ Some n → IsShardSize n
 word_size word n None is e = absurd cc
 word_size word n (Some k) is e =
-    let w = shard_found word k is in
+    let w = number_found 1 100_000 word k is in
     let same : k ≡ n = cc in
     subst IsShardSize same (w.1, w.2)
 
@@ -157,15 +162,41 @@ by_command tool [] a path e = absurd cc
 by_command tool (word ∷ words) a path e = option_and_then_some (λ v. asked_by v words) (verb_named tool word) a e (λ v named is.
     subst (λ (t : Tool). IsTaskOf t (a.task path)) (sym (tool_named tool word v named)) (by_verb v words a path is))
 
-run_workers : (rows : List Row) (run : JobRun) → run_in rows ≡ Some run → AreWorkers run.workers
-run_workers rows run e =
-    let n = mapped (run_by (flag_in (codes "pack") rows) (flag_in (codes "check") rows)) (workers_in rows) run e in
+-- ---- the jobs that are made
+
+few_of : (seed count : List ℕ) (made : Made) → made_of seed count ≡ Some made → AreFew (Some made)
+few_of seed count made e = option_and_then_some (λ (s : ℕ). option_map (λ (n : ℕ). record { seed = s; count = n }) (count_of count)) (seed_of seed) made e (λ s read is.
+    let n = mapped (λ (k : ℕ). record { seed = s; count = k }) (count_of count) made is in
+    let within : n.0 ≤ 4096 = (number_found 1 4096 count n.0 n.1).2 in
+    subst (λ (m : Made). m.count ≤ 4096) n.2 within)
+
+few_by : (seed count : Option (List ℕ)) (made : Option Made) → made_by seed count ≡ Some made → AreFew made
+few_by None None made e = subst AreFew (same_Some None made e) tt
+few_by None (Some count) made e = absurd cc
+few_by (Some seed) None made e = absurd cc
+few_by (Some seed) (Some count) made e =
+    let m = mapped (λ (x : Made). Some x) (made_of seed count) made e in
+    subst AreFew m.2 (few_of seed count m.0 m.1)
+
+run_workers : (rows : List Row) (made : Option Made) (run : JobRun) → option_map (run_by (flag_in (codes "pack") rows) (flag_in (codes "check") rows) made) (workers_in rows) ≡ Some run → AreWorkers run.workers
+run_workers rows made run e =
+    let n = mapped (run_by (flag_in (codes "pack") rows) (flag_in (codes "check") rows) made) (workers_in rows) run e in
     subst AreWorkers (ap (λ (r : JobRun). r.workers) n.2) (given_workers (first_of (codes "workers") rows) n.0 n.1)
+
+run_made : (rows : List Row) (made : Option Made) (run : JobRun) → option_map (run_by (flag_in (codes "pack") rows) (flag_in (codes "check") rows) made) (workers_in rows) ≡ Some run → AreFew made → AreFew run.made
+run_made rows made run e few =
+    let n = mapped (run_by (flag_in (codes "pack") rows) (flag_in (codes "check") rows) made) (workers_in rows) run e in
+    subst AreFew (ap (λ (r : JobRun). r.made) n.2) few
+
+run_fits : (rows : List Row) (run : JobRun) → run_in rows ≡ Some run → AreWorkers run.workers × AreFew run.made
+run_fits rows run e = option_and_then_some (λ made. option_map (run_by (flag_in (codes "pack") rows) (flag_in (codes "check") rows) made) (workers_in rows)) (made_in rows) run e (λ made found is.
+    (run_workers rows made run is, run_made rows made run is (few_by (first_of (codes "make") rows) (first_of (codes "count") rows) made found)))
 
 by_jobs : (words : List (List ℕ)) (a : Asked) (path : Path) → asked_by_jobs words ≡ Some a → IsTaskOf tools.Jobs (a.task path)
 by_jobs words a path e = option_and_then_some jobs_asked (taken jobs_app words) a e (λ rows found is.
     let run = mapped (jobs_in rows) (run_in rows) a is in
-    subst (λ (x : Asked). IsTaskOf tools.Jobs (x.task path)) run.2 (refl, run_workers rows run.0 run.1))
+    let fits = run_fits rows run.0 run.1 in
+    subst (λ (x : Asked). IsTaskOf tools.Jobs (x.task path)) run.2 (refl, fits.0, fits.1))
 
 asked_of : (tool : Tool) (words : List (List ℕ)) (a : Asked) (path : Path) → asked tool words ≡ Some a → IsTaskOf tool (a.task path)
 asked_of tools.Admin words a path e = by_command tools.Admin words a path e

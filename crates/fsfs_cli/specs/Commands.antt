@@ -70,6 +70,14 @@ pack_rule = record (new_rule (codes "pack")) { long = Some (codes "pack"); actio
 abbrev pub check_rule : Rule
 check_rule = record (new_rule (codes "check")) { long = Some (codes "check"); action = Some SetTrue }
 
+-- [--make SEED]
+abbrev pub make_rule : Rule
+make_rule = record (new_rule (codes "make")) { long = Some (codes "make") }
+
+-- [--count COUNT]
+abbrev pub count_rule : Rule
+count_rule = record (new_rule (codes "count")) { long = Some (codes "count") }
+
 -- TXN.., one or more
 abbrev pub txns_rule : Rule
 txns_rule = record (new_rule (codes "TXN")) { required = true; action = Some Append }
@@ -120,9 +128,9 @@ verify_app = with_rule (bare (codes "verify")) repos_rule
 abbrev pub pack_app : App
 pack_app = with_rule (bare (codes "pack")) repos_rule
 
--- svnjobs REPOS [-j N] [--pack] [--check], which has no word of its own
+-- svnjobs REPOS [-j N] [--pack] [--check] [--make SEED --count COUNT], which has no word of its own
 abbrev pub jobs_app : App
-jobs_app = with_rule (with_rule (with_rule (with_rule (bare (codes "svnjobs")) repos_rule) workers_rule) pack_rule) check_rule
+jobs_app = with_rule (with_rule (with_rule (with_rule (with_rule (with_rule (bare (codes "svnjobs")) repos_rule) workers_rule) pack_rule) check_rule) make_rule) count_rule
 
 -- youngest REPOS
 abbrev pub youngest_app : App

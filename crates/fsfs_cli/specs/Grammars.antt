@@ -1,4 +1,4 @@
--- The grammars of single words: a revision, the size of a shard, a number of workers, names of transactions, a path. (This project's profile.)
+-- The grammars of single words: a revision, the size of a shard, a number of workers, a seed and a number of jobs, names of transactions, a path. (This project's profile.)
 use Rattle.std.specs.Prelude.{◌≡◌, ◌≤◌, ℕ, List, [], ◌∷◌, ◌==◌, ◌&&◌, nat_lt, nat_le, length, Option, Some, None, option_map, option_and_then, Bool, if◌then◌else◌, decimal, codes}
 use Rattle.std.specs.Char.{is_ascii_digit}
 use Rattle.std.specs.List.{list_all}
@@ -16,16 +16,28 @@ is_revision text = nat_lt 0 (length text) && nat_le (length text) 10 && list_all
 unfoldable pub revision_of : List ℕ → Option ℕ
 revision_of text = if is_revision text then Some (digits_value 10 text) else None
 
--- N: the decimal text of a number from 1 to 100,000
-abbrev pub IsShard : List ℕ → ℕ → Type 0
-IsShard text shard = (text ≡ decimal shard) × (1 ≤ shard) × (shard ≤ 100_000)
+-- the decimal text of a number from low to high
+abbrev pub IsNumberIn : ℕ → ℕ → List ℕ → ℕ → Type 0
+IsNumberIn low high text number = (text ≡ decimal number) × (low ≤ number) × (number ≤ high)
 
-abbrev pub is_shard : List ℕ → ℕ → Bool
-is_shard text shard = bytes_eq text (decimal shard) && nat_le 1 shard && nat_le shard 100_000
+abbrev pub is_number_in : ℕ → ℕ → List ℕ → ℕ → Bool
+is_number_in low high text number = bytes_eq text (decimal number) && nat_le low number && nat_le number high
 
 -- that number
-unfoldable pub shard_of : List ℕ → Option ℕ
-shard_of text = if is_shard text (digits_value 10 text) then Some (digits_value 10 text) else None
+unfoldable pub number_in : ℕ → ℕ → List ℕ → Option ℕ
+number_in low high text = if is_number_in low high text (digits_value 10 text) then Some (digits_value 10 text) else None
+
+-- N, how many revisions a shard has: from 1 to 100,000
+abbrev pub shard_of : List ℕ → Option ℕ
+shard_of text = number_in 1 100_000 text
+
+-- SEED: a number of 64 bits
+abbrev pub seed_of : List ℕ → Option ℕ
+seed_of text = number_in 0 18_446_744_073_709_551_615 text
+
+-- COUNT, how many jobs are made: from 1 to 4,096
+abbrev pub count_of : List ℕ → Option ℕ
+count_of text = number_in 1 4096 text
 
 -- N of `-j N`, how many workers do the jobs: 1 or 2
 abbrev pub workers_of : List ℕ → Option ℕ

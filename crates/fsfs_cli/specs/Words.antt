@@ -5,8 +5,9 @@ use Rattle.std.specs.Str.{bytes_eq}
 use Rattle.clap.specs.Words.{App, Row, all_of, fault_of, first_of, matches_of}
 use Rattle.clap.specs.Walk.{is_empty}
 use Rattle.fsfs_cli.specs.Commands.{verb_named, create_app, jobs_app, lstxns_app, rmtxns_app, dump_app, verify_app, pack_app, youngest_app, uuid_app, revision_app, tree_app, history_app, cat_app}
-use Rattle.fsfs_cli.specs.Grammars.{revision_of, shard_of, workers_of, txns_named}
+use Rattle.fsfs_cli.specs.Grammars.{revision_of, shard_of, workers_of, seed_of, count_of, txns_named}
 use Rattle.fsfs_base.specs.Paths.{Path}
+use Rattle.fsfs_script.specs.declared.making.jobs.Made.{Made}
 use Rattle.fsfs_cli.specs.declared.request.JobRun.{JobRun}
 use Rattle.fsfs_cli.specs.declared.request.Task.{Task}
 use Rattle.fsfs_cli.specs.declared.request.Task.TheVariants.{Create, ListTxns, RemoveTxns, Pack, Look, RunJobs}
@@ -52,12 +53,27 @@ workers_in rows = option_map (λ n. unwrap_or n 1) (number_of workers_of (first_
 abbrev pub flag_in : List ℕ → List Row → Bool
 flag_in name rows = option_map_or (λ word. bytes_eq word (codes "true")) (first_of name rows) false
 
+-- what SEED and COUNT ask for; nothing where one is outside its grammar
+abbrev pub made_of : List ℕ → List ℕ → Option Made
+made_of seed count = option_and_then (λ (s : ℕ). option_map (λ (n : ℕ). record { seed = s; count = n }) (count_of count)) (seed_of seed)
+
+-- the same of both words, or of neither; nothing where one is there without the other
+abbrev pub made_by : Option (List ℕ) → Option (List ℕ) → Option (Option Made)
+made_by None None = Some None
+made_by None (Some count) = None
+made_by (Some seed) None = None
+made_by (Some seed) (Some count) = option_map (λ (made : Made). Some made) (made_of seed count)
+
+-- [--make SEED --count COUNT]
+abbrev pub made_in : List Row → Option (Option Made)
+made_in rows = made_by (first_of (codes "make") rows) (first_of (codes "count") rows)
+
 -- what a run of jobs is asked for
-abbrev pub run_by : Bool → Bool → ℕ → JobRun
-run_by pack check workers = record { workers = workers; pack = pack; check = check }
+abbrev pub run_by : Bool → Bool → Option Made → ℕ → JobRun
+run_by pack check made workers = record { workers = workers; pack = pack; check = check; made = made }
 
 abbrev pub run_in : List Row → Option JobRun
-run_in rows = option_map (run_by (flag_in (codes "pack") rows) (flag_in (codes "check") rows)) (workers_in rows)
+run_in rows = option_and_then (λ made. option_map (run_by (flag_in (codes "pack") rows) (flag_in (codes "check") rows) made) (workers_in rows)) (made_in rows)
 
 -- TXN..
 abbrev pub txns_in : List Row → Option (List (ℕ × ℕ))

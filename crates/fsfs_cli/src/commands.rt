@@ -3,7 +3,7 @@ ghost use Rattle.std.specs.Prelude.{◌≡◌, ◌∷◌, [], IfOk, codes};
 ghost use Rattle.clap.specs.Words.{app_of, rule_of, with_rule};
 ghost use Rattle.clap.specs.declared.builder.arg.Arg.{Arg};
 ghost use Rattle.fsfs_cli.specs.Chains.{Fits, NeedsValue, IsChain, HasValue};
-ghost use Rattle.fsfs_cli.specs.Commands.{bare as bare_app, repos_rule, shard_rule, workers_rule, pack_rule, check_rule, txns_rule, revision_rule, show_ids_rule, path_rule, needed_path_rule, create_app, jobs_app, rmtxns_app, revision_app, tree_app, history_app, cat_app};
+ghost use Rattle.fsfs_cli.specs.Commands.{bare as bare_app, repos_rule, shard_rule, workers_rule, pack_rule, check_rule, make_rule, count_rule, txns_rule, revision_rule, show_ids_rule, path_rule, needed_path_rule, create_app, jobs_app, rmtxns_app, revision_app, tree_app, history_app, cat_app};
 
 use clap::{Arg, ArgAction, Command};
 use std::alloc::{AllocError, Global};
@@ -52,6 +52,22 @@ fn check<'a>(alloc: Global) -> Arg<'a>
     Arg::new(alloc, "check")
         .long("check")
         .action(ArgAction::SetTrue)
+}
+
+// [--make SEED]
+fn make<'a>(alloc: Global) -> Arg<'a>
+    ensures rule { rule_of result ≡ make_rule }
+    ensures fits { Fits (codes "make") result }
+{
+    Arg::new(alloc, "make").long("make")
+}
+
+// [--count COUNT]
+fn count<'a>(alloc: Global) -> Arg<'a>
+    ensures rule { rule_of result ≡ count_rule }
+    ensures fits { Fits (codes "count") result }
+{
+    Arg::new(alloc, "count").long("count")
 }
 
 // TXN..
@@ -124,14 +140,16 @@ pub fn create_command<'a>(alloc: Global) -> Result<Command<'a>, AllocError>
     look_command(alloc, "create")?.arg(shard(alloc))
 }
 
-/// `REPOS [-j N] [--pack] [--check]`, of a program without words for commands.
+/// `REPOS [-j N] [--pack] [--check] [--make SEED --count COUNT]`, of a program without words for commands.
 pub fn jobs_command<'a>(alloc: Global) -> Result<Command<'a>, AllocError>
     ensures app { IfOk result (λ c. app_of c ≡ jobs_app) }
     ensures repos { IfOk result (HasValue (codes "REPOS")) }
 {
     let with_workers = look_command(alloc, "svnjobs")?.arg(workers(alloc))?;
     let with_pack = with_workers.arg(pack(alloc))?;
-    with_pack.arg(check(alloc))
+    let with_check = with_pack.arg(check(alloc))?;
+    let with_make = with_check.arg(make(alloc))?;
+    with_make.arg(count(alloc))
 }
 
 /// `rmtxns REPOS TXN..`.

@@ -4,6 +4,8 @@
 
 mod commands;
 mod faults;
+mod made;
+mod number;
 mod path_word;
 mod read;
 mod request;

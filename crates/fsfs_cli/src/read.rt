@@ -1,8 +1,8 @@
 //! Words are read.
-ghost use Rattle.std.specs.Prelude.{◌≡◌, ◌==◌, ℕ, List, map, string_bytes, true, is_some, option_map, IfOk};
+ghost use Rattle.std.specs.Prelude.{◌≡◌, ◌==◌, ℕ, List, map, string_bytes, true, Some, is_some, option_map, IfOk};
 ghost use Rattle.clap.specs.Words.{app_of, found_of, is_simple_and_free, rows_of, first_of, IsParsedFrom};
 ghost use Rattle.fsfs_cli.specs.Commands.{revision_app};
-ghost use Rattle.fsfs_cli.specs.Words.{taken, asked, asked_by, asked_by_command, asked_by_jobs, printed_by, revision_in, shard_in, workers_in, run_in, txns_in, flag_in, path_in, required_in};
+ghost use Rattle.fsfs_cli.specs.Words.{taken, asked, asked_by, asked_by_command, asked_by_jobs, printed_by, revision_in, made_by, shard_in, workers_in, made_in, run_in, txns_in, flag_in, path_in, required_in};
 ghost use Rattle.fsfs_cli.specs.Readings.{Reads, Finds, GivesPath};
 
 use crate::commands::{
@@ -10,6 +10,7 @@ use crate::commands::{
     rmtxns_command, tree_command,
 };
 use crate::faults::words_fault::WordsFault;
+use crate::made::read_made;
 use crate::path_word::read_path;
 use crate::request::{JobRun, Look, Printed, Request, RevisionLook, Task};
 use crate::revision::read_revision;
@@ -21,6 +22,7 @@ use crate::workers::read_workers;
 use clap::error::ErrorKind;
 use clap::{ArgMatches, Command};
 use fsfs_base::FsPath;
+use fsfs_script::Made;
 use std::alloc::Global;
 
 // How many revisions a shard has where the words don't say.
@@ -108,6 +110,32 @@ fn flag_given(matches: &ArgMatches<'_>, id: &str) -> bool
     }
 }
 
+// What SEED and COUNT ask for.
+fn made_from(seed: &str, count: &str) -> Result<Option<Made>, WordsFault>
+    ensures { Finds (made_by (Some seed.now) (Some count.now)) (λ made. made) result }
+{
+    match read_made(seed, count) {
+        Some(made) => Ok(Some(made)),
+        None => Err(WordsFault::Usage),
+    }
+}
+
+// [--make SEED --count COUNT]: both, or neither.
+fn made_given(matches: &ArgMatches<'_>) -> Result<Option<Made>, WordsFault>
+    ensures { Finds (made_in (rows_of (found_of matches.now))) (λ made. made) result }
+{
+    match word_of(matches, "make") {
+        None => match word_of(matches, "count") {
+            None => Ok(None),
+            Some(_) => Err(WordsFault::Usage),
+        },
+        Some(seed) => match word_of(matches, "count") {
+            None => Err(WordsFault::Usage),
+            Some(count) => made_from(seed, count),
+        },
+    }
+}
+
 // What a run of jobs is asked for.
 fn run_given(matches: &ArgMatches<'_>) -> Result<JobRun, WordsFault>
     ensures { Finds (run_in (rows_of (found_of matches.now))) (λ run. run) result }
@@ -115,10 +143,12 @@ fn run_given(matches: &ArgMatches<'_>) -> Result<JobRun, WordsFault>
     let workers = workers_given(matches)?;
     let pack = flag_given(matches, "pack");
     let check = flag_given(matches, "check");
+    let made = made_given(matches)?;
     Ok(JobRun {
         workers,
         pack,
         check,
+        made,
     })
 }
 

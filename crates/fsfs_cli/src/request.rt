@@ -4,6 +4,7 @@ ghost use Rattle.fsfs_cli.specs.Requests.{path_in_it};
 
 use crate::txn_names::TxnNames;
 use fsfs_base::FsPath;
+use fsfs_script::Made;
 
 /// What the words of a program ask for: a task, of the repository at a path.
 #[derive(Debug, Drop)]
@@ -31,7 +32,7 @@ pub enum Task {
     Pack,
     /// A command of `svnlook`, or `svnadmin dump` or `verify`: it reads and prints.
     Look(Look),
-    /// `svnjobs`: the jobs of the script in the input are done.
+    /// `svnjobs`: the jobs of the script in the input, or those that a number makes, are done.
     RunJobs(JobRun),
 }
 
@@ -44,6 +45,8 @@ pub struct JobRun {
     pub pack: bool,
     /// Whether all revisions are checked behind the jobs.
     pub check: bool,
+    /// The number that makes the jobs; none where they stand in the input.
+    pub made: Option<Made>,
 }
 
 /// What is looked at.

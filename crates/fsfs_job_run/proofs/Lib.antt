@@ -37,3 +37,4 @@ pub mod Unprinted
 pub use Rattle.fsfs_repo.proofs.Noted
 pub use Rattle.fsfs_repo.proofs.Pinning
 pub use Rattle.fsfs_repo.proofs.Shown
+pub mod CommitCounts

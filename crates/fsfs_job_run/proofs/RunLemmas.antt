@@ -19,7 +19,8 @@ use Rattle.fsfs_turn.specs.declared.since.Since.{Since}
 use Rattle.fsfs_turn.specs.Opening.{given_before, opened_at}
 use Rattle.fsfs_machine.specs.Kept.{IsIn, Follows}
 use Rattle.fsfs_script.specs.Errors.{IfReadFault}
-use Rattle.fsfs_script.specs.Whole.{ReadsScript}
+use Rattle.fsfs_script.specs.ToDo.{GivesJobs}
+use Rattle.fsfs_script.specs.declared.making.jobs.Made.{Made}
 use Rattle.fsfs_script.specs.declared.script_error.ScriptError.{ScriptError}
 use Rattle.fsfs_cli.specs.CommandFaults.{fault_from_open, fault_from_script}
 use Rattle.fsfs_cli.specs.declared.faults.fault.Fault.{Fault}
@@ -232,8 +233,8 @@ opens_weaker told (Small fault) f because = because
 opens_weaker told (DiskFault at) f because = (f because.0, because.1)
 opens_weaker told Memory f because = tt
 
-pub runs_weaker : (B C : ℕ → Type 0) (moment before after old new : ℕ) (a b : RunScene) (r : Result ℕ Fault) → ((n : ℕ) → RoseBy n before after → RoseBy n old new) → ((n : ℕ) → B n → C n)
-    → RunsScript moment before after B a b r → RunsScript moment old new C a b r
+pub runs_weaker : {made : Option Made} (B C : ℕ → Type 0) (moment before after old new : ℕ) (a b : RunScene) (r : Result ℕ Fault) → ((n : ℕ) → RoseBy n before after → RoseBy n old new) → ((n : ℕ) → B n → C n)
+    → RunsScript made moment before after B a b r → RunsScript made moment old new C a b r
 runs_weaker B C moment before after old new a b _ f g (NotOpened why because unopened untouched unread) = NotOpened why (opens_weaker a.trace why (f 1) because) unopened untouched unread
 runs_weaker B C moment before after old new a b _ f g (NotRead o error opens read rose untouched) = NotRead o error opens read rose untouched
 runs_weaker B C moment before after old new a b _ f g (NoRoom o js opens read untouched) = NoRoom o js opens read untouched
@@ -242,16 +243,16 @@ runs_weaker B C moment before after old new a b _ f g (Done o js answers younges
 
 -- ---- the ends of a run
 
-pub not_opened : {B : ℕ → Type 0} (moment before after : ℕ) (a b : RunScene) (why : OpenFault) (fault : Fault) → fault ≡ fault_from_open why → OpensBecause (Rose before after) a.trace why → FailsAt FirmNames a.trace b.trace → b.written ≡ a.written → b.write_faults ≡ a.write_faults
-    → b.remaining ≡ a.remaining → RunsScript moment before after B a b (Err fault)
-not_opened {B} moment before after a b why fault is because firm written faults unread =
-    subst (λ (f : Fault). RunsScript moment before after B a b (Err f)) (sym is)
+pub not_opened : {made : Option Made} {B : ℕ → Type 0} (moment before after : ℕ) (a b : RunScene) (why : OpenFault) (fault : Fault) → fault ≡ fault_from_open why → OpensBecause (Rose before after) a.trace why → FailsAt FirmNames a.trace b.trace → b.written ≡ a.written → b.write_faults ≡ a.write_faults
+    → b.remaining ≡ a.remaining → RunsScript made moment before after B a b (Err fault)
+not_opened {made} {B} moment before after a b why fault is because firm written faults unread =
+    subst (λ (f : Fault). RunsScript made moment before after B a b (Err f)) (sym is)
     (NotOpened why because (does_not_open (Rose before after) a.trace why because) (record { disk = firm; output = written; output_faults = faults }) unread)
 
-pub not_read : {B : ℕ → Type 0} (moment before after : ℕ) (a b : RunScene) (o : Opened) (error : ScriptError) (fault : Fault) → fault ≡ fault_from_script error → OpensAs a.trace o → ReadsScript a.remaining (Err error) → IfReadFault error (Rose a.read_faults b.read_faults)
-    → FailsAt FirmNames a.trace b.trace → b.written ≡ a.written → b.write_faults ≡ a.write_faults → RunsScript moment before after B a b (Err fault)
-not_read {B} moment before after a b o error fault is opens read rose firm written faults =
-    subst (λ (f : Fault). RunsScript moment before after B a b (Err f)) (sym is) (NotRead o error opens read rose (record { disk = firm; output = written; output_faults = faults }))
+pub not_read : {made : Option Made} {B : ℕ → Type 0} (moment before after : ℕ) (a b : RunScene) (o : Opened) (error : ScriptError) (fault : Fault) → fault ≡ fault_from_script error → OpensAs a.trace o → GivesJobs made a.remaining (Err error) → IfReadFault error (Rose a.read_faults b.read_faults)
+    → FailsAt FirmNames a.trace b.trace → b.written ≡ a.written → b.write_faults ≡ a.write_faults → RunsScript made moment before after B a b (Err fault)
+not_read {made} {B} moment before after a b o error fault is opens read rose firm written faults =
+    subst (λ (f : Fault). RunsScript made moment before after B a b (Err f)) (sym is) (NotRead o error opens read rose (record { disk = firm; output = written; output_faults = faults }))
 
 -- over what the opening told
 pub ran_over : (knows : View → Type 0) (moment : ℕ) (js : List Job) (answers : List JobAnswer) (youngest : ℕ) (old new : Option Trace) → IfSome old (λ t. (h : List Revision) (stands : StandsFor (files_now t) h) → HasSeenAll knows t stands.opened.min_unpacked_rev stands.opened.next_txn.number h)

@@ -25,15 +25,18 @@ use Rattle.fsfs_turn.specs.declared.since.Since.{Since}
 use Rattle.fsfs_turn.specs.Whole.{HasHistory, HasRevision, NamesFrom}
 use Rattle.fsfs_script.specs.declared.job_lines.job.Job.{Job}
 use Rattle.fsfs_script.specs.Errors.{IfReadFault}
-use Rattle.fsfs_script.specs.Whole.{ReadsScript, EndsSource}
+use Rattle.fsfs_script.specs.ToDo.{GivesJobs, EndsInput}
+use Rattle.fsfs_script.specs.declared.making.jobs.Made.{Made}
 use Rattle.fsfs_script.specs.declared.script_error.ScriptError.{ScriptError}
 use Rattle.fsfs_cli.specs.CommandFaults.{fault_from_open, fault_from_script}
 use Rattle.fsfs_cli.specs.declared.faults.fault.Fault.{Fault}
 use Rattle.fsfs_cli.specs.declared.faults.fault.Fault.TheVariants.{Outside, Memory}
 use Rattle.fsfs_cli.specs.declared.faults.outside_fault.OutsideFault.TheVariants.{Write}
 use Rattle.fsfs_jobs.specs.Lines.{bare_ending, greatest_status, run_text}
+use Rattle.fsfs_jobs.specs.Made.{made_text}
 use Rattle.fsfs_jobs.specs.declared.answer.JobAnswer.{JobAnswer}
 use Rattle.fsfs_jobs.specs.declared.ending.Ending.{Ending}
+use Rattle.fsfs_jobs.specs.declared.tree_sum.TreeSum.{TreeSum}
 use Rattle.fsfs_job_run.specs.Serial.Jobs.{StuckBehindDoubt, TellNoDoubt, bench_faults_in, tell_full}
 use Rattle.fsfs_job_run.specs.Serial.Listed.{LeavesListed}
 use Rattle.fsfs_job_run.specs.Workers.Lines.{disk_faults_in, RoseBy}
@@ -129,24 +132,30 @@ PrintsChecked answers ending youngest old new before now (Err fault) = (fault �
 abbrev pub PrintsRun : List JobAnswer → ℕ → Option (List ℕ) → Option (List ℕ) → ℕ → ℕ → Result ℕ Fault → Type 0
 PrintsRun answers youngest old new before now ended = PrintsChecked answers bare_ending youngest old new before now ended
 
+-- The same of made jobs: in place of their lines stand how many there were, how many of them were committed and how many clashed, the youngest revision,
+-- and its tree where that was read whole (`tree`).
+abbrev pub PrintsMade : List JobAnswer → Option TreeSum → Ending → ℕ → Option (List ℕ) → Option (List ℕ) → ℕ → ℕ → Result ℕ Fault → Type 0
+PrintsMade answers tree ending youngest old new before now (Ok status) = (status ≡ greatest_status answers) × Adds old new (made_text answers tree ending youngest)
+PrintsMade answers tree ending youngest old new before now (Err fault) = (fault ≡ Outside Write) × Rose before now × AddsFront old new (made_text answers tree ending youngest)
+
 -- This number stands in `txn-current`, where the files stand for a history as `RanOver` has it. Of number 0 nothing is asked.
 abbrev pub IsNextName : Option Trace → ℕ → Type 0
 IsNextName told zero = Unit {0}
 IsNextName told (suc k) = (t : Trace) × (told ≡ Some t) × (h : List Revision) × (stands : StandsFor (files_now t) h) × (stands.opened.next_txn.number ≡ suc k)
 
--- A RUN OF A SCRIPT, by its status or its fault. The disk's count of faults went from `before` to `after`, and `benches` says that so many calls of
--- benches failed at least. The repository is opened first; so what was read, and what was done, is told only where the small files open.
-pub data RunsScript (moment before after : ℕ) (benches : ℕ → Type 0) (a b : RunScene) : Result ℕ Fault → Type 0 where
+-- A RUN OF A SCRIPT, or of made jobs (`made`), by its status or its fault. The disk's count of faults went from `before` to `after`, and `benches` says that
+-- so many calls of benches failed at least. The repository is opened first; so what was read, and what was done, is told only where the small files open.
+pub data RunsScript (made : Option Made) (moment before after : ℕ) (benches : ℕ → Type 0) (a b : RunScene) : Result ℕ Fault → Type 0 where
   -- the repository is not opened, and nothing is read
-  NotOpened : (why : OpenFault) → OpensBecause (Rose before after) a.trace why → DoesNotOpen a.trace why → IsUntouched a b → b.remaining ≡ a.remaining → RunsScript moment before after benches a b (Err (fault_from_open why))
-  -- it was opened, and what was read is no script
-  NotRead : (o : Opened) (error : ScriptError) → OpensAs a.trace o → ReadsScript a.remaining (Err error) → IfReadFault error (Rose a.read_faults b.read_faults) → IsUntouched a b → RunsScript moment before after benches a b (Err (fault_from_script error))
+  NotOpened : (why : OpenFault) → OpensBecause (Rose before after) a.trace why → DoesNotOpen a.trace why → IsUntouched a b → b.remaining ≡ a.remaining → RunsScript made moment before after benches a b (Err (fault_from_open why))
+  -- it was opened, and what was read is no script; or there is no memory for the jobs
+  NotRead : (o : Opened) (error : ScriptError) → OpensAs a.trace o → GivesJobs made a.remaining (Err error) → IfReadFault error (Rose a.read_faults b.read_faults) → IsUntouched a b → RunsScript made moment before after benches a b (Err (fault_from_script error))
   -- it was opened, and there is no memory for the answers
-  NoRoom : (o : Opened) (js : List Job) → OpensAs a.trace o → ReadsScript a.remaining (Ok js) → IsUntouched a b → RunsScript moment before after benches a b (Err Memory)
-  -- It was opened, the input was read to its end, and its jobs were done. As many calls of the disk failed as lines tell of, and as many of benches;
+  NoRoom : (o : Opened) (js : List Job) → OpensAs a.trace o → GivesJobs made a.remaining (Ok js) → IsUntouched a b → RunsScript made moment before after benches a b (Err Memory)
+  -- It was opened, the input was read to its end (or not at all), and its jobs were done. As many calls of the disk failed as lines tell of, and as many of benches;
   -- so where no call of the disk did, no line tells of a fault that leaves a revision in doubt. Nor does a job leave its transaction listed then,
   -- whatever its line tells; and none goes from the list but such as have the number that stood in `txn-current` as the run began, or a greater one.
-  Done : (o : Opened) (js : List Job) (answers : List JobAnswer) (youngest : ℕ) (result : Result ℕ Fault) → OpensAs a.trace o → ReadsScript a.remaining (Ok js) → EndsSource a.remaining b.remaining → length answers ≡ length js
+  Done : (o : Opened) (js : List Job) (answers : List JobAnswer) (youngest : ℕ) (result : Result ℕ Fault) → OpensAs a.trace o → GivesJobs made a.remaining (Ok js) → EndsInput made a.remaining b.remaining → length answers ≡ length js
       → RoseBy (disk_faults_in answers) before after → ((Rose before after → ⊥) → TellNoDoubt answers) → benches (bench_faults_in answers)
       → ((least : ℕ) → IsNextName a.trace least → LeavesListed least (length js) (labels_in a) (labels_in b) ⊎ Rose before after)
-      → RanOver moment js answers youngest a.trace b.trace → PrintsRun answers youngest a.written b.written a.write_faults b.write_faults result → RunsScript moment before after benches a b result
+      → RanOver moment js answers youngest a.trace b.trace → PrintsRun answers youngest a.written b.written a.write_faults b.write_faults result → RunsScript made moment before after benches a b result

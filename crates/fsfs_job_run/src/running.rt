@@ -1,5 +1,5 @@
 //! A script is run.
-ghost use Rattle.std.specs.Prelude.{◌≡◌, ◌⊎◌, ◌≤◌, ℕ, length, true, None, Err, option_map, IfOk, OnErr, IsTrue, MatchResult};
+ghost use Rattle.std.specs.Prelude.{◌≡◌, ◌⊎◌, ◌≤◌, ℕ, length, true, None, Err, option_map, IfOk, IfSome, OnErr, IsTrue, MatchResult};
 ghost use Rattle.fsfs_base.specs.Failures.{Rose};
 ghost use Rattle.fsfs_disk.specs.Trace.{labels_now};
 ghost use Rattle.fsfs_machine.specs.Machine.{revisions};
@@ -13,19 +13,19 @@ ghost use Rattle.fsfs_job_run.specs.Workers.Lines.{disk_faults_in};
 ghost use Rattle.fsfs_job_run.specs.Running.{HasGiven};
 ghost use Rattle.fsfs_layout.specs.declared.opened.Opened.{Opened};
 ghost use Rattle.fsfs_job_run.specs.Openings.{OpensAs};
-ghost use Rattle.fsfs_job_run.specs.Runs.{run_scene, PrintsChecked, PrintsRun, Ran, RunsScript};
+ghost use Rattle.fsfs_job_run.specs.Runs.{run_scene, PrintsChecked, PrintsMade, PrintsRun, Ran, RunsScript};
 ghost use Rattle.fsfs_job_run.specs.Unprinted.{WorksAlone};
 
 use crate::run_jobs;
-use crate::serial::output::print_run;
+use crate::serial::output::{print_made, print_run};
 use crate::serial::statuses::greatest_status;
 use fsfs_base::{Gate, RevNum, Sink, Source};
 use fsfs_cli::{Fault, OutsideFault};
 use fsfs_disk::Disk;
-use fsfs_jobs::{Ending, JobAnswer};
+use fsfs_jobs::{Ending, JobAnswer, TreeSum};
 use fsfs_layout::{Layout, Opened};
 use fsfs_repo::{OpenedRepo, Repo};
-use fsfs_script::{Job, read_script};
+use fsfs_script::{Job, Made, jobs_to_do};
 use fsfs_turn::{Owned, Turns};
 use std::alloc::{AllocError, Global};
 
@@ -93,6 +93,22 @@ pub fn tell<O: Sink>(out: &mut O, done: &JobsDone, ending: Ending) -> Result<u8,
     }
 }
 
+/// Prints what became of made jobs: how many there were, how many of them were committed and how many clashed, the youngest revision and
+/// its tree, and behind these what stands behind the lines of jobs (`ending`); and gives the greatest status that a job's line would ask for.
+pub fn tell_made<O: Sink>(
+    out: &mut O,
+    done: &JobsDone,
+    tree: Option<TreeSum>,
+    ending: Ending,
+) -> Result<u8, Fault>
+    ensures printed { PrintsMade done.now.answers.items tree ending done.now.youngest (O.written out.old) (O.written out.new) (O.faults out.old) (O.faults out.new) result }
+{
+    match print_made(out, &done.answers, tree, ending, done.youngest) {
+        Ok(()) => Ok(greatest_status(&done.answers)),
+        Err(_) => Err(Fault::Outside(OutsideFault::Write)),
+    }
+}
+
 /// Prints what became of jobs, where there are lines to print; and gives the greatest status that a job's line asks for.
 pub fn tell_if<O: Sink>(out: &mut O, done: Result<JobsDone, Fault>) -> Result<u8, Fault>
     ensures { MatchResult done (λ d. PrintsRun d.answers.items d.youngest (O.written out.old) (O.written out.new) (O.faults out.old) (O.faults out.new) result)
@@ -110,19 +126,21 @@ pub fn tell_if<O: Sink>(out: &mut O, done: Result<JobsDone, Fault>) -> Result<u8
     }
 }
 
-/// Opens the repository on a disk, reads a script to its end, and does its jobs one after another. A revision that a job adds has as its
-/// date the moment, in microseconds after 1970-01-01T00:00:00 UTC. Where the repository isn't opened or the script isn't read, no
-/// job is done.
+/// Opens the repository on a disk, reads a script to its end or makes the jobs of a number, and does them one after another. A revision that
+/// a job adds has as its date the moment, in microseconds after 1970-01-01T00:00:00 UTC. Where the repository isn't opened or the script
+/// isn't read, no job is done.
 pub fn do_script<D: Disk, I: Source, G: Gate>(
     alloc: Global,
     disk: D,
+    made: Option<Made>,
     input: &mut I,
     micros: u64,
     gate: &G,
 ) -> (D, Result<JobsDone, Fault>)
     requires right { IsTrue (D.may_write disk) }
     requires moment { micros ≤ 4102444799999999 }
-    ensures works { WorksAlone micros (D.faults disk) (D.faults result.0) (λ n. RoseBy n 0 (D.bench_faults result.0)) (D.trace disk) (D.trace result.0) (I.remaining input.old) (I.remaining input.new) (I.faults input.old) (I.faults input.new) result.1 }
+    requires few { IfSome made (λ m. m.count ≤ 4096) }
+    ensures works { WorksAlone made micros (D.faults disk) (D.faults result.0) (λ n. RoseBy n 0 (D.bench_faults result.0)) (D.trace disk) (D.trace result.0) (I.remaining input.old) (I.remaining input.new) (I.faults input.old) (I.faults input.new) result.1 }
     // The layout and the floor are those that the opening read.
     ensures laid { IfOk result.1 (λ done. (o : Opened) × OpensAs (D.trace disk) o × (done.layout ≡ o.layout) × (done.floor ≡ o.min_unpacked_rev)) }
     // It may be written as before.
@@ -134,7 +152,7 @@ pub fn do_script<D: Disk, I: Source, G: Gate>(
         Ok(opened) => opened,
         Err(unopened) => return (unopened.disk, Err(Fault::from(unopened.why))),
     };
-    let jobs = match read_script(alloc, input) {
+    let jobs = match jobs_to_do(alloc, made, input) {
         Ok(jobs) => jobs,
         Err(error) => return (repo.close(), Err(Fault::from(error))),
     };
@@ -145,12 +163,13 @@ pub fn do_script<D: Disk, I: Source, G: Gate>(
     }
 }
 
-/// Opens the repository on a disk, reads a script to its end, does its jobs one after another, and prints what became of them. A revision
-/// that a job adds has as its date the moment, in microseconds after 1970-01-01T00:00:00 UTC. The answer is the greatest status that a
+/// Opens the repository on a disk, reads a script to its end or makes the jobs of a number, does them one after another, and prints what
+/// became of each. A revision that a job adds has as its date the moment, in microseconds after 1970-01-01T00:00:00 UTC. The answer is the greatest status that a
 /// job's line asks for. Where the repository isn't opened or the script isn't read, no job is done.
 pub fn run_script<D: Disk, I: Source, O: Sink, G: Gate>(
     alloc: Global,
     disk: D,
+    made: Option<Made>,
     input: &mut I,
     micros: u64,
     out: &mut O,
@@ -158,12 +177,13 @@ pub fn run_script<D: Disk, I: Source, O: Sink, G: Gate>(
 ) -> (D, Result<u8, Fault>)
     requires right { IsTrue (D.may_write disk) }
     requires moment { micros ≤ 4102444799999999 }
+    requires few { IfSome made (λ m. m.count ≤ 4096) }
     // As many calls of benches failed as lines tell of: what was counted before is left out of that.
-    ensures ran { RunsScript micros (D.faults disk) (D.faults result.0) (λ n. RoseBy n 0 (D.bench_faults result.0)) (run_scene (D.trace disk) (I.remaining input.old) (I.faults input.old) (O.written out.old) (O.faults out.old))
+    ensures ran { RunsScript made micros (D.faults disk) (D.faults result.0) (λ n. RoseBy n 0 (D.bench_faults result.0)) (run_scene (D.trace disk) (I.remaining input.old) (I.faults input.old) (O.written out.old) (O.faults out.old))
         (run_scene (D.trace result.0) (I.remaining input.new) (I.faults input.new) (O.written out.new) (O.faults out.new)) result.1 }
     ensures mounted { D.mount_path result.0 ≡ D.mount_path disk }
     ensures later { D.faults disk ≤ D.faults result.0 }
 {
-    let (disk, done) = do_script(alloc, disk, input, micros, gate);
+    let (disk, done) = do_script(alloc, disk, made, input, micros, gate);
     (disk, tell_if(out, done))
 }

@@ -1,5 +1,6 @@
 pub mod Edits
 pub mod Lines
+pub mod Made
 pub mod Pieces
 pub mod Properties
 pub mod Serial

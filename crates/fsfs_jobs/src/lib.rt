@@ -3,14 +3,21 @@
 #![tactic(auto)]
 
 mod answer;
+mod counts;
 mod ending;
 mod job_edits;
 mod line;
 mod output;
 mod properties;
+mod tree_sum;
 
 pub use answer::{JobAnswer, TextRead};
+pub use counts::{JobCounts, NumberedAnswer, first_other};
 pub use ending::Ending;
 pub use job_edits::edits::{Stopped, do_edits};
-pub use output::{print_job_line, print_packed, print_sound, print_youngest};
+pub use output::{
+    print_counts, print_job_line, print_other, print_packed, print_sound, print_tree,
+    print_youngest,
+};
 pub use properties::properties_of;
+pub use tree_sum::TreeSum;

@@ -2,13 +2,16 @@
 ghost use Rattle.std.specs.Prelude.{◌≡◌, true, Some};
 ghost use Rattle.fsfs_base.specs.Output.{Prints};
 ghost use Rattle.fsfs_jobs.specs.Lines.{stop_words, job_line, packed_text, sound_text, youngest_line};
+ghost use Rattle.fsfs_jobs.specs.Made.{counts_text, tree_line, other_line};
 ghost use Rattle.fsfs_jobs.specs.Pieces.{answer_back};
 
 use crate::answer::JobAnswer;
+use crate::counts::{JobCounts, NumberedAnswer};
 use crate::line::line_front;
+use crate::tree_sum::TreeSum;
 use arrayvec::ArrayString;
 use fsfs_base::{Failed, RevNum, Sink, print};
-use fsfs_cli::{Fault, print_path, print_words};
+use fsfs_cli::{Fault, digest_text, print_path, print_words};
 use itoa::Buffer;
 
 // Writes the words of a fault; none of want of memory, which the line has told.
@@ -102,4 +105,54 @@ pub fn print_youngest<S: Sink>(sink: &mut S, rev: RevNum) -> Result<(), Failed>
     ensures printed { Prints (S.written sink.old) (S.written sink.new) (youngest_line rev) (S.faults sink.old) (S.faults sink.new) result }
 {
     print(sink, youngest_text(rev).as_str().as_bytes())
+}
+
+fn counts_lines(counts: JobCounts) -> ArrayString<104>
+    ensures { result.bytes ≡ counts_text counts }
+{
+    let mut text = ArrayString::new();
+    text.push_str("jobs ");
+    text.push_str(Buffer::new().format(counts.jobs));
+    text.push_str("\ncommitted ");
+    text.push_str(Buffer::new().format(counts.committed));
+    text.push_str("\nconflicts ");
+    text.push_str(Buffer::new().format(counts.conflicts));
+    text.push_str("\n");
+    text
+}
+
+/// Writes how many jobs there were, how many of them were committed, and how many clashed.
+pub fn print_counts<S: Sink>(sink: &mut S, counts: JobCounts) -> Result<(), Failed>
+    ensures printed { Prints (S.written sink.old) (S.written sink.new) (counts_text counts) (S.faults sink.old) (S.faults sink.new) result }
+{
+    print(sink, counts_lines(counts).as_str().as_bytes())
+}
+
+fn line_of_tree(sum: &TreeSum) -> ArrayString<72>
+    ensures { result.bytes ≡ tree_line (Some sum.now) }
+{
+    let mut text = ArrayString::new();
+    text.push_str("tree ");
+    text.push_str(Buffer::new().format(sum.lines));
+    text.push_str(digest_text(&sum.md5).as_str());
+    text.push_str("\n");
+    text
+}
+
+/// Writes the line of a tree; nothing where it wasn't read whole.
+pub fn print_tree<S: Sink>(sink: &mut S, tree: Option<TreeSum>) -> Result<(), Failed>
+    ensures printed { Prints (S.written sink.old) (S.written sink.new) (tree_line tree) (S.faults sink.old) (S.faults sink.new) result }
+{
+    match tree {
+        Some(sum) => print(sink, line_of_tree(&sum).as_str().as_bytes()),
+        None => Ok(()),
+    }
+}
+
+/// Writes the line of a job as it stands on the error output, or where the sink fails a first part of it.
+pub fn print_other<S: Sink>(sink: &mut S, other: &NumberedAnswer) -> Result<(), Failed>
+    ensures printed { Prints (S.written sink.old) (S.written sink.new) (other_line other.now) (S.faults sink.old) (S.faults sink.new) result }
+{
+    print(sink, b"svnjobs: ")?;
+    print_job_line(sink, other.number, &other.answer)
 }

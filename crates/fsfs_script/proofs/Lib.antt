@@ -18,3 +18,4 @@ pub mod JobsFound
 pub mod JobsAgain
 pub mod ScriptLemmas
 pub mod WholeLemmas
+pub mod MadeLemmas

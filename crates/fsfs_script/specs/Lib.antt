@@ -8,3 +8,5 @@ pub mod JobTexts
 pub mod Scripts
 pub mod Laws
 pub mod Whole
+pub mod Made
+pub mod ToDo

@@ -30,7 +30,8 @@ impl Model for Ahead {
     ghost invariant = { λ a. (a.from ≤ a.to) × (a.to ≤ vec_len a.piece) × (vec_len a.piece ≡ 65536) };
 }
 
-fn newlines_in(bytes: &[u8]) -> u64
+/// How many ends of lines these bytes have.
+pub fn newlines_in(bytes: &[u8]) -> u64
     ensures { result ≡ newlines bytes.now }
 {
     let mut count: u64 = 0;

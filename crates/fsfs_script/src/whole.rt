@@ -28,7 +28,7 @@ impl Model for Jobs {
 }
 
 impl Jobs {
-    fn new(alloc: Global) -> Jobs
+    pub(crate) fn new(alloc: Global) -> Jobs
         ensures { result ≡ [] }
     {
         Jobs {
@@ -36,7 +36,7 @@ impl Jobs {
         }
     }
 
-    fn push(&mut self, job: Job) -> Result<(), AllocError>
+    pub(crate) fn push(&mut self, job: Job) -> Result<(), AllocError>
         ensures { OnOk result (self.new ≡ self.old ++ job ∷ []) }
     {
         self.jobs.push(job)?;

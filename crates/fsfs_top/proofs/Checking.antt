@@ -18,11 +18,11 @@ use Rattle.fsfs_top.specs.Scripts.{IsLaid, IsLaidFrom, RunsChecked, WorksBy}
 use Rattle.fsfs_top.specs.Scripts as ends
 
 module _ (run : JobRun) (known : Bool) (moment before after : ℕ) (benches : ℕ → Type 0) (told left : Option Trace) (remaining rest : Option (List ℕ)) (faults more : ℕ) where
-  pub by_one : (done : Result JobsDone Fault) → run.workers ≡ 1 → WorksAlone moment before after benches told left remaining rest faults more done → WorksBy run known moment before after benches told left remaining rest faults more done
+  pub by_one : (done : Result JobsDone Fault) → run.workers ≡ 1 → WorksAlone run.made moment before after benches told left remaining rest faults more done → WorksBy run known moment before after benches told left remaining rest faults more done
   by_one (Ok d) one works = λ old new count now ended lines. inl (one, works old new count now ended lines)
   by_one (Err fault) one works = λ old new count now. inl (one, works old new count now)
 
-  pub by_two : (done : Result JobsDone Fault) → run.workers ≡ 2 → Works moment 2 known None before after benches told left remaining rest faults more done → WorksBy run known moment before after benches told left remaining rest faults more done
+  pub by_two : (done : Result JobsDone Fault) → run.workers ≡ 2 → Works run.made moment 2 known None before after benches told left remaining rest faults more done → WorksBy run known moment before after benches told left remaining rest faults more done
   by_two (Ok d) two works = λ old new count now ended lines. inr (two, works old new count now ended lines)
   by_two (Err fault) two works = λ old new count now. inr (two, works old new count now)
 
@@ -46,8 +46,8 @@ told_sound (Some fault) false is = refl
 pub ran_checked : (run : JobRun) (known : Bool) (moment before middle after early late : ℕ) (told left last : Option Trace) (remaining rest : Option (List ℕ)) (faults more : ℕ) (done : JobsDone) (old new : Option (List ℕ)) (count now : ℕ) (ended : Result ℕ Fault) (unsound : Option Fault)
     → WorksBy run known moment before middle (λ n. RoseBy n 0 early) told left remaining rest faults more (Ok done) → last ≡ left → late ≡ early → middle ≤ after → IsLaid run known told done.layout → IsChecked (Rose middle after) done.layout done.youngest left unsound
     → PrintsChecked done.answers.items (record { packed = None; sound = is_sound unsound }) done.youngest old new count now ended
-    → RunsChecked run known moment before after (λ n. RoseBy n 0 late) (run_scene told remaining faults old count) (run_scene last rest more new now) (record { ended = ended; unpacked = None; unsound = unsound })
+    → RunsChecked run known moment before after (λ n. RoseBy n 0 late) (run_scene told remaining faults old count) (run_scene last rest more new now) (record { ended = ended; unpacked = None; unsound = unsound; unread = None; other = None })
 ran_checked run known moment before middle after early late told left last remaining rest faults more done old new count now ended unsound works same benches later laid sound printed =
-    subst (λ (t : Option Trace). RunsChecked run known moment before after (λ n. RoseBy n 0 late) (run_scene told remaining faults old count) (run_scene t rest more new now) (record { ended = ended; unpacked = None; unsound = unsound })) (sym same)
-    (subst (λ (k : ℕ). RunsChecked run known moment before after (λ n. RoseBy n 0 k) (run_scene told remaining faults old count) (run_scene left rest more new now) (record { ended = ended; unpacked = None; unsound = unsound })) (sym benches)
+    subst (λ (t : Option Trace). RunsChecked run known moment before after (λ n. RoseBy n 0 late) (run_scene told remaining faults old count) (run_scene t rest more new now) (record { ended = ended; unpacked = None; unsound = unsound; unread = None; other = None })) (sym same)
+    (subst (λ (k : ℕ). RunsChecked run known moment before after (λ n. RoseBy n 0 k) (run_scene told remaining faults old count) (run_scene left rest more new now) (record { ended = ended; unpacked = None; unsound = unsound; unread = None; other = None })) (sym benches)
     (ends.Done done.answers.items done.youngest middle done.layout ended unsound (λ written failed end lines. works old written count failed end lines) later laid sound printed))

@@ -14,7 +14,9 @@ use Rattle.fsfs_workers.proofs.ListedLemmas.{none_begun, none_is_left}
 use Rattle.fsfs_workers.specs.Runs.{RunScene, RunsScript, NotOpened, NotRead, NoRoom, Done}
 use Rattle.fsfs_top.specs.Scenes.{Scene}
 use Rattle.fsfs_top.specs.declared.checked.JobsEnd.{JobsEnd}
-use Rattle.fsfs_top.specs.Scripts.{DidJobs, ListsNoOther, RunsAsAsked, RunsAt, RunsBy, RunsChecked, run_scene}
+use Rattle.fsfs_turn.specs.Mountings.{RoseBy}
+use Rattle.fsfs_workers.specs.Made.{Made}
+use Rattle.fsfs_top.specs.Scripts.{DidJobs, EndsIf, ListsNoOther, PacksIf, RunsAsAsked, RunsAt, RunsBy, RunsByLines, RunsChecked, RunsMade, WorkedIf, run_scene}
 use Rattle.fsfs_top.specs.Scripts as ends
 use Rattle.fsfs_top.proofs.CreationTold.{path_cases}
 use Rattle.fsfs_top.proofs.Printing.{as_printed}
@@ -30,7 +32,7 @@ lists_no_other least most (Some s) (Some t) lists = none_is_left least most (Som
 lists_same : (old new : Option Trace) → HasSameLabels old new → ListsNoOther old new
 lists_same old new same = lists_no_other 0 0 old new (none_begun 0 0 (option_map labels_now old) (option_map labels_now new) same)
 
-script_lists : (moment before after : ℕ) (benches : ℕ → Type 0) (a b : RunScene) (ended : Result ℕ Fault) → RunsScript moment before after benches a b ended → ListsNoOther a.trace b.trace ⊎ Rose before after
+script_lists : {made : Option Made} (moment before after : ℕ) (benches : ℕ → Type 0) (a b : RunScene) (ended : Result ℕ Fault) → RunsScript made moment before after benches a b ended → ListsNoOther a.trace b.trace ⊎ Rose before after
 script_lists moment before after benches a b _ (NotOpened why because unopened untouched unread) = inl (lists_same a.trace b.trace (labels_firm a.trace b.trace untouched.disk))
 script_lists moment before after benches a b _ (NotRead o error opens read rose untouched) = inl (lists_same a.trace b.trace (labels_firm a.trace b.trace untouched.disk))
 script_lists moment before after benches a b _ (NoRoom o js opens read untouched) = inl (lists_same a.trace b.trace (labels_firm a.trace b.trace untouched.disk))
@@ -46,10 +48,24 @@ checked_lists run known moment before after benches a b _ one (ends.NotDone faul
 checked_lists run known moment before after benches a b _ one (ends.Done answers youngest middle layout ended unsound worked later laid sound printed) =
     ⊎_elim (λ lists. inl lists) (λ rose. inr (omega (arith, rose, later))) (by_lists run known moment before middle benches a _ (Ok _) one (as_printed run known moment before middle benches a b answers youngest worked))
 
+lines_list : (run : JobRun) (known : Bool) (moment before after early late : ℕ) (a b : RunScene) (end : JobsEnd) → run.workers ≡ 1 → run.pack ≡ false → RunsByLines run known moment before after early late a b end → ListsNoOther a.trace b.trace ⊎ Rose before after
+lines_list run known moment before after early late a b end one plain (inl (is, ran)) = by_lists run known moment before after _ a b end.ended one ran.ran
+lines_list run known moment before after early late a b end one plain (inr (inl (is, asked, ran))) = checked_lists run known moment before after _ a b end one ran
+lines_list run known moment before after early late a b end one plain (inr (inr (packs, ran))) = absurd cc
+
+-- the same of made jobs, which one worker does without packs; neither a check nor the reading of a tree makes anything of the disk
+made_lists : (run : JobRun) (known : Bool) (moment before after early late : ℕ) (a b : RunScene) (end : JobsEnd) → run.workers ≡ 1 → run.pack ≡ false → RunsMade run known moment before after early late a b end → ListsNoOther a.trace b.trace ⊎ Rose before after
+made_lists run known moment before after early late a b _ one plain (ends.NotMade fault ran written failed) =
+    by_lists run known moment before after _ a b (Err fault) one (subst (λ (pack : Bool). EndsIf pack run known moment before after (λ n. RoseBy n early late) a b fault) plain ran)
+made_lists run known moment before after early late a b _ one plain (ends.DoneMade answers youngest floor layout beside left last jobs_at packed_at checked_at benches_at ended unsound read other worked calls laid packs later risen behind sound more tree printed first) =
+    let done = subst (λ (pack : Bool). WorkedIf pack run known beside moment before jobs_at (λ n. RoseBy n early benches_at) a (record b { trace = left }) answers youngest) plain worked in
+    let same = subst (λ (pack : Bool). PacksIf pack jobs_at packed_at (Rose benches_at late) left b.trace last) plain packs in
+    subst (λ (t : Option Trace). ListsNoOther a.trace t ⊎ Rose before after) (sym same.1)
+    (⊎_elim (λ lists. inl lists) (λ rose. inr (omega (arith, rose, later, behind, more))) (by_lists run known moment before jobs_at _ a _ (Ok _) one (as_printed run known moment before jobs_at _ a (record b { trace = left }) answers youngest done.1)))
+
 asked_lists : (run : JobRun) (known : Bool) (moment before after early late : ℕ) (a b : RunScene) (end : JobsEnd) → run.workers ≡ 1 → run.pack ≡ false → RunsAsAsked run known moment before after early late a b end → ListsNoOther a.trace b.trace ⊎ Rose before after
-asked_lists run known moment before after early late a b end one plain (inl (is, ran)) = by_lists run known moment before after _ a b end.ended one ran.ran
-asked_lists run known moment before after early late a b end one plain (inr (inl (is, asked, ran))) = checked_lists run known moment before after _ a b end one ran
-asked_lists run known moment before after early late a b end one plain (inr (inr (packs, ran))) = absurd cc
+asked_lists run known moment before after early late a b end one plain (inl (none, ran)) = lines_list run known moment before after early late a b end one plain ran
+asked_lists run known moment before after early late a b end one plain (inr (made, is, ran)) = made_lists run known moment before after early late a b end one plain ran
 
 -- ---- of the disk of each path
 

@@ -16,3 +16,5 @@ pub mod OthersTold
 pub mod PacksTold
 pub mod WorkersTold
 pub mod PackedRuns
+pub mod TreeSums
+pub mod MadeRuns

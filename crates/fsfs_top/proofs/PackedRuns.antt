@@ -21,11 +21,11 @@ use Rattle.fsfs_top.specs.Scripts as ends
 
 module _ (run : JobRun) (known : Bool) (moment before after : ℕ) (benches : ℕ → Type 0) (told left : Option Trace) (remaining rest : Option (List ℕ)) (faults more : ℕ) where
   -- with packs beside the jobs
-  pub done_packing : (d : PackedJobs) → known ≡ true → Works moment run.workers true (Some d.packs.sticks) before after benches told left remaining rest faults more (Ok d.done)
+  pub done_packing : (d : PackedJobs) → known ≡ true → Works run.made moment run.workers true (Some d.packs.sticks) before after benches told left remaining rest faults more (Ok d.done)
       → WorksWith run known moment before after benches told left remaining rest faults more (Ok (record { jobs = d.done; beside = Some d.packs }))
   done_packing d is works = λ old new count now ended lines. (is, works old new count now ended lines)
 
-  pub undone_packing : (fault : Fault) → known ≡ true → Works moment run.workers true (Some false) before after benches told left remaining rest faults more (Err fault) → WorksWith run known moment before after benches told left remaining rest faults more (Err fault)
+  pub undone_packing : (fault : Fault) → known ≡ true → Works run.made moment run.workers true (Some false) before after benches told left remaining rest faults more (Err fault) → WorksWith run known moment before after benches told left remaining rest faults more (Err fault)
   undone_packing fault is works = λ old new count now. (Some false, (is, works old new count now))
 
   -- with none
@@ -41,9 +41,9 @@ pub ran_packed : (run : JobRun) (known : Bool) (moment before jobs_at packed_at 
     → IsLaidFrom run known told done.jobs.layout done.jobs.floor → PacksFrom jobs_at packed_at (Rose benches_at benches_then) left packed behind → jobs_at ≤ packed_at → RoseBy 0 benches_at benches_then → last ≡ packed → benches_now ≡ benches_then → packed_at ≤ after
     → IsCheckedIf run.check (Rose packed_at after) done.jobs.layout done.jobs.youngest packed unsound
     → PrintsChecked done.jobs.answers.items (record { packed = Some (told_shards done.jobs.layout done.jobs.floor done.beside behind); sound = run.check && is_sound unsound }) done.jobs.youngest old new count now ended
-    → RunsPacked run known moment before after 0 benches_now (run_scene told remaining faults old count) (run_scene last rest more new now) (record { ended = ended; unpacked = first_fault (fault_beside done.beside) (fault_behind behind); unsound = unsound })
+    → RunsPacked run known moment before after 0 benches_now (run_scene told remaining faults old count) (run_scene last rest more new now) (record { ended = ended; unpacked = first_fault (fault_beside done.beside) (fault_behind behind); unsound = unsound; unread = None; other = None })
 ran_packed run known moment before jobs_at packed_at after benches_at benches_then benches_now told left packed last remaining rest faults more done old new count now ended behind unsound works calls laid packs later risen same benches until sound printed =
-    let end : JobsEnd = record { ended = ended; unpacked = first_fault (fault_beside done.beside) (fault_behind behind); unsound = unsound } in
+    let end : JobsEnd = record { ended = ended; unpacked = first_fault (fault_beside done.beside) (fault_behind behind); unsound = unsound; unread = None; other = None } in
     subst (λ (t : Option Trace). RunsPacked run known moment before after 0 benches_now (run_scene told remaining faults old count) (run_scene t rest more new now) end) (sym same)
     (subst (λ (k : ℕ). RunsPacked run known moment before after 0 k (run_scene told remaining faults old count) (run_scene packed rest more new now) end) (sym benches)
     (ends.Ran done.jobs.answers.items done.jobs.youngest done.jobs.floor done.jobs.layout done.beside left behind jobs_at packed_at benches_at ended unsound (λ written failed end lines. works old written count failed end lines) calls laid packs later risen until sound printed))

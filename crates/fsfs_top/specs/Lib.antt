@@ -10,4 +10,5 @@ pub mod Command
 pub mod Replies
 pub mod Checks
 pub mod PackedTold
+pub mod Trees
 pub mod Scripts

@@ -1,5 +1,5 @@
 // A run of svnjobs with a check behind its jobs.
-ghost use Rattle.std.specs.Prelude.{◌≡◌, ◌⊎◌, ◌≤◌, None, true, IfOk, IsTrue};
+ghost use Rattle.std.specs.Prelude.{◌≡◌, ◌⊎◌, ◌≤◌, None, true, IfOk, IfSome, IsTrue};
 ghost use Rattle.fsfs_layout.specs.declared.opened.Opened.{Opened};
 ghost use Rattle.fsfs_turn.specs.Mountings.{RoseBy};
 ghost use Rattle.fsfs_workers.specs.Openings.{OpensAs};
@@ -14,7 +14,7 @@ use fsfs_check::check;
 use fsfs_cli::{Fault, JobRun};
 use fsfs_disk::Disk;
 use fsfs_layout::Layout;
-use fsfs_workers::{Ending, JobsDone, do_script, do_script_by_two, tell};
+use fsfs_workers::{Ending, JobsDone, NumberedAnswer, do_script, do_script_by_two, tell};
 use std::alloc::Global;
 use std::sync::Wait;
 use std::thread::Threads;
@@ -28,12 +28,16 @@ pub struct JobsEnd {
     pub unpacked: Option<Fault>,
     /// What a check behind the jobs found wrong, or why it came to no end; none where it found nothing wrong, and where there was none.
     pub unsound: Option<Fault>,
+    /// Why the tree behind made jobs was not read whole; none where it was, and where a script was run.
+    pub unread: Option<Fault>,
+    /// Of made jobs the first that was neither committed nor clashed; none of a script.
+    pub other: Option<NumberedAnswer>,
 }
 
 impl JobsEnd {
     /// The end of a run in which nothing was packed, and nothing checked.
     pub(crate) fn of_jobs(ended: Result<u8, Fault>) -> JobsEnd
-        ensures { result ≡ record { ended = ended; unpacked = None; unsound = None } }
+        ensures { result ≡ record { ended = ended; unpacked = None; unsound = None; unread = None; other = None } }
     {
         let unpacked = None;
         let unsound = None;
@@ -41,11 +45,13 @@ impl JobsEnd {
             ended,
             unpacked,
             unsound,
+            unread: None,
+            other: None,
         }
     }
 }
 
-/// Opens the repository on a disk, reads the script in the input, and does its jobs, by one worker or by two.
+/// Opens the repository on a disk, reads the script in the input or makes the jobs, and does them, by one worker or by two.
 pub(crate) fn do_on<T: Threads + Wait + Sync, D: Disk + Drop + Send, I: Source, G: Gate + Sync>(
     rt: &T,
     alloc: Global,
@@ -60,6 +66,7 @@ where
     D::Bench: Send,
     requires right { IsTrue (D.may_write disk) }
     requires workers { (1 ≤ job_run.now.workers) × (job_run.now.workers ≤ 2) }
+    requires few { IfSome job_run.now.made (λ m. m.count ≤ 4096) }
     requires moment { micros ≤ 4102444799999999 }
     requires knows { known ≡ true → HasHistory (D.trace disk) }
     ensures works { WorksBy job_run.now known micros (D.faults disk) (D.faults result.0) (λ n. RoseBy n 0 (D.bench_faults result.0)) (D.trace disk) (D.trace result.0) (I.remaining input.old) (I.remaining input.new) (I.faults input.old) (I.faults input.new) result.1 }
@@ -68,9 +75,9 @@ where
     ensures mounted { D.mount_path result.0 ≡ D.mount_path disk }
 {
     if job_run.workers == 1 {
-        do_script(alloc, disk, input, micros, gate)
+        do_script(alloc, disk, job_run.made, input, micros, gate)
     } else {
-        do_script_by_two(rt, alloc, disk, input, micros, gate, known)
+        do_script_by_two(rt, alloc, disk, job_run.made, input, micros, gate, known)
     }
 }
 
@@ -118,6 +125,7 @@ where
     D::Bench: Send,
     requires right { IsTrue (D.may_write disk) }
     requires workers { (1 ≤ job_run.now.workers) × (job_run.now.workers ≤ 2) }
+    requires few { IfSome job_run.now.made (λ m. m.count ≤ 4096) }
     requires moment { micros ≤ 4102444799999999 }
     requires knows { known ≡ true → HasHistory (D.trace disk) }
     ensures ran { RunsChecked job_run.now known micros (D.faults disk) (D.faults result.0) (λ n. RoseBy n 0 (D.bench_faults result.0)) (run_scene (D.trace disk) (I.remaining input.old) (I.faults input.old) (O.written out.old) (O.faults out.old))
@@ -138,6 +146,8 @@ where
         ended,
         unpacked,
         unsound,
+        unread: None,
+        other: None,
     };
     (disk, end)
 }

@@ -1,5 +1,5 @@
-// The run of a job script.
-ghost use Rattle.std.specs.Prelude.{◌≡◌, ◌≢◌, ◌≤◌, ℕ, List, map, string_bytes, true, IsTrue};
+// The run of a job script, or of made jobs.
+ghost use Rattle.std.specs.Prelude.{◌≡◌, ◌≢◌, ◌≤◌, ℕ, List, map, string_bytes, true, IfSome, IsTrue};
 ghost use Rattle.fsfs_cli.specs.Readings.{Asks};
 ghost use Rattle.fsfs_cli.specs.declared.request.JobRun.{JobRun};
 ghost use Rattle.fsfs_cli.specs.declared.request.Task.TheVariants.{RunJobs};
@@ -10,6 +10,7 @@ ghost use Rattle.fsfs_top.specs.Scenes.{scene, source_scene};
 ghost use Rattle.fsfs_top.specs.Scripts.{DidJobs, HasHistory, RunIsDecided, RunsAsAsked, RunsAt, RunsBy};
 
 use crate::checked::{JobsEnd, run_checked};
+use crate::made::run_made;
 use crate::packed::run_packed;
 use fsfs_base::{Clock, Gate, Sink, Source};
 use fsfs_cli::{Fault, JobRun, OutsideFault, Task, Tool, read_words};
@@ -35,6 +36,7 @@ where
     D::Bench: Send,
     requires right { IsTrue (D.may_write disk) }
     requires workers { (1 ≤ job_run.now.workers) × (job_run.now.workers ≤ 2) }
+    requires few { IfSome job_run.now.made (λ m. m.count ≤ 4096) }
     requires moment { micros ≤ 4102444799999999 }
     requires knows { known ≡ true → HasHistory (D.trace disk) }
     ensures ran { RunsBy job_run.now known micros (D.faults disk) (D.faults result.0) (λ n. RoseBy n 0 (D.bench_faults result.0)) (run_scene (D.trace disk) (I.remaining input.old) (I.faults input.old) (O.written out.old) (O.faults out.old))
@@ -42,13 +44,23 @@ where
     ensures mounted { D.mount_path result.0 ≡ D.mount_path disk }
 {
     if job_run.workers == 1 {
-        run_script(alloc, disk, input, micros, out, gate)
+        run_script(alloc, disk, job_run.made, input, micros, out, gate)
     } else {
-        run_script_by_two(rt, alloc, disk, input, micros, out, gate, known)
+        run_script_by_two(
+            rt,
+            alloc,
+            disk,
+            job_run.made,
+            input,
+            micros,
+            out,
+            gate,
+            known,
+        )
     }
 }
 
-// Runs the script in the input over the repository on a disk, as it is asked for.
+// Runs the script in the input, or made jobs, over the repository on a disk, as it is asked for.
 fn run_on<T: Threads + Wait + Sync, D: Disk + Drop + Send, I: Source, O: Sink, G: Gate + Sync>(
     rt: &T,
     alloc: Global,
@@ -64,12 +76,16 @@ where
     D::Bench: Send,
     requires right { IsTrue (D.may_write disk) }
     requires workers { (1 ≤ job_run.now.workers) × (job_run.now.workers ≤ 2) }
+    requires few { IfSome job_run.now.made (λ m. m.count ≤ 4096) }
     requires moment { micros ≤ 4102444799999999 }
     requires knows { known ≡ true → HasHistory (D.trace disk) }
     ensures ran { RunsAsAsked job_run.now known micros (D.faults disk) (D.faults result.0) 0 (D.bench_faults result.0) (run_scene (D.trace disk) (I.remaining input.old) (I.faults input.old) (O.written out.old) (O.faults out.old))
         (run_scene (D.trace result.0) (I.remaining input.new) (I.faults input.new) (O.written out.new) (O.faults out.new)) result.1 }
     ensures mounted { D.mount_path result.0 ≡ D.mount_path disk }
 {
+    if job_run.made.is_some() {
+        return run_made(rt, alloc, disk, job_run, input, micros, out, gate, known);
+    }
     if job_run.pack {
         return run_packed(rt, alloc, disk, job_run, input, micros, out, gate, known);
     }
@@ -80,7 +96,7 @@ where
     (disk, JobsEnd::of_jobs(ended))
 }
 
-// Mounts a path, and runs the script in the input over the repository there.
+// Mounts a path, and runs the script in the input, or made jobs, over the repository there.
 fn run_at<T: Threads + Wait + Sync, H: Host, I: Source, O: Sink, C: Clock, G: Gate + Sync>(
     rt: &T,
     alloc: Global,
@@ -97,6 +113,7 @@ where
     H::Mounted: Drop + Send,
     <H::Mounted as Disk>::Bench: Send,
     requires workers { (1 ≤ job_run.now.workers) × (job_run.now.workers ≤ 2) }
+    requires few { IfSome job_run.now.made (λ m. m.count ≤ 4096) }
     requires knows { known ≡ true → HasHistory (H.disk_at host.old repos.now) }
     ensures ran { RunsAt repos.now job_run.now known (C.next clock.old) (scene H.Host O.Sink host.old out.old (source_scene I.Source input.old)) (scene H.Host O.Sink host.new out.new (source_scene I.Source input.new)) result }
     ensures decided { RunIsDecided job_run.now known (H.disk_at host.old repos.now) result.ended }

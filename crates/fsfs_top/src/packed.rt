@@ -1,5 +1,5 @@
 // A run of svnjobs with packs beside its jobs, and behind them.
-ghost use Rattle.std.specs.Prelude.{◌≡◌, ◌≤◌, ◌&&◌, ℕ, Result, Some, length, true, IfOk, IsTrue};
+ghost use Rattle.std.specs.Prelude.{◌≡◌, ◌≤◌, ◌&&◌, ℕ, Result, Some, length, true, IfOk, IfSome, IsTrue};
 ghost use Rattle.fsfs_base.specs.Failures.{Rose};
 ghost use Rattle.fsfs_cli.specs.declared.faults.fault.Fault.{Fault};
 ghost use Rattle.fsfs_turn.specs.Mountings.{RoseBy};
@@ -19,15 +19,15 @@ use std::alloc::Global;
 use std::sync::Wait;
 use std::thread::Threads;
 
-// What became of jobs, and what the packs beside them came to, if there were any.
+/// What became of jobs, and what the packs beside them came to, if there were any.
 #[derive(Drop)]
-struct JobsBeside {
-    jobs: JobsDone,
-    beside: Option<Packs>,
+pub(crate) struct JobsBeside {
+    pub(crate) jobs: JobsDone,
+    pub(crate) beside: Option<Packs>,
 }
 
-// Why packing stopped: the first fault of the calls beside the jobs, or that of the call behind them.
-fn why_unpacked(beside: Option<Packs>, last: Result<Packed, Fault>) -> Option<Fault>
+/// Why packing stopped: the first fault of the calls beside the jobs, or that of the call behind them.
+pub(crate) fn why_unpacked(beside: Option<Packs>, last: Result<Packed, Fault>) -> Option<Fault>
     ensures { result ≡ first_fault (fault_beside beside) (fault_behind last) }
 {
     if let Some(packs) = beside {
@@ -54,8 +54,8 @@ fn risen(layout: Layout, was: RevNum, packed: &Packed) -> u64
         .saturating_add(u64::from(higher / layout.shard_size()))
 }
 
-// How many shards are told to be packed in a run that began at this floor.
-fn shards_of(
+/// How many shards are told to be packed in a run that began at this floor.
+pub(crate) fn shards_of(
     layout: Layout,
     was: RevNum,
     beside: Option<Packs>,
@@ -72,8 +72,8 @@ fn shards_of(
     }
 }
 
-// Whether a check was asked for that found nothing wrong.
-fn is_told_sound(job_run: &JobRun, unsound: &Option<Fault>) -> bool
+/// Whether a check was asked for that found nothing wrong.
+pub(crate) fn is_told_sound(job_run: &JobRun, unsound: &Option<Fault>) -> bool
     ensures { result ≡ (job_run.now.check && is_sound unsound.now) }
 {
     job_run.check && unsound.is_none()
@@ -94,9 +94,9 @@ fn ending_of(
     Ending { packed, sound }
 }
 
-// Opens the repository on a disk, reads the script in the input, and does its jobs. Where the files are known to stand for a history, if the
-// disk tells them, one more pass packs beside them, as often as there are jobs.
-fn do_beside<T: Threads + Wait + Sync, D: Disk + Drop + Send, I: Source, G: Gate + Sync>(
+/// Opens the repository on a disk, reads the script in the input, and does its jobs. Where the files are known to stand for a history, if the
+/// disk tells them, one more pass packs beside them, as often as there are jobs.
+pub(crate) fn do_beside<T: Threads + Wait + Sync, D: Disk + Drop + Send, I: Source, G: Gate + Sync>(
     rt: &T,
     alloc: Global,
     disk: D,
@@ -110,6 +110,7 @@ where
     D::Bench: Send,
     requires right { IsTrue (D.may_write disk) }
     requires workers { (1 ≤ job_run.now.workers) × (job_run.now.workers ≤ 2) }
+    requires few { IfSome job_run.now.made (λ m. m.count ≤ 4096) }
     requires moment { micros ≤ 4102444799999999 }
     requires knows { known ≡ true → HasHistory (D.trace disk) }
     ensures works { WorksWith job_run.now known micros (D.faults disk) (D.faults result.0) (λ n. RoseBy n 0 (D.bench_faults result.0)) (D.trace disk) (D.trace result.0) (I.remaining input.old) (I.remaining input.new) (I.faults input.old) (I.faults input.new) result.1 }
@@ -119,7 +120,16 @@ where
     ensures mounted { D.mount_path result.0 ≡ D.mount_path disk }
 {
     if known {
-        let (disk, done) = do_script_packing(rt, alloc, disk, input, micros, gate, job_run.workers);
+        let (disk, done) = do_script_packing(
+            rt,
+            alloc,
+            disk,
+            job_run.made,
+            input,
+            micros,
+            gate,
+            job_run.workers,
+        );
         return match done {
             Ok(PackedJobs { done, packs }) => {
                 let jobs = done;
@@ -139,8 +149,8 @@ where
     }
 }
 
-// Checks all revisions of the repository that a disk has behind these jobs, where that is asked for, and gives the disk back.
-fn check_if<T: Threads, D: Disk>(
+/// Checks all revisions of the repository that a disk has behind these jobs, where that is asked for, and gives the disk back.
+pub(crate) fn check_if<T: Threads, D: Disk>(
     rt: &T,
     alloc: Global,
     disk: D,
@@ -168,7 +178,7 @@ fn tell_of<O: Sink>(
     last: Result<Packed, Fault>,
     unsound: Option<Fault>,
 ) -> JobsEnd
-    ensures { (ended : Result ℕ Fault) × (result ≡ record { ended = ended; unpacked = first_fault (fault_beside done.now.beside) (fault_behind last); unsound = unsound })
+    ensures { (ended : Result ℕ Fault) × (result ≡ record { ended = ended; unpacked = first_fault (fault_beside done.now.beside) (fault_behind last); unsound = unsound; unread = None; other = None })
         × PrintsChecked done.now.jobs.answers.items (record { packed = Some (told_shards done.now.jobs.layout done.now.jobs.floor done.now.beside last); sound = job_run.now.check && is_sound unsound }) done.now.jobs.youngest
         (O.written out.old) (O.written out.new) (O.faults out.old) (O.faults out.new) ended }
 {
@@ -179,6 +189,8 @@ fn tell_of<O: Sink>(
         ended,
         unpacked,
         unsound,
+        unread: None,
+        other: None,
     }
 }
 
@@ -206,6 +218,7 @@ where
     D::Bench: Send,
     requires right { IsTrue (D.may_write disk) }
     requires workers { (1 ≤ job_run.now.workers) × (job_run.now.workers ≤ 2) }
+    requires few { IfSome job_run.now.made (λ m. m.count ≤ 4096) }
     requires moment { micros ≤ 4102444799999999 }
     requires knows { known ≡ true → HasHistory (D.trace disk) }
     ensures ran { RunsPacked job_run.now known micros (D.faults disk) (D.faults result.0) 0 (D.bench_faults result.0) (run_scene (D.trace disk) (I.remaining input.old) (I.faults input.old) (O.written out.old) (O.faults out.old))

@@ -11,7 +11,7 @@ ghost use Rattle.fsfs_cli.specs.declared.request.JobRun.{JobRun};
 ghost use Rattle.fsfs_cli.specs.declared.request.Task.TheVariants.{Create, Pack, RemoveTxns, RunJobs};
 ghost use Rattle.fsfs_cli.specs.declared.tool.Tool.TheVariants.{Jobs};
 ghost use Rattle.fsfs_cli.specs.Lines.{status_of};
-ghost use Rattle.fsfs_top.specs.Scripts.{DidJobs, HasHistory, ListsNoOther, TellsEnd, ended_fault, ended_status, status_at};
+ghost use Rattle.fsfs_top.specs.Scripts.{DidJobs, HasHistory, ListsNoOther, TellsEnd, TellsOther, ended_fault, ended_status, status_at};
 ghost use Rattle.fsfs_top.specs.declared.checked.JobsEnd.{JobsEnd};
 ghost use Rattle.fsfs_top.specs.Command.{Created, Did, IsNoneOrStore, LeavesNoneOrCreated, Tells, answer_of, fault_of};
 ghost use Rattle.fsfs_top.specs.Packing.{HoldsHistory};
@@ -30,6 +30,7 @@ use fsfs_cli::{Fault, OutsideFault, Task, Tool, print_fault, read_words, status}
 use fsfs_create::create;
 use fsfs_disk::{Access, Disk, Host};
 use fsfs_layout::Layout;
+use fsfs_workers::{NumberedAnswer, print_other};
 use std::alloc::Global;
 use std::sync::Wait;
 use std::thread::Threads;
@@ -136,16 +137,27 @@ fn tell_ended<E: Sink>(err: &mut E, ended: &Result<u8, Fault>) -> u8
     }
 }
 
-// Writes the lines about the faults of a run of svnjobs, and gives the program's status: why packing stopped first, then what the check found
-// wrong.
+// Writes the line of a job, if there is one.
+fn tell_other<E: Sink>(err: &mut E, other: &Option<NumberedAnswer>)
+    ensures { TellsOther (sink_scene E.Sink err.old) (sink_scene E.Sink err.new) other.now }
+{
+    if let Some(other) = other {
+        let _ = print_other(err, other);
+    }
+}
+
+// Writes the lines about the faults of a run of svnjobs, and gives the program's status: of made jobs first the line of the first that was
+// neither committed nor clashed; then why packing stopped, what the check found wrong, and why the tree was not read.
 fn tell_end<E: Sink>(err: &mut E, end: &JobsEnd) -> u8
     ensures status { result ≡ status_at end.now }
     ensures told { TellsEnd Jobs (sink_scene E.Sink err.old) (sink_scene E.Sink err.new) end.now }
 {
+    tell_other(err, &end.other);
     let of_packs = tell_fault(err, &end.unpacked);
     let of_check = tell_fault(err, &end.unsound);
+    let of_tree = tell_fault(err, &end.unread);
     let of_run = tell_ended(err, &end.ended);
-    of_packs.max(of_check.max(of_run))
+    of_packs.max(of_check.max(of_tree.max(of_run)))
 }
 
 // The call of a program that has commands.
@@ -283,7 +295,7 @@ where
     ensures labels { tool ≢ Jobs → (path : List ℕ) → ((shard : ℕ) → Asks tool (map string_bytes words.now) path (Create shard) → ⊥) → ((txns : List (ℕ × ℕ)) → Asks tool (map string_bytes words.now) path (RemoveTxns txns) → ⊥)
         → (Asks tool (map string_bytes words.now) path Pack → ⊥) → HasSameLabels (H.disk_at host.old path) (H.disk_at host.new path) }
 
-    // Of svnjobs: what became of the script in the input, of the packs beside and behind it, and what a check found, to which belong the status and a line about each fault.
+    // Of svnjobs: what became of the script in the input or of the made jobs, of the packs beside and behind them, and what a check found, to which belong the status and the lines on the error output.
     // Why a repository is not opened the files decide.
     ensures jobs { tool ≡ Jobs → (end : JobsEnd) × (result ≡ status_at end) × TellsEnd Jobs (sink_scene E.Sink err.old) (sink_scene E.Sink err.new) end
         × DidJobs (map string_bytes words.now) known (C.next clock.old) (scene H.Host O.Sink host.old out.old (source_scene I.Source input.old)) (scene H.Host O.Sink host.new out.new (source_scene I.Source input.new)) end }

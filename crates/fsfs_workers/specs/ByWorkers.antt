@@ -16,7 +16,8 @@ use Rattle.fsfs_job_run.specs.OpenFaults.{OpensBecause}
 use Rattle.fsfs_base.specs.declared.places.open_fault.OpenFault.{OpenFault}
 use Rattle.fsfs_script.specs.declared.job_lines.job.Job.{Job}
 use Rattle.fsfs_script.specs.Errors.{IfReadFault}
-use Rattle.fsfs_script.specs.Whole.{ReadsScript, EndsSource}
+use Rattle.fsfs_script.specs.ToDo.{GivesJobs, EndsInput}
+use Rattle.fsfs_script.specs.declared.making.jobs.Made.{Made}
 use Rattle.fsfs_script.specs.declared.script_error.ScriptError.{ScriptError}
 use Rattle.fsfs_turn.specs.Opening.{opened_at}
 use Rattle.fsfs_turn.specs.declared.since.Since.{Since}
@@ -82,24 +83,24 @@ KeepsEarlier least packs old new = IfSome old (λ a. IfSome new (λ b. (l : Labe
 
 -- A run by its status or its fault, over what is told of the disk: as of one worker, but for what is told of the jobs. The repository is opened first. Where
 -- `packs` is Some, one more pass packed beside the jobs.
-pub data RunsBeside (moment workers : ℕ) (known : Bool) (packs : Option Bool) (before after : ℕ) (benches : ℕ → Type 0) (a b : RunScene) : Result ℕ Fault → Type 0 where
+pub data RunsBeside (made : Option Made) (moment workers : ℕ) (known : Bool) (packs : Option Bool) (before after : ℕ) (benches : ℕ → Type 0) (a b : RunScene) : Result ℕ Fault → Type 0 where
   -- the repository is not opened, and nothing is read
-  NotOpened : (why : OpenFault) → OpensBecause (Rose before after) a.trace why → DoesNotOpen a.trace why → IsUntouched a b → b.remaining ≡ a.remaining → RunsBeside moment workers known packs before after benches a b (Err (fault_from_open why))
-  -- it was opened, and what was read is no script
-  NotRead : (o : Opened) (error : ScriptError) → OpensAs a.trace o → ReadsScript a.remaining (Err error) → IfReadFault error (Rose a.read_faults b.read_faults) → IsUntouched a b → RunsBeside moment workers known packs before after benches a b (Err (fault_from_script error))
+  NotOpened : (why : OpenFault) → OpensBecause (Rose before after) a.trace why → DoesNotOpen a.trace why → IsUntouched a b → b.remaining ≡ a.remaining → RunsBeside made moment workers known packs before after benches a b (Err (fault_from_open why))
+  -- it was opened, and what was read is no script; or there is no memory for the jobs
+  NotRead : (o : Opened) (error : ScriptError) → OpensAs a.trace o → GivesJobs made a.remaining (Err error) → IfReadFault error (Rose a.read_faults b.read_faults) → IsUntouched a b → RunsBeside made moment workers known packs before after benches a b (Err (fault_from_script error))
   -- it was opened, and there is no memory for the answers
-  NoRoom : (o : Opened) (js : List Job) → OpensAs a.trace o → ReadsScript a.remaining (Ok js) → IsUntouched a b → RunsBeside moment workers known packs before after benches a b (Err Memory)
-  -- It was opened, the input was read to its end, and its jobs were done; all workers had ended before the first line was printed. As many calls
+  NoRoom : (o : Opened) (js : List Job) → OpensAs a.trace o → GivesJobs made a.remaining (Ok js) → IsUntouched a b → RunsBeside made moment workers known packs before after benches a b (Err Memory)
+  -- It was opened, the input was read to its end (or not at all), and its jobs were done; all workers had ended before the first line was printed. As many calls
   -- of the disk failed as lines tell of, and as many of benches. Whatever failed, of the transactions that were listed those stay so whose number is less
   -- than the one that stood in `txn-current` as the run began, and of such numbers no other comes. Of faults of a pack no line tells.
-  Done : (o : Opened) (js : List Job) (answers : List JobAnswer) (youngest : ℕ) (result : Result ℕ Fault) → OpensAs a.trace o → ReadsScript a.remaining (Ok js) → EndsSource a.remaining b.remaining → length answers ≡ length js
+  Done : (o : Opened) (js : List Job) (answers : List JobAnswer) (youngest : ℕ) (result : Result ℕ Fault) → OpensAs a.trace o → GivesJobs made a.remaining (Ok js) → EndsInput made a.remaining b.remaining → length answers ≡ length js
       → RoseBy (disk_faults_in answers) before after → benches (bench_faults_in answers) → KeepsEarlier o.next_txn.number (is_some packs) (labels_in a) (labels_in b) → RanBesideOver moment workers packs js answers youngest a.trace b.trace → PrintsRun answers youngest a.written b.written a.write_faults b.write_faults result
-      → RunsBeside moment workers known packs before after benches a b result
+      → RunsBeside made moment workers known packs before after benches a b result
   -- A file was gone as it was to get its name, and no line is printed. It is so only where the files weren't known.
-  Lost : known ≡ false → b.written ≡ a.written → b.write_faults ≡ a.write_faults → RunsBeside moment workers known packs before after benches a b (Err (Repository (Small (record { file = Current; at = 0 }))))
+  Lost : known ≡ false → b.written ≡ a.written → b.write_faults ≡ a.write_faults → RunsBeside made moment workers known packs before after benches a b (Err (Repository (Small (record { file = Current; at = 0 }))))
 
--- A RUN OF A SCRIPT BY SO MANY WORKERS, by its status or its fault. `known` says that the files, where the disk tells them, were known to stand
+-- A RUN OF A SCRIPT, or of made jobs (`made`), BY SO MANY WORKERS, by its status or its fault. `known` says that the files, where the disk tells them, were known to stand
 -- for a history; else nothing is told of the disk but its counts of faults: the one of its own went from `before` to `after`, and `benches` says that so many
 -- calls of benches failed at least. `packs` is None where nobody packed beside the jobs, else whether that left the lock stuck.
-abbrev pub RunsByWorkers : ℕ → ℕ → Bool → Option Bool → ℕ → ℕ → (ℕ → Type 0) → RunScene → RunScene → Result ℕ Fault → Type 0
-RunsByWorkers moment workers known packs before after benches a b ended = RunsBeside moment workers known packs before after benches (scene_where known a) (scene_where known b) ended
+abbrev pub RunsByWorkers : Option Made → ℕ → ℕ → Bool → Option Bool → ℕ → ℕ → (ℕ → Type 0) → RunScene → RunScene → Result ℕ Fault → Type 0
+RunsByWorkers made moment workers known packs before after benches a b ended = RunsBeside made moment workers known packs before after benches (scene_where known a) (scene_where known b) ended

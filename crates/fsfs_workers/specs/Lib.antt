@@ -16,3 +16,7 @@ pub use Rattle.fsfs_job_run.specs.declared.running.JobsDone
 pub use Rattle.fsfs_jobs.specs.declared.answer.JobAnswer
 pub use Rattle.fsfs_jobs.specs.declared.ending.Ending
 pub use Rattle.fsfs_jobs.specs.Lines as RunTexts
+pub use Rattle.fsfs_jobs.specs.Made as MadeTexts
+pub use Rattle.fsfs_jobs.specs.declared.counts.NumberedAnswer
+pub use Rattle.fsfs_jobs.specs.declared.tree_sum.TreeSum
+pub use Rattle.fsfs_script.specs.declared.making.jobs.Made

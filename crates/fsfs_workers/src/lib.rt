@@ -16,8 +16,8 @@ mod share;
 mod two_workers;
 mod worker;
 
-pub use fsfs_job_run::{JobsDone, do_script, run_script, tell};
-pub use fsfs_jobs::Ending;
+pub use fsfs_job_run::{JobsDone, do_script, run_script, tell, tell_made};
+pub use fsfs_jobs::{Ending, NumberedAnswer, TreeSum, first_other, print_other};
 pub use packing::script::{PackedJobs, do_script_packing};
 pub use packs::Packs;
 pub use running::{do_script_by_two, run_script_by_two};

@@ -15,16 +15,17 @@ use fsfs_base::{Gate, Sink, SmallFault, SmallFile, Source};
 use fsfs_cli::{Fault, RepositoryFault};
 use fsfs_disk::{Disk, QuietDisk};
 use fsfs_job_run::{JobsDone, OpenedShared, SharedRepo, tell_if};
-use fsfs_script::read_script;
+use fsfs_script::{Made, jobs_to_do};
 use std::alloc::Global;
 use std::sync::Wait;
 use std::thread::Threads;
 
-// Opens the repository on a disk, reads a script to its end, and does its jobs.
+// Opens the repository on a disk, reads a script to its end or makes the jobs of a number, and does them.
 fn work_known<R: Threads + Wait + Sync, D: Disk + Drop + Send, I: Source, G: Gate + Sync>(
     rt: &R,
     alloc: Global,
     disk: D,
+    made: Option<Made>,
     input: &mut I,
     micros: u64,
     gate: &G,
@@ -33,9 +34,10 @@ where
     D::Bench: Send,
     requires right { IsTrue (D.may_write disk) }
     requires moment { micros ≤ 4102444799999999 }
+    requires few { IfSome made (λ m. m.count ≤ 4096) }
     // Passes rest on each other, so where the disk tells its files they stand for a history.
     requires stands { IfSome (D.trace disk) (λ t. (h : List Revision) × StandsFor (files_now t) h) }
-    ensures works { Works micros 2 true None (D.faults disk) (D.faults result.0) (λ n. RoseBy n 0 (D.bench_faults result.0)) (D.trace disk) (D.trace result.0) (I.remaining input.old) (I.remaining input.new) (I.faults input.old) (I.faults input.new) result.1 }
+    ensures works { Works made micros 2 true None (D.faults disk) (D.faults result.0) (λ n. RoseBy n 0 (D.bench_faults result.0)) (D.trace disk) (D.trace result.0) (I.remaining input.old) (I.remaining input.new) (I.faults input.old) (I.faults input.new) result.1 }
     // The layout and the floor are those that the opening read.
     ensures laid { IfOk result.1 (λ done. (o : Opened) × OpensAs (D.trace disk) o × (done.layout ≡ o.layout) × (done.floor ≡ o.min_unpacked_rev)) }
     ensures right { IfOk result.1 (λ done. IsTrue (D.may_write result.0)) }
@@ -46,7 +48,7 @@ where
         Ok(opened) => opened,
         Err(unopened) => return (unopened.disk, Err(Fault::from(unopened.why))),
     };
-    let jobs = match read_script(alloc, input) {
+    let jobs = match jobs_to_do(alloc, made, input) {
         Ok(jobs) => jobs,
         Err(error) => return (repo.close(rt, seat), Err(Fault::from(error))),
     };
@@ -62,6 +64,7 @@ fn work_unknown<R: Threads + Wait + Sync, D: Disk + Drop + Send, I: Source, G: G
     rt: &R,
     alloc: Global,
     disk: D,
+    made: Option<Made>,
     input: &mut I,
     micros: u64,
     gate: &G,
@@ -70,12 +73,13 @@ where
     D::Bench: Send,
     requires right { IsTrue (D.may_write disk) }
     requires moment { micros ≤ 4102444799999999 }
-    ensures works { Works micros 2 false None (D.faults disk) (D.faults result.0) (λ n. RoseBy n 0 (D.bench_faults result.0)) (D.trace disk) (D.trace result.0) (I.remaining input.old) (I.remaining input.new) (I.faults input.old) (I.faults input.new) result.1 }
+    requires few { IfSome made (λ m. m.count ≤ 4096) }
+    ensures works { Works made micros 2 false None (D.faults disk) (D.faults result.0) (λ n. RoseBy n 0 (D.bench_faults result.0)) (D.trace disk) (D.trace result.0) (I.remaining input.old) (I.remaining input.new) (I.faults input.old) (I.faults input.new) result.1 }
     ensures right { IfOk result.1 (λ done. IsTrue (D.may_write result.0)) }
     ensures mounted { D.mount_path result.0 ≡ D.mount_path disk }
     ensures later { D.faults disk ≤ D.faults result.0 }
 {
-    let (disk, done) = work_known(rt, alloc, QuietDisk::new(disk), input, micros, gate);
+    let (disk, done) = work_known(rt, alloc, QuietDisk::new(disk), made, input, micros, gate);
     if disk.has_lost() {
         let gone = SmallFault {
             file: SmallFile::Current,
@@ -89,7 +93,8 @@ where
     (disk.into_disk(), done)
 }
 
-/// Opens the repository on a disk, reads a script to its end, and does its jobs by two workers beside each other; both have ended then. A
+/// Opens the repository on a disk, reads a script to its end or makes the jobs of a number, and does them by two workers beside each other; both
+/// have ended then. A
 /// revision that a job adds has as its date the moment, in microseconds after 1970-01-01T00:00:00 UTC. Where the repository isn't opened
 /// or the script isn't read, no job is done.
 ///
@@ -99,6 +104,7 @@ pub fn do_script_by_two<R: Threads + Wait + Sync, D: Disk + Drop + Send, I: Sour
     rt: &R,
     alloc: Global,
     disk: D,
+    made: Option<Made>,
     input: &mut I,
     micros: u64,
     gate: &G,
@@ -108,8 +114,9 @@ where
     D::Bench: Send,
     requires right { IsTrue (D.may_write disk) }
     requires moment { micros ≤ 4102444799999999 }
+    requires few { IfSome made (λ m. m.count ≤ 4096) }
     requires stands { known ≡ true → IfSome (D.trace disk) (λ t. (h : List Revision) × StandsFor (files_now t) h) }
-    ensures works { Works micros 2 known None (D.faults disk) (D.faults result.0) (λ n. RoseBy n 0 (D.bench_faults result.0)) (D.trace disk) (D.trace result.0) (I.remaining input.old) (I.remaining input.new) (I.faults input.old) (I.faults input.new) result.1 }
+    ensures works { Works made micros 2 known None (D.faults disk) (D.faults result.0) (λ n. RoseBy n 0 (D.bench_faults result.0)) (D.trace disk) (D.trace result.0) (I.remaining input.old) (I.remaining input.new) (I.faults input.old) (I.faults input.new) result.1 }
     // The layout and the floor are those that the opening read.
     ensures laid { known ≡ true → IfOk result.1 (λ done. (o : Opened) × OpensAs (D.trace disk) o × (done.layout ≡ o.layout) × (done.floor ≡ o.min_unpacked_rev)) }
     ensures right { IfOk result.1 (λ done. IsTrue (D.may_write result.0)) }
@@ -117,13 +124,14 @@ where
     ensures later { D.faults disk ≤ D.faults result.0 }
 {
     if known {
-        work_known(rt, alloc, disk, input, micros, gate)
+        work_known(rt, alloc, disk, made, input, micros, gate)
     } else {
-        work_unknown(rt, alloc, disk, input, micros, gate)
+        work_unknown(rt, alloc, disk, made, input, micros, gate)
     }
 }
 
-/// Opens the repository on a disk, reads a script to its end, does its jobs by two workers beside each other, and prints what became of them
+/// Opens the repository on a disk, reads a script to its end or makes the jobs of a number, does them by two workers beside each other, and prints
+/// what became of each
 /// when both have ended (`do_script_by_two`). The answer is the greatest status that a job's line asks for.
 pub fn run_script_by_two<
     R: Threads + Wait + Sync,
@@ -135,6 +143,7 @@ pub fn run_script_by_two<
     rt: &R,
     alloc: Global,
     disk: D,
+    made: Option<Made>,
     input: &mut I,
     micros: u64,
     out: &mut O,
@@ -145,12 +154,13 @@ where
     D::Bench: Send,
     requires right { IsTrue (D.may_write disk) }
     requires moment { micros ≤ 4102444799999999 }
+    requires few { IfSome made (λ m. m.count ≤ 4096) }
     requires stands { known ≡ true → IfSome (D.trace disk) (λ t. (h : List Revision) × StandsFor (files_now t) h) }
-    ensures ran { RunsByWorkers micros 2 known None (D.faults disk) (D.faults result.0) (λ n. RoseBy n 0 (D.bench_faults result.0)) (run_scene (D.trace disk) (I.remaining input.old) (I.faults input.old) (O.written out.old) (O.faults out.old))
+    ensures ran { RunsByWorkers made micros 2 known None (D.faults disk) (D.faults result.0) (λ n. RoseBy n 0 (D.bench_faults result.0)) (run_scene (D.trace disk) (I.remaining input.old) (I.faults input.old) (O.written out.old) (O.faults out.old))
         (run_scene (D.trace result.0) (I.remaining input.new) (I.faults input.new) (O.written out.new) (O.faults out.new)) result.1 }
     ensures mounted { D.mount_path result.0 ≡ D.mount_path disk }
     ensures later { D.faults disk ≤ D.faults result.0 }
 {
-    let (disk, done) = do_script_by_two(rt, alloc, disk, input, micros, gate, known);
+    let (disk, done) = do_script_by_two(rt, alloc, disk, made, input, micros, gate, known);
     (disk, tell_if(out, done))
 }

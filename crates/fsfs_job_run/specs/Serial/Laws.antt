@@ -6,6 +6,7 @@ use Rattle.fsfs_turn.specs.Views.{View, Begins}
 use Rattle.fsfs_turn.specs.Alone.{BringsNoDoubt}
 use Rattle.fsfs_script.specs.declared.job_lines.job.Job.{Job}
 use Rattle.fsfs_jobs.specs.Serial.{last_name}
+use Rattle.fsfs_jobs.specs.Made.{committed_in}
 use Rattle.fsfs_jobs.specs.declared.answer.JobAnswer.{JobAnswer}
 use Rattle.fsfs_job_run.specs.Serial.Counts.{IfCounted, StopsOver}
 use Rattle.fsfs_job_run.specs.Serial.Jobs.{RunsJob, RunJobs, NoneFails, IsSerialAt, TellNoDoubt, own_of_all}
@@ -38,3 +39,7 @@ pub record Grows (jobs : List Job) (answers : List JobAnswer) (v u : View) : Typ
 
 abbrev pub RunsGrow : Type 0
 RunsGrow = (moment : ℕ) (jobs : List Job) (answers : List JobAnswer) (v u : View) → RunJobs moment jobs answers v u → Grows jobs answers v u
+
+-- as many answers are counted as committed as tell a revision
+abbrev pub CommitsAreCounted : Type 0
+CommitsAreCounted = (answers : List JobAnswer) → length (own_of_all answers) ≡ committed_in answers

@@ -1,7 +1,7 @@
 //! The laws. Each of these functions does nothing: what it ensures is proved once for all runs.
 ghost use Rattle.fsfs_job_run.specs.Serial.Clashes.{LandedClashesAreClashes};
 ghost use Rattle.fsfs_job_run.specs.Serial.Listed.{NoneIsLeft, AllAreKept, ListingsGoOn};
-ghost use Rattle.fsfs_job_run.specs.Serial.Laws.{RunsAreSerial, RunsGoOn, RunsGrow};
+ghost use Rattle.fsfs_job_run.specs.Serial.Laws.{CommitsAreCounted, RunsAreSerial, RunsGoOn, RunsGrow};
 ghost use Rattle.fsfs_job_run.specs.Serial.Trees.{EditedTreesAreMaps};
 
 /// Jobs one after another, none of which failed, are the serial run of the script.
@@ -17,6 +17,11 @@ pub fn runs_go_on()
 /// Each job has an answer; the history grew by the revisions that are told, and by no others, whatever failed.
 pub fn runs_grow()
     ensures { RunsGrow }
+{}
+
+/// As many answers are counted as committed as tell a revision: so in a run as many revisions came, whatever failed.
+pub fn commits_are_counted()
+    ensures { CommitsAreCounted }
 {}
 
 /// What a job's edits make of a tree of a history is a map of finitely many paths.

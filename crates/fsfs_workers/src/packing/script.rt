@@ -16,7 +16,7 @@ use fsfs_base::{Gate, Source};
 use fsfs_cli::Fault;
 use fsfs_disk::Disk;
 use fsfs_job_run::{JobsDone, OpenedShared, SharedRepo};
-use fsfs_script::read_script;
+use fsfs_script::{Made, jobs_to_do};
 use std::alloc::Global;
 use std::sync::Wait;
 use std::thread::Threads;
@@ -28,8 +28,8 @@ pub struct PackedJobs {
     pub packs: Packs,
 }
 
-/// Opens the repository on a disk whose files are known to stand for a history, if the disk tells them; reads a script to its end; and does its
-/// jobs by one worker or by two, while one pass more packs as often as there are jobs. All have ended then. A revision that a job adds has as
+/// Opens the repository on a disk whose files are known to stand for a history, if the disk tells them; reads a script to its end or makes the jobs
+/// of a number; and does them by one worker or by two, while one pass more packs as often as there are jobs. All have ended then. A revision that a job adds has as
 /// its date the moment, in microseconds after 1970-01-01T00:00:00 UTC. Where the repository isn't opened or the script isn't read, no job is
 /// done, and nothing is packed.
 pub fn do_script_packing<
@@ -41,6 +41,7 @@ pub fn do_script_packing<
     rt: &R,
     alloc: Global,
     disk: D,
+    made: Option<Made>,
     input: &mut I,
     micros: u64,
     gate: &G,
@@ -50,10 +51,11 @@ where
     D::Bench: Send,
     requires right { IsTrue (D.may_write disk) }
     requires moment { micros ≤ 4102444799999999 }
+    requires few { IfSome made (λ m. m.count ≤ 4096) }
     // Passes rest on each other, so where the disk tells its files they stand for a history.
     requires stands { IfSome (D.trace disk) (λ t. (h : List Revision) × StandsFor (files_now t) h) }
     requires workers { (1 ≤ workers) × (workers ≤ 2) }
-    ensures works { WorksPacking micros workers (D.faults disk) (D.faults result.0) (λ n. RoseBy n 0 (D.bench_faults result.0)) (D.trace disk) (D.trace result.0) (I.remaining input.old) (I.remaining input.new) (I.faults input.old) (I.faults input.new) result.1 }
+    ensures works { WorksPacking made micros workers (D.faults disk) (D.faults result.0) (λ n. RoseBy n 0 (D.bench_faults result.0)) (D.trace disk) (D.trace result.0) (I.remaining input.old) (I.remaining input.new) (I.faults input.old) (I.faults input.new) result.1 }
     // It was packed as often as lines are told, and this is what that came to. A bench is told to have failed where the count of those isn't 0: what was counted
     // before is left out of that.
     ensures packs { IfOk result.1 (λ d. PackedOften (length d.done.answers.items) d.packs (Rose (D.faults disk) (D.faults result.0)) (Rose 0 (D.bench_faults result.0))) }
@@ -67,7 +69,7 @@ where
         Ok(opened) => opened,
         Err(unopened) => return (unopened.disk, Err(Fault::from(unopened.why))),
     };
-    let jobs = match read_script(alloc, input) {
+    let jobs = match jobs_to_do(alloc, made, input) {
         Ok(jobs) => jobs,
         Err(error) => return (repo.close(rt, seat), Err(Fault::from(error))),
     };

@@ -20,18 +20,18 @@ use Rattle.fsfs_job_run.proofs.running.do_script.Goals as goal
 pub returns-in-Err-clause-works : goal.returns-in-Err-clause-works
 returns-in-Err-clause-works g c = unopened c.args.micros _ _ _ _ _ (g.I.Source.remaining c.args.input.now) (g.I.Source.remaining c.args.input.now) (g.I.Source.faults c.args.input.now) (g.I.Source.faults c.args.input.now) c.in-Err.unopened.why c.from.result c.from.ensures c.in-Err.ensures.refused c.in-Err.ensures.left
 
-pub returns-in-Err-read_script-clause-works : goal.returns-in-Err-read_script-clause-works
-returns-in-Err-read_script-clause-works g c =
+pub returns-in-Err-jobs_to_do-clause-works : goal.returns-in-Err-jobs_to_do-clause-works
+returns-in-Err-jobs_to_do-clause-works g c =
     let told = g.D.Disk.trace in
     let o = c.in-Ok.opened in
     let firm : FailsAt FirmNames (told c.args.disk) (told c.close.result) = subst (λ d. FailsAt FirmNames (told c.args.disk) (told d)) (sym c.close.ensures) (firm_fails FirmNames (told c.args.disk) (told o.repo.turns.disk) c.in-Ok.ensures.firm) in
-    unread c.args.micros _ _ _ _ _ _ _ _ _ o.said c.in-Err-read_script.error c.from-in-Err-read_script.result c.from-in-Err-read_script.ensures c.in-Ok.ensures.opened c.in-Err-read_script.ensures.read c.in-Err-read_script.ensures.cause.failed firm
+    unread c.args.micros _ _ _ _ _ _ _ _ _ o.said c.in-Err-jobs_to_do.error c.from-in-Err-jobs_to_do.result c.from-in-Err-jobs_to_do.ensures c.in-Ok.ensures.opened c.in-Err-jobs_to_do.ensures.given c.in-Err-jobs_to_do.ensures.cause.failed firm
 
 pub returns-in-Ok-done-clause-works : goal.returns-in-Ok-done-clause-works
 returns-in-Ok-done-clause-works g c =
     let told = g.D.Disk.trace in
     let o = c.in-Ok.opened in
-    let js = c.in-Ok-read_script.jobs in
+    let js = c.in-Ok-jobs_to_do.jobs in
     let done = c.in-Ok-done.done in
     let answers = done.answers.items in
     let given : c.as_slice.result.now ≡ js = c.as_slice.ensures in
@@ -49,8 +49,8 @@ returns-in-Ok-done-clause-works g c =
     (c.do_jobs-disk.ensures.listed least (let s = o.repo.turns in opened_given (KnowsAlone s.layout s.floor s.young s.stuck (g.D.Disk.trace s.disk)) (told c.args.disk) least c.in-Ok.ensures.known next))) in
     let rose = if_ok c.do_jobs-disk.result.1 done _ c.in-Ok-done.is c.do_jobs-disk.ensures.benches in
     let benches : RoseBy (bench_faults_in answers) 0 (g.D.Disk.bench_faults c.do_jobs-disk.result.0) = omega (arith, rose) in
-    worked c.args.micros (count c.args.disk) now (λ n. RoseBy n 0 (g.D.Disk.bench_faults c.do_jobs-disk.result.0)) (told c.args.disk) (told c.do_jobs-disk.result.0) (g.I.Source.remaining c.args.input.now) (g.I.Source.remaining c.read_script.new.source) (g.I.Source.faults c.args.input.now) (g.I.Source.faults c.read_script.new.source)
-    o.said js done c.in-Ok.ensures.opened c.in-Ok-read_script.ensures.read c.in-Ok-read_script.ensures.whole each failed (calm_all answers (count c.args.disk) now failed) benches listed over
+    worked c.args.micros (count c.args.disk) now (λ n. RoseBy n 0 (g.D.Disk.bench_faults c.do_jobs-disk.result.0)) (told c.args.disk) (told c.do_jobs-disk.result.0) (g.I.Source.remaining c.args.input.now) (g.I.Source.remaining c.jobs_to_do.new.source) (g.I.Source.faults c.args.input.now) (g.I.Source.faults c.jobs_to_do.new.source)
+    o.said js done c.in-Ok.ensures.opened c.in-Ok-jobs_to_do.ensures.given c.in-Ok-jobs_to_do.ensures.whole each failed (calm_all answers (count c.args.disk) now failed) benches listed over
 
 pub returns-in-Ok-done-clause-laid : goal.returns-in-Ok-done-clause-laid
 returns-in-Ok-done-clause-laid g c =
@@ -64,10 +64,10 @@ returns-clause-works g c =
     let o = c.in-Ok.opened in
     let same = on_err c.do_jobs-disk.result.1 c.in-Err-done.field-0 _ c.in-Err-done.is c.do_jobs-disk.ensures.none in
     let firm : FailsAt FirmNames (told c.args.disk) (told c.do_jobs-disk.result.0) = subst (FailsAt FirmNames (told c.args.disk)) (sym same) (firm_fails FirmNames (told c.args.disk) (told o.repo.turns.disk) c.in-Ok.ensures.firm) in
-    unroomed c.args.micros _ _ _ _ _ _ _ _ _ o.said c.in-Ok-read_script.jobs c.in-Ok.ensures.opened c.in-Ok-read_script.ensures.read firm
+    unroomed c.args.micros _ _ _ _ _ _ _ _ _ o.said c.in-Ok-jobs_to_do.jobs c.in-Ok.ensures.opened c.in-Ok-jobs_to_do.ensures.given firm
 
 pub returns-in-Err-clause-right : goal.returns-in-Err-clause-right
 returns-in-Err-clause-right g c = subst IsTrue (sym c.in-Err.ensures.right) c.requires.right
 
-pub returns-in-Err-read_script-clause-right : goal.returns-in-Err-read_script-clause-right
-returns-in-Err-read_script-clause-right g c = subst (λ d. IsTrue (g.D.Disk.may_write d)) (sym c.close.ensures) c.in-Ok.opened.repo.turns.writes
+pub returns-in-Err-jobs_to_do-clause-right : goal.returns-in-Err-jobs_to_do-clause-right
+returns-in-Err-jobs_to_do-clause-right g c = subst (λ d. IsTrue (g.D.Disk.may_write d)) (sym c.close.ensures) c.in-Ok.opened.repo.turns.writes

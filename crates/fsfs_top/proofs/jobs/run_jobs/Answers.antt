@@ -20,6 +20,12 @@ run_at-requires-clause-workers g c κs within =
     let repos = c.in-Ok.request.repos.now in
     (asks_task Jobs words repos (RunJobs c.in-RunJobs.job_run) (subst (Asks Jobs words repos) c.in-RunJobs.is c.in-Ok.ensures)).1
 
+pub run_at-requires-clause-few : goal.run_at-requires-clause-few
+run_at-requires-clause-few g c κs within =
+    let words = map string_bytes c.args.words.now in
+    let repos = c.in-Ok.request.repos.now in
+    (asks_task Jobs words repos (RunJobs c.in-RunJobs.job_run) (subst (Asks Jobs words repos) c.in-RunJobs.is c.in-Ok.ensures)).2
+
 pub returns : goal.returns
 returns g c =
     let repos = c.in-Ok.request.repos.now in
@@ -28,5 +34,5 @@ returns g c =
 
 pub returns-in-Err : goal.returns-in-Err
 returns-in-Err g c =
-    let by : Fault → JobsEnd = λ fault. record { ended = Err fault; unpacked = None; unsound = None } in
+    let by : Fault → JobsEnd = λ fault. record { ended = Err fault; unpacked = None; unsound = None; unread = None; other = None } in
     record { did = inr (c.in-Err.fault, c.of_jobs.ensures ∙ ap by c.from.ensures, c.in-Err.ensures, refl) }

@@ -14,7 +14,7 @@ returns-in-Err-clause-works g c =
     let start = c.args.disk in
     let end = c.do_script_packing-disk.result.0 in
     undone_packing c.args.job_run.now c.args.known c.args.micros (g.D.Disk.faults start) (g.D.Disk.faults end) (λ n. RoseBy n 0 (g.D.Disk.bench_faults end)) (g.D.Disk.trace start) (g.D.Disk.trace end) (g.I.Source.remaining c.args.input.now) (g.I.Source.remaining c.do_script_packing-disk.new.input) (g.I.Source.faults c.args.input.now) (g.I.Source.faults c.do_script_packing-disk.new.input) c.in-Err.fault c.if-known.true
-    (subst (λ (r : Result PackedJobs Fault). WorksPacking c.args.micros c.args.job_run.now.workers (g.D.Disk.faults start) (g.D.Disk.faults end) (λ n. RoseBy n 0 (g.D.Disk.bench_faults end)) (g.D.Disk.trace start) (g.D.Disk.trace end) (g.I.Source.remaining c.args.input.now) (g.I.Source.remaining c.do_script_packing-disk.new.input) (g.I.Source.faults c.args.input.now) (g.I.Source.faults c.do_script_packing-disk.new.input) r) c.in-Err.is c.do_script_packing-disk.ensures.works)
+    (subst (λ (r : Result PackedJobs Fault). WorksPacking c.args.job_run.now.made c.args.micros c.args.job_run.now.workers (g.D.Disk.faults start) (g.D.Disk.faults end) (λ n. RoseBy n 0 (g.D.Disk.bench_faults end)) (g.D.Disk.trace start) (g.D.Disk.trace end) (g.I.Source.remaining c.args.input.now) (g.I.Source.remaining c.do_script_packing-disk.new.input) (g.I.Source.faults c.args.input.now) (g.I.Source.faults c.do_script_packing-disk.new.input) r) c.in-Err.is c.do_script_packing-disk.ensures.works)
 
 pub returns-in-Ok-done-clause-works : goal.returns-in-Ok-done-clause-works
 returns-in-Ok-done-clause-works g c =

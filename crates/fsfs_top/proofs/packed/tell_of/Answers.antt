@@ -1,5 +1,5 @@
 use Rattle.std.proofs.Common.{ap, subst}
-use Rattle.std.specs.Prelude.{Option}
+use Rattle.std.specs.Prelude.{Option, None}
 use Rattle.fsfs_cli.specs.declared.faults.fault.Fault.{Fault}
 use Rattle.fsfs_workers.specs.Ending.{Ending}
 use Rattle.fsfs_workers.specs.Runs.{PrintsChecked}
@@ -8,7 +8,7 @@ use Rattle.fsfs_top.proofs.packed.tell_of.Goals as goal
 
 pub returns : goal.returns
 returns g c =
-    let by : Option Fault → JobsEnd = λ unpacked. record { ended = c.tell-ended.result; unpacked = unpacked; unsound = c.args.unsound } in
+    let by : Option Fault → JobsEnd = λ unpacked. record { ended = c.tell-ended.result; unpacked = unpacked; unsound = c.args.unsound; unread = None; other = None } in
     let jobs = c.args.done.now.jobs in (
       c.tell-ended.result,
       ap by c.why_unpacked-unpacked.ensures,

@@ -26,6 +26,6 @@ returns-clause-works g c =
     let new = c.work_known-disk.new.input in
     let start = c.args.disk in
     let end = c.into_disk-2.result in
-    let works = subst (λ n. Works c.args.micros 2 true None n (count made.0.disk) (λ n. RoseBy n 0 (benches made.0.disk)) None None (remaining old) (remaining new) (failed old) (failed new) made.1) (ap count c.new.ensures.same) c.work_known-disk.ensures.works in
-    unknown c.args.micros 2 None (count start) (count end) (λ n. RoseBy n 0 (benches end)) (told start) (told end) (remaining old) (remaining new) (failed old) (failed new) made.1
-    (subst (λ d. Works c.args.micros 2 true None (count start) (count d) (λ n. RoseBy n 0 (benches d)) None None (remaining old) (remaining new) (failed old) (failed new) made.1) (sym c.into_disk-2.ensures) works)
+    let works = subst (λ n. Works c.args.made c.args.micros 2 true None n (count made.0.disk) (λ n. RoseBy n 0 (benches made.0.disk)) None None (remaining old) (remaining new) (failed old) (failed new) made.1) (ap count c.new.ensures.same) c.work_known-disk.ensures.works in
+    unknown c.args.made c.args.micros 2 None (count start) (count end) (λ n. RoseBy n 0 (benches end)) (told start) (told end) (remaining old) (remaining new) (failed old) (failed new) made.1
+    (subst (λ d. Works c.args.made c.args.micros 2 true None (count start) (count d) (λ n. RoseBy n 0 (benches d)) None None (remaining old) (remaining new) (failed old) (failed new) made.1) (sym c.into_disk-2.ensures) works)

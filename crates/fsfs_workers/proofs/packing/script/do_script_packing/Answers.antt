@@ -39,14 +39,14 @@ run_packing-disk-requires-clause-packs g c κs within =
 pub returns-in-Err-clause-works : goal.returns-in-Err-clause-works
 returns-in-Err-clause-works g c = unopened c.args.micros c.args.workers (Some false) _ _ _ _ _ (g.I.Source.remaining c.args.input.now) (g.I.Source.remaining c.args.input.now) (g.I.Source.faults c.args.input.now) (g.I.Source.faults c.args.input.now) c.in-Err.unopened.why c.from.result c.from.ensures c.in-Err.ensures.refused c.in-Err.ensures.left
 
-pub returns-in-Err-read_script-clause-works : goal.returns-in-Err-read_script-clause-works
-returns-in-Err-read_script-clause-works g c =
+pub returns-in-Err-jobs_to_do-clause-works : goal.returns-in-Err-jobs_to_do-clause-works
+returns-in-Err-jobs_to_do-clause-works g c =
     let told = g.D.Disk.trace in
     let o = c.in-Ok.opened in
     let e = c.in-Ok.ensures in
     let same : told c.close.result ≡ told o.repo.first.value = c.close.ensures.alone (ap {A = Kin} (λ k. k.parts) e.alone) ∙ e.fresh.0 in
     let firm : FailsAt FirmNames (told c.args.disk) (told c.close.result) = subst (FailsAt FirmNames (told c.args.disk)) (sym same) (firm_fails FirmNames (told c.args.disk) (told o.repo.first.value) e.firm) in
-    unread c.args.micros c.args.workers (Some false) _ _ _ _ _ _ _ _ _ o.said c.in-Err-read_script.error c.from-in-Err-read_script.result c.from-in-Err-read_script.ensures e.opened c.in-Err-read_script.ensures.read c.in-Err-read_script.ensures.cause.failed firm
+    unread c.args.micros c.args.workers (Some false) _ _ _ _ _ _ _ _ _ o.said c.in-Err-jobs_to_do.error c.from-in-Err-jobs_to_do.result c.from-in-Err-jobs_to_do.ensures e.opened c.in-Err-jobs_to_do.ensures.given c.in-Err-jobs_to_do.ensures.cause.failed firm
 
 pub returns-in-Ok-done-clause-works : goal.returns-in-Ok-done-clause-works
 returns-in-Ok-done-clause-works g c =
@@ -54,7 +54,7 @@ returns-in-Ok-done-clause-works g c =
     let count = g.D.Disk.faults in
     let o = c.in-Ok.opened in
     let e = c.in-Ok.ensures in
-    let js = c.in-Ok-read_script.jobs in
+    let js = c.in-Ok-jobs_to_do.jobs in
     let packed = c.in-Ok-done.done in
     let done = packed.done in
     let made = c.run_packing-disk.result in
@@ -66,7 +66,7 @@ returns-in-Ok-done-clause-works g c =
     let failed = if_ok made.1 packed _ c.in-Ok-done.is c.run_packing-disk.ensures.benches in
     let benches : RoseBy (bench_faults_in done.answers.items) 0 (g.D.Disk.bench_faults made.0) = omega (arith, failed) in
     let kept = keeps_earlier o.said.next_txn.number true o.repo.board.shared.key.value.seat.since.packs o.repo.board.shared.key.value.seat.given (told c.args.disk) (told o.repo.first.value) o.repo.board.shared.key.value.disk.trace (told made.0) e.firm e.labels.0 e.labels.1 c.run_packing-disk.ensures.labels in
-    worked c.args.micros c.args.workers (Some c.in-Ok-done.done.packs.sticks) (count c.args.disk) (count made.0) (λ n. RoseBy n 0 (g.D.Disk.bench_faults made.0)) (told c.args.disk) (told made.0) (g.I.Source.remaining c.args.input.now) (g.I.Source.remaining c.read_script.new.source) (g.I.Source.faults c.args.input.now) (g.I.Source.faults c.read_script.new.source) o.said js done e.opened c.in-Ok-read_script.ensures.read c.in-Ok-read_script.ensures.whole each rose benches kept over
+    worked c.args.micros c.args.workers (Some c.in-Ok-done.done.packs.sticks) (count c.args.disk) (count made.0) (λ n. RoseBy n 0 (g.D.Disk.bench_faults made.0)) (told c.args.disk) (told made.0) (g.I.Source.remaining c.args.input.now) (g.I.Source.remaining c.jobs_to_do.new.source) (g.I.Source.faults c.args.input.now) (g.I.Source.faults c.jobs_to_do.new.source) o.said js done e.opened c.in-Ok-jobs_to_do.ensures.given c.in-Ok-jobs_to_do.ensures.whole each rose benches kept over
 
 pub returns-clause-works : goal.returns-clause-works
 returns-clause-works g c =
@@ -75,7 +75,7 @@ returns-clause-works g c =
     let e = c.in-Ok.ensures in
     let same = on_err c.run_packing-disk.result.1 c.in-Err-done.field-0 _ c.in-Err-done.is c.run_packing-disk.ensures.none in
     let firm : FailsAt FirmNames (told c.args.disk) (told c.run_packing-disk.result.0) = subst (FailsAt FirmNames (told c.args.disk)) (sym same) (firm_fails FirmNames (told c.args.disk) (told o.repo.first.value) e.firm) in
-    unroomed c.args.micros c.args.workers (Some false) _ _ _ _ _ _ _ _ _ o.said c.in-Ok-read_script.jobs e.opened c.in-Ok-read_script.ensures.read firm
+    unroomed c.args.micros c.args.workers (Some false) _ _ _ _ _ _ _ _ _ o.said c.in-Ok-jobs_to_do.jobs e.opened c.in-Ok-jobs_to_do.ensures.given firm
 
 pub returns-in-Ok-done-clause-laid : goal.returns-in-Ok-done-clause-laid
 returns-in-Ok-done-clause-laid g c =
@@ -88,7 +88,7 @@ returns-in-Ok-done-clause-packs g c =
     let e = c.in-Ok.ensures in
     let packed = c.in-Ok-done.done in
     let made = c.run_packing-disk in
-    let given : c.as_slice.result.now ≡ c.in-Ok-read_script.jobs = c.as_slice.ensures in
+    let given : c.as_slice.result.now ≡ c.in-Ok-jobs_to_do.jobs = c.as_slice.ensures in
     let each = if_ok made.result.1 packed _ c.in-Ok-done.is made.ensures.each in
     subst (λ (n : ℕ). PackedOften n packed.packs (Rose (g.D.Disk.faults c.args.disk) (g.D.Disk.faults made.result.0)) (Rose 0 (g.D.Disk.bench_faults made.result.0))) (sym each)
     (packed_weaker (length c.as_slice.result.now) packed.packs (λ rose. omega (arith, rose, e.later)) (λ rose. omega (arith, rose)) (if_ok made.result.1 packed _ c.in-Ok-done.is made.ensures.packs))
