@@ -1,6 +1,6 @@
 -- A begin of a pass beside others: it is told the youngest revision and reads, and what it knows goes on.
-use Rattle.std.proofs.Common.{◌≡◌, ◌⊎◌, ◌≤◌, ◌<◌, ℕ, List, [], ◌∷◌, length, Bool, false, inl, inr, refl, sym, ap, subst, ◌∙◌, arith}
-use Rattle.std.specs.Prelude.{Some, None, is_some, Option, Result, Ok, Err, IfOk, IfErr, OnOk, OnErr}
+use Rattle.std.proofs.Common.{◌≡◌, ◌⊎◌, ◌≤◌, ◌<◌, ℕ, List, [], ◌∷◌, length, false, inl, inr, refl, sym, ap, subst, ◌∙◌, arith}
+use Rattle.std.specs.Prelude.{Some, None, is_some, Option, Result, Ok, Err, IfOk, IfErr, OnOk, OnErr, option_map}
 use Rattle.fsfs_base.specs.Files.{Files}
 use Rattle.fsfs_revision.specs.Damage.Readings.{Answers}
 use Rattle.fsfs_revision.specs.declared.wrong.ReadError.{ReadError}
@@ -24,7 +24,6 @@ use Rattle.fsfs_machine.specs.declared.machine.Step.TheVariants as step
 use Rattle.fsfs_machine.specs.Kept.{AllBelow, IsIn}
 use Rattle.fsfs_turn.specs.Bytes.{bytes_of}
 use Rattle.fsfs_turn.specs.Courses.{Course, ReadOnly, End as CourseEnd, More as CourseMore}
-use Rattle.fsfs_turn.specs.Labels.{KeepsLabels, Relabels}
 use Rattle.fsfs_turn.specs.Learning.{MayMake}
 use Rattle.fsfs_turn.specs.Views.{View, Begins, Looked, LockTaken, LockGiven, MayGive, Turned, is_held, left_by}
 use Rattle.fsfs_turn.proofs.Locking.{quiet_left}
@@ -226,22 +225,21 @@ all_among name_of root_of held_of known young v a b name l h le (Err e) is w = t
 
 -- ---- the labels, by what the first part left
 
-pub relabels_on : {B E : Type 0} (r : Result B E) (bound then : Bool) (f : List Label → List Label) (old mid new : Option (List Label)) → then ≡ bound → KeepsLabels bound old mid → OnOk r (Relabels then f mid new) → OnOk r (Relabels bound f old new)
-relabels_on (Ok x) bound then f old mid new duty keeps w = record { met = w.met; is_met = λ free. w.is_met (duty ∙ free) ∙ keeps free; made = w.made }
-relabels_on (Err e) bound then f old mid new duty keeps w = tt
+pub relabels_on : {B E : Type 0} (r : Result B E) (f : List Label → List Label) (old mid new : Option (List Label)) → mid ≡ old → OnOk r (new ≡ option_map f mid) → OnOk r (new ≡ option_map f old)
+relabels_on (Ok x) f old mid new keeps w = w ∙ ap (λ o. option_map f o) keeps
+relabels_on (Err e) f old mid new keeps w = tt
 
-pub no_more_among : {B E : Type 0} (r : Result B E) (bound then : Bool) (N : ℕ → Type 0) (base : ℕ) (P Q : Type 0) (old mid new : Option (List Label)) → then ≡ bound → KeepsLabels bound old mid → (P → Q)
-    → OnErr r (then ≡ false → ListsNoMore N base P mid new) → OnErr r (bound ≡ false → ListsNoMore N base Q old new)
-no_more_among (Ok x) bound then N base P Q old mid new duty keeps f w = tt
-no_more_among (Err e) bound then N base P Q old mid new duty keeps f w = λ free. no_more_on N N base P Q old mid new (keeps free) (λ n named. named) f (w (duty ∙ free))
+pub no_more_among : {B E : Type 0} (r : Result B E) (N : ℕ → Type 0) (base : ℕ) (P Q : Type 0) (old mid new : Option (List Label)) → mid ≡ old → (P → Q) → OnErr r (ListsNoMore N base P mid new) → OnErr r (ListsNoMore N base Q old new)
+no_more_among (Ok x) N base P Q old mid new keeps f w = tt
+no_more_among (Err e) N base P Q old mid new keeps f w = no_more_on N N base P Q old mid new keeps (λ n named. named) f w
 
-pub relabels_begun : {B E : Type 0} (name_of : B → TxnName) (name : TxnName) (r : Result B E) (bound then : Bool) (old mid new : Option (List Label)) → then ≡ bound → KeepsLabels bound old mid → IfOk r (λ b. name_of b ≡ name)
-    → OnOk r (Relabels then (with_label (txn_label (pair_of name))) mid new) → IfOk r (λ b. Relabels bound (with_label (txn_label (pair_of (name_of b)))) old new)
-relabels_begun name_of name (Ok b) bound then old mid new duty keeps is w =
-    subst (λ (n : TxnName). Relabels bound (with_label (txn_label (pair_of n))) old new) (sym is) (record { met = w.met; is_met = λ free. w.is_met (duty ∙ free) ∙ keeps free; made = w.made })
-relabels_begun name_of name (Err e) bound then old mid new duty keeps is w = tt
+pub relabels_begun : {B E : Type 0} (name_of : B → TxnName) (name : TxnName) (r : Result B E) (old mid new : Option (List Label)) → mid ≡ old → IfOk r (λ b. name_of b ≡ name)
+    → OnOk r (new ≡ option_map (with_label (txn_label (pair_of name))) mid) → IfOk r (λ b. new ≡ option_map (with_label (txn_label (pair_of (name_of b)))) old)
+relabels_begun name_of name (Ok b) old mid new keeps is w =
+    subst (λ (n : TxnName). new ≡ option_map (with_label (txn_label (pair_of n))) old) (sym is) (w ∙ ap (λ o. option_map (with_label (txn_label (pair_of name))) o) keeps)
+relabels_begun name_of name (Err e) old mid new keeps is w = tt
 
-pub unlisted_among : {B E : Type 0} (r : Result B E) (bound then : Bool) (M N : ℕ → Type 0) (base other : ℕ) (P Q : Type 0) (old mid new : Option (List Label)) → other ≡ base → then ≡ bound → KeepsLabels bound old mid → ((n : ℕ) → M n → N n) → (P → Q)
-    → OnErr r (then ≡ false → ListsNoMore M other P mid new) → OnErr r (bound ≡ false → ListsNoMore N base Q old new)
-unlisted_among (Ok x) bound then M N base other P Q old mid new at duty keeps named f w = tt
-unlisted_among (Err e) bound then M N base other P Q old mid new at duty keeps named f w = λ free. no_more_on M N base P Q old mid new (keeps free) named f (subst (λ (n : ℕ). ListsNoMore M n P mid new) at (w (duty ∙ free)))
+pub unlisted_among : {B E : Type 0} (r : Result B E) (M N : ℕ → Type 0) (base other : ℕ) (P Q : Type 0) (old mid new : Option (List Label)) → other ≡ base → mid ≡ old → ((n : ℕ) → M n → N n) → (P → Q)
+    → OnErr r (ListsNoMore M other P mid new) → OnErr r (ListsNoMore N base Q old new)
+unlisted_among (Ok x) M N base other P Q old mid new at keeps named f w = tt
+unlisted_among (Err e) M N base other P Q old mid new at keeps named f w = no_more_on M N base P Q old mid new keeps named f (subst (λ (n : ℕ). ListsNoMore M n P mid new) at w)

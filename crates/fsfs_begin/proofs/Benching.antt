@@ -1,6 +1,6 @@
 -- The label and the files of a bench that was made or dropped.
-use Rattle.std.proofs.Common.{◌≡◌, ◌≤◌, ℕ, List, Bool, true, false, inl, inr, ⊎_elim, refl, sym, ap, subst, ◌∙◌, arith}
-use Rattle.std.specs.Prelude.{Option, Some, None, IfSome, IfOk, option_map, Result, Ok, Err, OnErr}
+use Rattle.std.proofs.Common.{◌≡◌, ◌≤◌, ℕ, List, Bool, true, inl, inr, ⊎_elim, refl, sym, ap, subst, ◌∙◌, arith}
+use Rattle.std.specs.Prelude.{Option, Some, None, IfSome, IfOk, option_map, Result, Ok, Err, OnErr, OnOk}
 use Rattle.std.specs.FinMap.{empty}
 use Rattle.fsfs_base.specs.Files.{Files}
 use Rattle.fsfs_base.specs.Failures.{Rose}
@@ -8,7 +8,7 @@ use Rattle.fsfs_disk.specs.Labels.{Label, has_label, with_label, without_label}
 use Rattle.fsfs_disk.proofs.LabelLemmas.{has-without, has-with, without-with}
 use Rattle.fsfs_noderev.specs.declared.node_id.NodeId.{NodeId}
 use Rattle.fsfs_begin.specs.Benches.{first_files, with_first_files}
-use Rattle.fsfs_turn.specs.Labels.{Relabels, Drops}
+use Rattle.fsfs_turn.specs.Labels.{Drops}
 use Rattle.fsfs_begin.specs.Faults.{IsDropped}
 use Rattle.fsfs_begin.specs.Labels.{IsUnlisted, ListsNoMore}
 
@@ -36,7 +36,7 @@ filled_now id root new held left empty_is files = files ∙ ap (λ o. option_map
     by_new None = refl
     by_new (Some ls) = refl
 
--- ---- of a pass that is alone, in the labels before
+-- ---- of the labels that a pass answers for
 
 pub came_and_went : (l : Label) (old mid new : Option (List Label)) → mid ≡ option_map (with_label l) old → new ≡ option_map (without_label l) mid → new ≡ option_map (without_label l) old
 came_and_went l old mid new came went = went ∙ ap (λ o. option_map (without_label l) o) came ∙ by_old old
@@ -45,11 +45,10 @@ came_and_went l old mid new came went = went ∙ ap (λ o. option_map (without_l
     by_old None = refl
     by_old (Some ls) = ap (λ xs. Some xs) (without-with l ls)
 
-pub unlisted_now : {E : Type 0} (bound then : Bool) (l : Label) (old mid new : Option (List Label)) (first before now : ℕ) (result : Result Bool E) → bound ≡ false → then ≡ false → first ≤ before
-    → Relabels bound (with_label l) old mid → IfOk result (λ there. Drops then l there mid new) → OnErr result (Rose before now) → IsUnlisted l (Rose first now) old new
-unlisted_now bound then l old mid new first before now (Ok there) free after later kept done failed =
-    inl (came_and_went l old mid new (kept.made ∙ ap (λ o. option_map (with_label l) o) (kept.is_met free)) (done.made ∙ ap (λ o. option_map (without_label l) o) (done.is_met after)))
-unlisted_now bound then l old mid new first before now (Err e) free after later kept done failed = inr (omega (arith, later, failed))
+pub unlisted_now : {E : Type 0} (l : Label) (old mid new : Option (List Label)) (first before now : ℕ) (result : Result Bool E) → first ≤ before
+    → mid ≡ option_map (with_label l) old → OnOk result (new ≡ option_map (without_label l) mid) → OnErr result (Rose before now) → IsUnlisted l (Rose first now) old new
+unlisted_now l old mid new first before now (Ok there) later kept done failed = inl (came_and_went l old mid new kept done)
+unlisted_now l old mid new first before now (Err e) later kept done failed = inr (omega (arith, later, failed))
 
 -- ---- of the whole, by what the first part left
 

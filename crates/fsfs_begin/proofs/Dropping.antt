@@ -1,6 +1,6 @@
 -- A purge from the turn that it makes.
 use Rattle.std.proofs.Common.{◌≡◌, ◌<◌, ℕ, List, length, true, false, sym, subst}
-use Rattle.std.specs.Prelude.{Bool, Option, Some, None, IfSome, option_map}
+use Rattle.std.specs.Prelude.{Option, Some, None, IfSome, option_map}
 use Rattle.fsfs_disk.specs.Labels.{Label, has_label, without_label}
 use Rattle.fsfs_disk.proofs.LabelLemmas.{has-without}
 use Rattle.fsfs_base.specs.declared.places.place.DiskPlace.TheVariants.{Remove}
@@ -10,7 +10,6 @@ use Rattle.fsfs_machine.specs.declared.machine.Went.TheVariants.{Fine, Before, A
 use Rattle.fsfs_machine.specs.Machine.{World, is_fine_in, answer, learns, begun_txn}
 use Rattle.fsfs_machine.specs.Kept.{IsIn}
 use Rattle.fsfs_machine.proofs.Keeps.{begun_is}
-use Rattle.fsfs_turn.specs.Labels.{Relabels, Drops}
 use Rattle.fsfs_turn.specs.Views.{View}
 use Rattle.fsfs_turn.specs.Learning.{Learned, MayPurge, drawn_of}
 use Rattle.fsfs_begin.specs.Purged.{HasPurged, HasNotPurged}
@@ -20,10 +19,6 @@ use Rattle.fsfs_begin.specs.Purged.{HasPurged, HasNotPurged}
 pub gone_now : (l : Label) (old new : Option (List Label)) → new ≡ option_map (without_label l) old → IfSome new (λ ls. has_label l ls ≡ false)
 gone_now l None new is = subst (λ o. IfSome o (λ ls. has_label l ls ≡ false)) (sym is) tt
 gone_now l (Some ls) new is = subst (λ o. IfSome o (λ ls. has_label l ls ≡ false)) (sym is) (has-without l ls)
-
--- what a drop makes of the labels that it met
-pub relabels : (bound : Bool) (l : Label) (there : Bool) (old new : Option (List Label)) → Drops bound l there old new → Relabels bound (without_label l) old new
-relabels bound l there old new d = record { met = d.met; is_met = d.is_met; made = d.made }
 
 -- ---- the transaction
 

@@ -1,12 +1,11 @@
 //! A transaction is begun by turns.
-ghost use Rattle.std.specs.Prelude.{◌≡◌, ◌⊎◌, ◌≤◌, true, false, None, OnOk, OnErr, IfOk, IfErr, IfSome};
+ghost use Rattle.std.specs.Prelude.{◌≡◌, ◌⊎◌, ◌≤◌, true, None, OnOk, OnErr, IfOk, IfErr, IfSome, option_map};
 ghost use Rattle.fsfs_base.specs.Failures.{Rose};
 ghost use Rattle.fsfs_disk.specs.Labels.{has_label, with_label};
 ghost use Rattle.fsfs_disk.specs.Transactions.Txns.{pair_of, txn_label};
 ghost use Rattle.fsfs_begin.specs.Begun.{IsBegunOn};
 ghost use Rattle.fsfs_begin.specs.Benches.{TellsRoot};
 ghost use Rattle.fsfs_turn.specs.Bytes.{bytes_of};
-ghost use Rattle.fsfs_turn.specs.Labels.{Relabels};
 ghost use Rattle.fsfs_turn.specs.Mountings.{RoseBy};
 ghost use Rattle.fsfs_turn.specs.Views.{View};
 ghost use Rattle.fsfs_turn.specs.Learning.{MayMake, drawn_of};
@@ -56,8 +55,8 @@ fn begin_named<R, T: Turns<R>>(
     ensures refused { (v : View) → T.knows turns v → MayMake v (drawn_of name.base name.number.number)
         → IfErr result.1 (λ why. (u : View) × T.knows result.0 u × Moved v u × (u.given ≡ v.given) × Cause name.base why u) }
     ensures dropped { IfErr result.1 (λ why. IfBench why (IsDropped (txn_label (pair_of name)) (T.labels result.0) (Rose (T.faults turns) (T.faults result.0)))) }
-    ensures listed { OnOk result.1 (Relabels (T.bound turns) (with_label (txn_label (pair_of name))) (T.labels turns) (T.labels result.0)) }
-    ensures unlisted { OnErr result.1 (T.bound turns ≡ false → ListsNoMore (λ n. n ≡ name.number.number) name.base (Rose (T.faults turns) (T.faults result.0)) (T.labels turns) (T.labels result.0)) }
+    ensures listed { OnOk result.1 (T.own result.0 ≡ option_map (with_label (txn_label (pair_of name))) (T.own turns)) }
+    ensures unlisted { OnErr result.1 (ListsNoMore (λ n. n ≡ name.number.number) name.base (Rose (T.faults turns) (T.faults result.0)) (T.own turns) (T.own result.0)) }
     ensures mounted { (T.mounting result.0).mount ≡ (T.mounting turns).mount }
     ensures benches { RoseBy (bench_faults_in result.1) (T.mounting turns).bench_faults (T.mounting result.0).bench_faults }
     ensures duty { T.bound result.0 ≡ T.bound turns }
@@ -110,8 +109,8 @@ pub fn begin<R, T: Turns<R>>(
         → IfOk result.1 (λ begun. (u : View) × T.knows result.0 u × HasBegun begun.name begun.root (T.Bench.contents begun.bench) v u) }
     // Its label came to those that were kept, and no other came or went. Where none was begun, none came, and none went but that of a name that is
     // new to the pass.
-    ensures listed { IfOk result.1 (λ begun. Relabels (T.bound turns) (with_label (txn_label (pair_of begun.name))) (T.labels turns) (T.labels result.0)) }
-    ensures unlisted { OnErr result.1 (T.bound turns ≡ false → ListsNoMore (IsNew (T.knows turns)) base (Rose (T.faults turns) (T.faults result.0)) (T.labels turns) (T.labels result.0)) }
+    ensures listed { IfOk result.1 (λ begun. T.own result.0 ≡ option_map (with_label (txn_label (pair_of begun.name))) (T.own turns)) }
+    ensures unlisted { OnErr result.1 (ListsNoMore (IsNew (T.knows turns)) base (Rose (T.faults turns) (T.faults result.0)) (T.own turns) (T.own result.0)) }
     // Whatever the disk tells.
     ensures above { IfErr result.1 (IsAbove base) }
     ensures duty { T.bound result.0 ≡ T.bound turns }

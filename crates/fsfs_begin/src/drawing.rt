@@ -5,7 +5,6 @@ ghost use Rattle.fsfs_layout.specs.Small.{IsBase36Line};
 ghost use Rattle.fsfs_machine.specs.declared.machine.Drawn.{Drawn};
 ghost use Rattle.fsfs_machine.specs.declared.machine.Section.TheVariants.{Begun, CountRead};
 ghost use Rattle.fsfs_machine.specs.Machine.{last_name};
-ghost use Rattle.fsfs_turn.specs.Labels.{KeepsLabels};
 ghost use Rattle.fsfs_turn.specs.Views.{View};
 ghost use Rattle.fsfs_begin.specs.Steps.{FilesStay, HasLastName, MeetsLastName, Moved, met_last};
 ghost use Rattle.fsfs_begin.specs.Faults.{IfDisk, IfNameDisk, IsNoBase, IsNoBench, LacksNumber, NoNumber, named_fault};
@@ -42,7 +41,7 @@ fn read_number<R, T: Turns<R>>(rt: &R, turns: &mut T, base: RevNum) -> Result<B3
     ensures same { (T.store turns.new).below ≡ (T.store turns.old).below }
     ensures mounted { T.mounting turns.new ≡ T.mounting turns.old }
     ensures duty { T.bound turns.new ≡ T.bound turns.old }
-    ensures listed { KeepsLabels (T.bound turns.old) (T.labels turns.old) (T.labels turns.new) }
+    ensures listed { T.own turns.new ≡ T.own turns.old }
     ensures later { T.faults turns.old ≤ T.faults turns.new }
     ensures cause { IfErr result (λ why. IfNameDisk why (Rose (T.faults turns.old) (T.faults turns.new))) }
 {
@@ -61,7 +60,7 @@ fn raise<R, T: Turns<R>>(rt: &R, turns: &mut T, text: &[u8]) -> Result<(), Begin
     ensures raised { (v : View) (x : Drawn) → T.knows turns.old v → v.section ≡ Some (CountRead x) → IsBase36Line text.now x.next → Raises (T.knows turns.new) x result v }
     ensures mounted { T.mounting turns.new ≡ T.mounting turns.old }
     ensures duty { T.bound turns.new ≡ T.bound turns.old }
-    ensures listed { KeepsLabels (T.bound turns.old) (T.labels turns.old) (T.labels turns.new) }
+    ensures listed { T.own turns.new ≡ T.own turns.old }
     ensures cause { HasCause (T.faults turns.old) (T.faults turns.new) result }
 {
     let next = OnlyFile::TxnCurrentNext.name();
@@ -95,7 +94,7 @@ fn next_name<R, T: Turns<R>>(
     ensures full { FilesStay T.store → HasLastName (T.store turns.old) → OnOk result ⊥ × ((T.store turns.new).below ≡ (T.store turns.old).below) }
     ensures mounted { T.mounting turns.new ≡ T.mounting turns.old }
     ensures duty { T.bound turns.new ≡ T.bound turns.old }
-    ensures listed { KeepsLabels (T.bound turns.old) (T.labels turns.old) (T.labels turns.new) }
+    ensures listed { T.own turns.new ≡ T.own turns.old }
     ensures later { T.faults turns.old ≤ T.faults turns.new }
     ensures cause { IfErr result (λ why. IfNameDisk why (Rose (T.faults turns.old) (T.faults turns.new))) }
 {
@@ -142,7 +141,7 @@ pub(crate) fn draw<R, T: Turns<R>>(
     ensures full { FilesStay T.store → HasLastName (T.store turns.old) → OnOk result ⊥ × ((T.store turns.new).below ≡ (T.store turns.old).below) }
     ensures mounted { T.mounting turns.new ≡ T.mounting turns.old }
     ensures duty { T.bound turns.new ≡ T.bound turns.old }
-    ensures listed { KeepsLabels (T.bound turns.old) (T.labels turns.old) (T.labels turns.new) }
+    ensures listed { T.own turns.new ≡ T.own turns.old }
     ensures later { T.faults turns.old ≤ T.faults turns.new }
     ensures cause { IfErr result (λ why. IfDisk why (Rose (T.faults turns.old) (T.faults turns.new))) }
     ensures named { IfErr result IsNoBase }

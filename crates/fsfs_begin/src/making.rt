@@ -1,12 +1,11 @@
 // The bench of a transaction whose name was drawn.
-ghost use Rattle.std.specs.Prelude.{◌≡◌, ◌≤◌, true, false, IfOk, IfErr, OnOk, OnErr, IfSome, option_map};
+ghost use Rattle.std.specs.Prelude.{◌≡◌, ◌≤◌, true, IfOk, IfErr, OnOk, OnErr, IfSome, option_map};
 ghost use Rattle.fsfs_base.specs.Failures.{HasCause, Rose};
 ghost use Rattle.fsfs_disk.specs.Labels.{has_label, with_label};
 ghost use Rattle.fsfs_noderev.specs.Writing.{HasText};
 ghost use Rattle.fsfs_begin.specs.Beginning.{BeginsOn};
 ghost use Rattle.fsfs_begin.specs.Benches.{first_files, with_first_files, TellsRoot};
 ghost use Rattle.fsfs_disk.specs.Transactions.Txns.{pair_of, txn_label};
-ghost use Rattle.fsfs_turn.specs.Labels.{Relabels};
 ghost use Rattle.fsfs_turn.specs.Mountings.{RoseBy};
 ghost use Rattle.fsfs_turn.specs.Views.{View};
 ghost use Rattle.fsfs_turn.specs.Learning.{MayMake, drawn_of};
@@ -73,8 +72,8 @@ fn begin_bench<R, T: Turns<R>>(
     ensures refused { (v : View) → T.knows turns.old v → MayMake v (drawn_of name.now.base name.now.number.number)
         → IfErr result (λ why. (u : View) × T.knows turns.new u × Moved v u × (u.given ≡ v.given) × IfBenchDisk why (HasFault DiskPlace.MakeBench u)) }
     ensures dropped { OnErr result (IsDropped (txn_label (pair_of name.now)) (T.labels turns.new) (Rose (T.faults turns.old) (T.faults turns.new))) }
-    ensures listed { OnOk result (Relabels (T.bound turns.old) (with_label (txn_label (pair_of name.now))) (T.labels turns.old) (T.labels turns.new)) }
-    ensures unlisted { OnErr result (T.bound turns.old ≡ false → IsUnlisted (txn_label (pair_of name.now)) (Rose (T.faults turns.old) (T.faults turns.new)) (T.labels turns.old) (T.labels turns.new)) }
+    ensures listed { OnOk result (T.own turns.new ≡ option_map (with_label (txn_label (pair_of name.now))) (T.own turns.old)) }
+    ensures unlisted { OnErr result (IsUnlisted (txn_label (pair_of name.now)) (Rose (T.faults turns.old) (T.faults turns.new)) (T.own turns.old) (T.own turns.new)) }
     ensures mounted { (T.mounting turns.new).mount ≡ (T.mounting turns.old).mount }
     ensures benches { RoseBy (bench_failures_in result) (T.mounting turns.old).bench_faults (T.mounting turns.new).bench_faults }
     ensures duty { T.bound turns.new ≡ T.bound turns.old }
@@ -117,8 +116,8 @@ pub(crate) fn make<R, T: Turns<R>>(
     ensures refused { (v : View) → T.knows turns.old v → MayMake v (drawn_of name.base name.number.number)
         → IfErr result (λ why. (u : View) × T.knows turns.new u × Moved v u × (u.given ≡ v.given) × Cause name.base why u) }
     ensures dropped { IfErr result (λ why. IfBench why (IsDropped (txn_label (pair_of name)) (T.labels turns.new) (Rose (T.faults turns.old) (T.faults turns.new)))) }
-    ensures listed { OnOk result (Relabels (T.bound turns.old) (with_label (txn_label (pair_of name))) (T.labels turns.old) (T.labels turns.new)) }
-    ensures unlisted { OnErr result (T.bound turns.old ≡ false → ListsNoMore (λ n. n ≡ name.number.number) name.base (Rose (T.faults turns.old) (T.faults turns.new)) (T.labels turns.old) (T.labels turns.new)) }
+    ensures listed { OnOk result (T.own turns.new ≡ option_map (with_label (txn_label (pair_of name))) (T.own turns.old)) }
+    ensures unlisted { OnErr result (ListsNoMore (λ n. n ≡ name.number.number) name.base (Rose (T.faults turns.old) (T.faults turns.new)) (T.own turns.old) (T.own turns.new)) }
     ensures mounted { (T.mounting turns.new).mount ≡ (T.mounting turns.old).mount }
     ensures benches { RoseBy (bench_faults_in result) (T.mounting turns.old).bench_faults (T.mounting turns.new).bench_faults }
     ensures duty { T.bound turns.new ≡ T.bound turns.old }

@@ -1,5 +1,5 @@
 //! A transaction is purged by turns.
-ghost use Rattle.std.specs.Prelude.{◌≡◌, ◌<◌, ◌∷◌, [], None, true, false, length, IfSome, OnOk, OnErr};
+ghost use Rattle.std.specs.Prelude.{◌≡◌, ◌<◌, ◌∷◌, [], None, true, false, length, IfSome, OnOk, OnErr, option_map};
 ghost use Rattle.fsfs_base.specs.Failures.{HasCause};
 ghost use Rattle.fsfs_disk.specs.Labels.{has_label, without_label};
 ghost use Rattle.fsfs_machine.specs.declared.machine.Txn.{Txn};
@@ -7,7 +7,7 @@ ghost use Rattle.fsfs_machine.specs.declared.machine.Step.TheVariants.{Purge, Pu
 ghost use Rattle.fsfs_machine.specs.Kept.{IsIn};
 ghost use Rattle.fsfs_disk.specs.Transactions.Txns.{pair_of, txn_label};
 ghost use Rattle.fsfs_turn.specs.Views.{View, with_txns};
-ghost use Rattle.fsfs_turn.specs.Labels.{Relabels, MayRelabel};
+ghost use Rattle.fsfs_turn.specs.Labels.{MayOwn};
 ghost use Rattle.fsfs_turn.specs.Mountings.{RoseBy};
 ghost use Rattle.fsfs_turn.specs.Learning.{MayPurge, with_spent};
 ghost use Rattle.fsfs_begin.specs.Purged.{Purges};
@@ -28,9 +28,9 @@ pub fn purge<R, T: Turns<R>>(
     requires due { T.bound turns.old ≡ true → (v : View) × T.knows turns.old v × (v.section ≡ None) × IsIn name.now.number.number v.given }
     // Its label isn't kept any more, and all others are as the call met them.
     ensures unlisted { IfSome (T.labels turns.new) (λ ls. OnOk result (has_label (txn_label (pair_of name.now)) ls ≡ false)) }
-    ensures others { OnOk result (Relabels (T.bound turns.old) (without_label (txn_label (pair_of name.now))) (T.labels turns.old) (T.labels turns.new)) }
+    ensures others { OnOk result (T.own turns.new ≡ option_map (without_label (txn_label (pair_of name.now))) (T.own turns.old)) }
     // A failure leaves all labels, or all but this one.
-    ensures left { OnErr result (MayRelabel (T.bound turns.old) (without_label (txn_label (pair_of name.now))) (T.labels turns.old) (T.labels turns.new)) }
+    ensures left { OnErr result (MayOwn (without_label (txn_label (pair_of name.now))) (T.own turns.old) (T.own turns.new)) }
     // It is one step of the machine, however it went: of a transaction under way, or of one that is no more.
     ensures purged { (v : View) (txn : Txn) → T.knows turns.old v → MayPurge v txn → txn.name ≡ name.now.number.number
         → Purges (T.knows turns.new) (with_txns (txn ∷ [])) (λ went. Purge v.number 0 went) result v }

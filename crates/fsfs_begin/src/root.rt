@@ -7,7 +7,6 @@ ghost use Rattle.fsfs_noderev.specs.Writing.{HasText};
 ghost use Rattle.fsfs_revision.specs.Shows.Reading.{RootOf};
 ghost use Rattle.fsfs_turn.specs.Bytes.{bytes_of};
 ghost use Rattle.fsfs_turn.specs.Courses.{ReadOnly};
-ghost use Rattle.fsfs_turn.specs.Labels.{KeepsLabels};
 ghost use Rattle.fsfs_turn.specs.Views.{View, Looked};
 ghost use Rattle.fsfs_begin.specs.Beginning.{BeginsOn};
 
@@ -32,7 +31,7 @@ pub(crate) fn base_root<R, T: Turns<R>>(
     ensures below { (T.store result.0).below ≡ (T.store turns).below }
     ensures mounted { T.mounting result.0 ≡ T.mounting turns }
     ensures duty { T.bound result.0 ≡ T.bound turns }
-    ensures listed { KeepsLabels (T.bound turns) (T.labels turns) (T.labels result.0) }
+    ensures listed { T.own result.0 ≡ T.own turns }
     ensures later { T.faults turns ≤ T.faults result.0 }
     ensures cause { IfErr result.1 (λ e. IfDisk e (Rose (T.faults turns) (T.faults result.0))) }
 {

@@ -7,7 +7,6 @@ ghost use Rattle.fsfs_tree.specs.Revisions.{Revision};
 ghost use Rattle.fsfs_machine.specs.declared.machine.Recorded.{Recorded};
 ghost use Rattle.fsfs_machine.specs.declared.machine.Txn.{Txn};
 ghost use Rattle.fsfs_turn.specs.Views.{View, MayAdopt, coming_of};
-ghost use Rattle.fsfs_turn.specs.Labels.{KeepsLabels};
 ghost use Rattle.fsfs_commit.specs.Courses.{IsMade, MayPublish, Published};
 ghost use Rattle.fsfs_commit.specs.Works.{CanCommit};
 ghost use Rattle.fsfs_commit.specs.Found.{IfRefused, LeavesSo};
@@ -70,7 +69,7 @@ fn prepare<R, T: Turns<R>, D: Draft<R, T>>(
     ensures same { D.properties draft.new ≡ D.properties draft.old }
     ensures mounted { T.mounting result.0 ≡ T.mounting turns }
     ensures duty { T.bound result.0 ≡ T.bound turns }
-    ensures listed { KeepsLabels (T.bound turns) (T.labels turns) (T.labels result.0) }
+    ensures listed { T.own result.0 ≡ T.own turns }
     ensures later { T.faults turns ≤ T.faults result.0 }
     ensures cause { IfErr result.1 (RoseIfDisk D.is_disk_fault (Rose (T.faults turns) (T.faults result.0))) }
 {
@@ -126,7 +125,7 @@ fn add<R, T: Turns<R>, D: Draft<R, T>, G: Gate>(
     ensures same { D.properties result.0 ≡ D.properties draft }
     ensures mounted { T.mounting turns.new ≡ T.mounting turns.old }
     ensures duty { T.bound turns.new ≡ T.bound turns.old }
-    ensures listed { KeepsLabels (T.bound turns.old) (T.labels turns.old) (T.labels turns.new) }
+    ensures listed { T.own turns.new ≡ T.own turns.old }
     ensures later { T.faults turns.old ≤ T.faults turns.new }
     ensures cause { IfErr result.1 (RoseIfDisk D.is_disk_fault (Rose (T.faults turns.old) (T.faults turns.new))) }
 {
@@ -167,7 +166,7 @@ fn take_turn<R, T: Turns<R>, D: Draft<R, T>, G: Gate>(
     ensures same { D.properties result.1 ≡ D.properties draft }
     ensures mounted { T.mounting result.0 ≡ T.mounting turns }
     ensures duty { T.bound result.0 ≡ T.bound turns }
-    ensures listed { KeepsLabels (T.bound turns) (T.labels turns) (T.labels result.0) }
+    ensures listed { T.own result.0 ≡ T.own turns }
     ensures later { T.faults turns ≤ T.faults result.0 }
     ensures cause { IfErr result.2 (RoseIfDisk D.is_disk_fault (Rose (T.faults turns) (T.faults result.0))) }
 {
@@ -213,7 +212,7 @@ fn take_last_turn<R, T: Turns<R>, D: Draft<R, T>, G: Gate>(
     ensures named { (name : TxnName) → D.named draft name → D.named result.1 name }
     ensures mounted { T.mounting result.0 ≡ T.mounting turns }
     ensures duty { T.bound result.0 ≡ T.bound turns }
-    ensures listed { KeepsLabels (T.bound turns) (T.labels turns) (T.labels result.0) }
+    ensures listed { T.own result.0 ≡ T.own turns }
     ensures later { T.faults turns ≤ T.faults result.0 }
     ensures cause { IfErr result.2 (RoseIfDisk D.is_disk_fault (Rose (T.faults turns) (T.faults result.0))) }
 {
@@ -261,7 +260,7 @@ fn take_three_turns<R, T: Turns<R>, D: Draft<R, T>, G: Gate>(
     ensures same { D.properties result.1 ≡ D.properties draft }
     ensures mounted { T.mounting result.0 ≡ T.mounting turns }
     ensures duty { T.bound result.0 ≡ T.bound turns }
-    ensures listed { KeepsLabels (T.bound turns) (T.labels turns) (T.labels result.0) }
+    ensures listed { T.own result.0 ≡ T.own turns }
     ensures later { T.faults turns ≤ T.faults result.0 }
     ensures cause { IfErr result.2 (RoseIfDisk D.is_disk_fault (Rose (T.faults turns) (T.faults result.0))) }
 {
@@ -308,7 +307,7 @@ pub fn commit<R, T: Turns<R>, D: Draft<R, T>, G: Gate>(
     ensures named { (name : TxnName) → D.named draft name → D.named result.1 name }
     ensures mounted { T.mounting result.0 ≡ T.mounting turns }
     ensures duty { T.bound result.0 ≡ T.bound turns }
-    ensures listed { KeepsLabels (T.bound turns) (T.labels turns) (T.labels result.0) }
+    ensures listed { T.own result.0 ≡ T.own turns }
     ensures later { T.faults turns ≤ T.faults result.0 }
     ensures cause { IfErr result.2 (RoseIfDisk D.is_disk_fault (Rose (T.faults turns) (T.faults result.0))) }
 {

@@ -11,7 +11,6 @@ ghost use Rattle.fsfs_base.specs.Failures.{HasCause, Rose};
 ghost use Rattle.fsfs_fetch.specs.Views.{IsKnown};
 ghost use Rattle.fsfs_machine.specs.declared.machine.Went.{Went};
 ghost use Rattle.fsfs_turn.specs.Views.{View, Begins, MayAdopt, Answers, Adopted, rev_name};
-ghost use Rattle.fsfs_turn.specs.Labels.{KeepsLabels};
 ghost use Rattle.fsfs_turn.specs.Courses.{ReadOnly};
 ghost use Rattle.fsfs_commit.specs.Courses.{IsMade};
 ghost use Rattle.fsfs_commit.specs.Works.{CanCommit, LandedOn};
@@ -88,7 +87,7 @@ pub trait Draft<R, T: Turns<R>> {
         ensures later { T.faults turns ≤ T.faults result.0 }
         ensures cause { IfErr result.1 (λ why. is_disk_fault why → Rose (T.faults turns) (T.faults result.0)) }
         ensures duty { T.bound result.0 ≡ T.bound turns }
-        ensures listed { KeepsLabels (T.bound turns) (T.labels turns) (T.labels result.0) }
+        ensures listed { T.own result.0 ≡ T.own turns }
         ensures named { (name : TxnName) → named self.old name → named self.new name }
         ensures pinned { pinned self.new ≡ pinned self.old }
         ensures same { properties self.new ≡ properties self.old };
@@ -142,7 +141,7 @@ pub trait Draft<R, T: Turns<R>> {
         ensures same { properties self.new ≡ properties self.old }
         ensures mounted { T.mounting turns.new ≡ T.mounting turns.old }
         ensures duty { T.bound turns.new ≡ T.bound turns.old }
-        ensures listed { KeepsLabels (T.bound turns.old) (T.labels turns.old) (T.labels turns.new) }
+        ensures listed { T.own turns.new ≡ T.own turns.old }
         ensures cause { HasCause (T.faults turns.old) (T.faults turns.new) result };
 
     /// As more revisions are known, it stands for the same.

@@ -12,7 +12,6 @@ ghost use Rattle.fsfs_base.specs.declared.places.place.DiskPlace.{DiskPlace as S
 ghost use Rattle.fsfs_machine.specs.declared.machine.Section.TheVariants.{RevPut, PropsPut, RevFirm, CurrentPut, CurrentRenamed, CurrentFirm};
 ghost use Rattle.fsfs_machine.specs.declared.machine.Went.TheVariants.{Before};
 ghost use Rattle.fsfs_turn.specs.Adoptions.{NeedsFolder};
-ghost use Rattle.fsfs_turn.specs.Labels.{KeepsLabels};
 ghost use Rattle.fsfs_turn.specs.Views.{View, MayAdopt, IsDue, Called, Adopted, LockGiven, coming_of};
 ghost use Rattle.fsfs_commit.specs.Courses.{IsMade, MayPublish, Goes, Ended, Published, StoppedAt, leaves_doubt, spoilt, ends_at};
 
@@ -35,7 +34,7 @@ fn make_folder_at<R, T: Turns<R>>(
         → OnErr result ((u : View) × T.knows turns.new u × Adopted txn properties next bytes Before v u) }
     ensures mounted { T.mounting turns.new ≡ T.mounting turns.old }
     ensures duty { T.bound turns.new ≡ T.bound turns.old }
-    ensures listed { KeepsLabels (T.bound turns.old) (T.labels turns.old) (T.labels turns.new) }
+    ensures listed { T.own turns.new ≡ T.own turns.old }
     ensures cause { HasCause (T.faults turns.old) (T.faults turns.new) result }
 {
     match folder {
@@ -63,7 +62,7 @@ fn put_revision<R, T: Turns<R>, D: Draft<R, T>>(
     ensures same { D.properties draft.new ≡ D.properties draft.old }
     ensures mounted { T.mounting turns.new ≡ T.mounting turns.old }
     ensures duty { T.bound turns.new ≡ T.bound turns.old }
-    ensures listed { KeepsLabels (T.bound turns.old) (T.labels turns.old) (T.labels turns.new) }
+    ensures listed { T.own turns.new ≡ T.own turns.old }
     ensures cause { HasCause (T.faults turns.old) (T.faults turns.new) result }
 {
     match make_folder_at(rt, turns, &made.rev_folder) {
@@ -84,7 +83,7 @@ fn put_properties<R, T: Turns<R>>(rt: &R, turns: &mut T, made: &Made) -> Result<
         → Goes (T.knows turns.new) result x (PropsPut x) v }
     ensures mounted { T.mounting turns.new ≡ T.mounting turns.old }
     ensures duty { T.bound turns.new ≡ T.bound turns.old }
-    ensures listed { KeepsLabels (T.bound turns.old) (T.labels turns.old) (T.labels turns.new) }
+    ensures listed { T.own turns.new ≡ T.own turns.old }
     ensures cause { HasCause (T.faults turns.old) (T.faults turns.new) result }
 {
     match make_folder_at(rt, turns, &made.props_folder) {
@@ -103,7 +102,7 @@ fn firm_revision<R, T: Turns<R>>(rt: &R, turns: &mut T) -> Result<(), CommitPlac
     ensures turned { (v : View) (x : Coming) → T.knows turns.old v → v.section ≡ Some (PropsPut x) → Goes (T.knows turns.new) result x (RevFirm x) v }
     ensures mounted { T.mounting turns.new ≡ T.mounting turns.old }
     ensures duty { T.bound turns.new ≡ T.bound turns.old }
-    ensures listed { KeepsLabels (T.bound turns.old) (T.labels turns.old) (T.labels turns.new) }
+    ensures listed { T.own turns.new ≡ T.own turns.old }
     ensures cause { HasCause (T.faults turns.old) (T.faults turns.new) result }
 {
     match turns.firm_names(rt) {
@@ -121,7 +120,7 @@ fn put_current<R, T: Turns<R>>(rt: &R, turns: &mut T, made: &Made) -> Result<(),
     ensures used { OnOk result (T.in_use turns.new (only_name OnlyFile.CurrentNext)) }
     ensures mounted { T.mounting turns.new ≡ T.mounting turns.old }
     ensures duty { T.bound turns.new ≡ T.bound turns.old }
-    ensures listed { KeepsLabels (T.bound turns.old) (T.labels turns.old) (T.labels turns.new) }
+    ensures listed { T.own turns.new ≡ T.own turns.old }
     ensures cause { HasCause (T.faults turns.old) (T.faults turns.new) result }
 {
     let next = OnlyFile::CurrentNext.name();
@@ -138,7 +137,7 @@ fn rename_current<R, T: Turns<R>>(rt: &R, turns: &mut T) -> Result<(), CommitPla
     ensures turned { (v : View) (x : Coming) → T.knows turns.old v → v.section ≡ Some (CurrentPut x) → Goes (T.knows turns.new) result x (CurrentRenamed x) v }
     ensures mounted { T.mounting turns.new ≡ T.mounting turns.old }
     ensures duty { T.bound turns.new ≡ T.bound turns.old }
-    ensures listed { KeepsLabels (T.bound turns.old) (T.labels turns.old) (T.labels turns.new) }
+    ensures listed { T.own turns.new ≡ T.own turns.old }
     ensures cause { HasCause (T.faults turns.old) (T.faults turns.new) result }
 {
     let next = OnlyFile::CurrentNext.name();
@@ -155,7 +154,7 @@ fn firm_current<R, T: Turns<R>>(rt: &R, turns: &mut T) -> Result<(), CommitPlace
     ensures turned { (v : View) (x : Coming) → T.knows turns.old v → v.section ≡ Some (CurrentRenamed x) → Goes (T.knows turns.new) result x (CurrentFirm x) v }
     ensures mounted { T.mounting turns.new ≡ T.mounting turns.old }
     ensures duty { T.bound turns.new ≡ T.bound turns.old }
-    ensures listed { KeepsLabels (T.bound turns.old) (T.labels turns.old) (T.labels turns.new) }
+    ensures listed { T.own turns.new ≡ T.own turns.old }
     ensures cause { HasCause (T.faults turns.old) (T.faults turns.new) result }
 {
     match turns.firm_names(rt) {
@@ -184,7 +183,7 @@ fn write_revision<R, T: Turns<R>, D: Draft<R, T>, G: Gate>(
     ensures same { D.properties draft.new ≡ D.properties draft.old }
     ensures mounted { T.mounting turns.new ≡ T.mounting turns.old }
     ensures duty { T.bound turns.new ≡ T.bound turns.old }
-    ensures listed { KeepsLabels (T.bound turns.old) (T.labels turns.old) (T.labels turns.new) }
+    ensures listed { T.own turns.new ≡ T.own turns.old }
     ensures cause { HasCause (T.faults turns.old) (T.faults turns.new) result }
 {
     match put_revision(rt, turns, draft, made) {
@@ -207,7 +206,7 @@ fn name_current<R, T: Turns<R>>(rt: &R, turns: &mut T, made: &Made) -> Result<()
         → Goes (T.knows turns.new) result x (CurrentFirm x) v }
     ensures mounted { T.mounting turns.new ≡ T.mounting turns.old }
     ensures duty { T.bound turns.new ≡ T.bound turns.old }
-    ensures listed { KeepsLabels (T.bound turns.old) (T.labels turns.old) (T.labels turns.new) }
+    ensures listed { T.own turns.new ≡ T.own turns.old }
     ensures cause { HasCause (T.faults turns.old) (T.faults turns.new) result }
 {
     match put_current(rt, turns, made) {
@@ -234,7 +233,7 @@ fn settle<R, T: Turns<R>>(turns: &mut T, place: CommitPlace)
     ensures turned { (v : View) (x : Coming) → T.knows turns.old v → v.section ≡ Some (spoilt x place) → (u : View) × T.knows turns.new u × LockGiven (ends_at place v.number) v u }
     ensures mounted { T.mounting turns.new ≡ T.mounting turns.old }
     ensures duty { T.bound turns.new ≡ T.bound turns.old }
-    ensures listed { KeepsLabels (T.bound turns.old) (T.labels turns.old) (T.labels turns.new) }
+    ensures listed { T.own turns.new ≡ T.own turns.old }
     ensures faults { T.faults turns.new ≡ T.faults turns.old }
 {
     if is_doubtful(place) {
@@ -250,7 +249,7 @@ fn finish<R, T: Turns<R>, G: Gate>(rt: &R, turns: &mut T, rev: RevNum, gate: &G)
     ensures turned { (v : View) (x : Coming) → T.knows turns.old v → v.section ≡ Some (CurrentFirm x) → rev ≡ length v.seen → (u : View) × T.knows turns.new u × Ended x v u }
     ensures mounted { T.mounting turns.new ≡ T.mounting turns.old }
     ensures duty { T.bound turns.new ≡ T.bound turns.old }
-    ensures listed { KeepsLabels (T.bound turns.old) (T.labels turns.old) (T.labels turns.new) }
+    ensures listed { T.own turns.new ≡ T.own turns.old }
     ensures faults { T.faults turns.new ≡ T.faults turns.old }
 {
     gate.at(GatePlace::BeforeReveal, 0);
@@ -284,7 +283,7 @@ pub fn publish<R, T: Turns<R>, D: Draft<R, T>, G: Gate>(
     ensures same { D.properties draft.new ≡ D.properties draft.old }
     ensures mounted { T.mounting turns.new ≡ T.mounting turns.old }
     ensures duty { T.bound turns.new ≡ T.bound turns.old }
-    ensures listed { KeepsLabels (T.bound turns.old) (T.labels turns.old) (T.labels turns.new) }
+    ensures listed { T.own turns.new ≡ T.own turns.old }
     ensures cause { HasCause (T.faults turns.old) (T.faults turns.new) result }
 {
     match write_all(rt, turns, draft, made, gate) {
@@ -319,7 +318,7 @@ fn write_all<R, T: Turns<R>, D: Draft<R, T>, G: Gate>(
     ensures same { D.properties draft.new ≡ D.properties draft.old }
     ensures mounted { T.mounting turns.new ≡ T.mounting turns.old }
     ensures duty { T.bound turns.new ≡ T.bound turns.old }
-    ensures listed { KeepsLabels (T.bound turns.old) (T.labels turns.old) (T.labels turns.new) }
+    ensures listed { T.own turns.new ≡ T.own turns.old }
     ensures cause { HasCause (T.faults turns.old) (T.faults turns.new) result }
 {
     match write_revision(rt, turns, draft, made, gate) {

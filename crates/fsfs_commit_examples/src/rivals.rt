@@ -1,5 +1,5 @@
 // Turns of a test: others commit before the lock is taken.
-ghost use Rattle.std.specs.Prelude.{◌≡◌, ℕ, refl, true, false, None, OnErr, IfOk, MatchOption};
+ghost use Rattle.std.specs.Prelude.{◌≡◌, ℕ, refl, true, false, None, OnOk, OnErr, IfOk, MatchOption, option_map};
 ghost use Rattle.fsfs_base.specs.Failures.{HasCause};
 ghost use Rattle.fsfs_base.specs.declared.places.place.DiskPlace.TheVariants.{Remove};
 ghost use Rattle.fsfs_disk.specs.Labels.{Txn as TxnLabel, Pack as PackLabel, label_of, without_label};
@@ -7,7 +7,7 @@ ghost use Rattle.fsfs_machine.specs.declared.machine.Txn.{Txn};
 ghost use Rattle.fsfs_machine.specs.declared.machine.Went.{Went};
 ghost use Rattle.fsfs_machine.specs.Kept.{IsIn};
 ghost use Rattle.fsfs_turn.specs.Views.{View, Answers, is_held};
-ghost use Rattle.fsfs_turn.specs.Labels.{MayRelabel, Drops};
+ghost use Rattle.fsfs_turn.specs.Labels.{MayRelabel, Drops, MayOwn};
 ghost use Rattle.fsfs_turn.specs.Mountings.{RoseBy};
 ghost use Rattle.fsfs_turn.specs.Packing.{DoneBeside};
 ghost use Rattle.fsfs_turn.specs.Learning.{MayPurge, Purged, SpentPurged};
@@ -71,6 +71,8 @@ impl Turns<()> for Rivals {
     ghost store = { λ s. record { layout = s.inner.layout; reach = (⟦<Owned<MemDisk> as Turns<()>>⟧.store s.inner).reach; files = None; below = (⟦<Owned<MemDisk> as Turns<()>>⟧.labels s.inner, ⟦<Owned<MemDisk> as Turns<()>>⟧.mounting s.inner, s.floor) } };
 
     ghost labels = { λ s. ⟦<Owned<MemDisk> as Turns<()>>⟧.labels s.inner };
+
+    ghost own = { λ s. ⟦<Owned<MemDisk> as Turns<()>>⟧.own s.inner };
 
     ghost faults = { λ s. ⟦<Owned<MemDisk> as Turns<()>>⟧.faults s.inner };
 
@@ -205,6 +207,8 @@ impl Turns<()> for Rivals {
         ensures duty { false ≡ false }
         ensures dropped { IfOk result (λ there. Drops false (label_of label.now) there (⟦<Owned<MemDisk> as Turns<()>>⟧.labels self.old.inner) (⟦<Owned<MemDisk> as Turns<()>>⟧.labels self.new.inner)) }
         ensures left { OnErr result (MayRelabel false (without_label (label_of label.now)) (⟦<Owned<MemDisk> as Turns<()>>⟧.labels self.old.inner) (⟦<Owned<MemDisk> as Turns<()>>⟧.labels self.new.inner)) }
+        ensures disowned { OnOk result (⟦<Owned<MemDisk> as Turns<()>>⟧.own self.new.inner ≡ option_map (without_label (label_of label.now)) (⟦<Owned<MemDisk> as Turns<()>>⟧.own self.old.inner)) }
+        ensures own_left { OnErr result (MayOwn (without_label (label_of label.now)) (⟦<Owned<MemDisk> as Turns<()>>⟧.own self.old.inner) (⟦<Owned<MemDisk> as Turns<()>>⟧.own self.new.inner)) }
         ensures benches { MatchOption bench ((⟦<Owned<MemDisk> as Turns<()>>⟧.mounting self.new.inner).bench_faults ≡ (⟦<Owned<MemDisk> as Turns<()>>⟧.mounting self.old.inner).bench_faults) (λ b. RoseBy (⟦<MemBench as Bench>⟧.faults b) (⟦<Owned<MemDisk> as Turns<()>>⟧.mounting self.old.inner).bench_faults (⟦<Owned<MemDisk> as Turns<()>>⟧.mounting self.new.inner).bench_faults) }
         ensures cause { HasCause (⟦<Owned<MemDisk> as Turns<()>>⟧.faults self.old.inner) (⟦<Owned<MemDisk> as Turns<()>>⟧.faults self.new.inner) result }
     {
@@ -230,6 +234,8 @@ impl Turns<()> for Rivals {
 
 impl LoneTurns<()> for Rivals {
     ghost free = { λ s. refl };
+
+    ghost answers_for_all = { λ s. refl };
 
     ghost still = { λ a b v same known. absurd known };
 

@@ -6,4 +6,3 @@ pub mod OpenFaults
 pub mod Deciding
 pub mod FirstTexts
 pub mod Known
-pub mod SmallParts

@@ -7,7 +7,6 @@ mod creation;
 mod first_revision;
 mod initial;
 mod opening;
-mod small_files;
 mod store_opening;
 
 pub use creation::create;

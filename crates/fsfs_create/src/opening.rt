@@ -8,9 +8,8 @@ ghost use Rattle.fsfs_create.specs.OpenFaults.{texts_of, JudgedBecause, OpensBec
 ghost use Rattle.fsfs_create.specs.Deciding.{Decides};
 ghost use Rattle.fsfs_layout.specs.declared.opened.Opened.{Opened};
 
-use crate::small_files::read_first;
 use fsfs_base::{DiskPlace, Name, OpenFault, OpenPlace, SmallFault, SmallFile};
-use fsfs_disk::{Disk, FileFault};
+use fsfs_disk::{Disk, FileFault, read_disk_file};
 use fsfs_layout::{
     Folders, FormatFile, Layout, OnlyFile, Opened, read_current, read_format,
     read_min_unpacked_rev, read_txn_current, read_uuid,
@@ -42,7 +41,7 @@ fn text_of<D: Disk>(alloc: Global, disk: &mut D, name: &Name) -> Result<Vec<u8>,
     ensures later { D.faults disk.old ≤ D.faults disk.new }
     ensures failed { IfErr result (IfUnread (Rose (D.faults disk.old) (D.faults disk.new))) }
 {
-    match read_first(alloc, disk, name, MOST) {
+    match read_disk_file(alloc, disk, name, MOST) {
         Ok(Some(bytes)) => Ok(bytes),
         Ok(None) => Ok(Vec::new(alloc)),
         Err(fault) => Err(outside(fault)),
@@ -69,7 +68,7 @@ fn read_small_files<D: Disk>(alloc: Global, disk: &mut D) -> Result<SmallFiles, 
     ensures later { D.faults disk.old ≤ D.faults disk.new }
     ensures failed { IfErr result (IfUnread (Rose (D.faults disk.old) (D.faults disk.new))) }
 {
-    let format = match read_first(alloc, disk, &OnlyFile::Format.name(), MOST) {
+    let format = match read_disk_file(alloc, disk, &OnlyFile::Format.name(), MOST) {
         Ok(found) => found,
         Err(fault) => return Err(outside(fault)),
     };

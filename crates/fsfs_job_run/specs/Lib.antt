@@ -10,6 +10,7 @@ pub mod Runs
 pub mod Unprinted
 pub use Rattle.fsfs_repo.specs.BeginFault
 pub use Rattle.fsfs_repo.specs.BeginFaults
+pub use Rattle.fsfs_repo.specs.BeginLabels
 pub use Rattle.fsfs_repo.specs.BeginPurged
 pub use Rattle.fsfs_repo.specs.BeginSteps
 pub use Rattle.fsfs_repo.specs.Dating

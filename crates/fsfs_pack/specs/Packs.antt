@@ -4,7 +4,7 @@ use Rattle.fsfs_base.specs.declared.places.place.DiskPlace.{DiskPlace}
 use Rattle.fsfs_base.specs.declared.places.place.DiskPlace.TheVariants.{Read, Pack}
 use Rattle.fsfs_base.specs.declared.places.place.PackPlace.TheVariants.{RenameFloor, FirmFloor}
 use Rattle.fsfs_layout.specs.Layouts.{shard_size}
-use Rattle.fsfs_disk.specs.Labels.{Label, AreLeft, txn_entries, without_label}
+use Rattle.fsfs_disk.specs.Labels.{Label, without_label}
 use Rattle.fsfs_machine.specs.declared.machine.Section.TheVariants.{Begun, Packed, FloorDoubtful}
 use Rattle.fsfs_machine.specs.declared.machine.Step.{Step}
 use Rattle.fsfs_machine.specs.declared.machine.Went.{Went}
@@ -206,21 +206,9 @@ abbrev pub LeftRose : PackEnd → ℕ → ℕ → Type 0
 LeftRose Nothing before now = Unit {0}
 LeftRose (PackedSome shards left) before now = RoseBy left before now
 
--- where nobody else has turns, the labels of transactions stay
-abbrev pub KeepsTxns : Bool → Option (List Label) → Option (List Label) → Type 0
-KeepsTxns bound old new = bound ≡ false → option_map txn_entries new ≡ option_map txn_entries old
-
--- no label came: each that is kept then was kept before
-abbrev pub NoneCame : Option (List Label) → Option (List Label) → Type 0
-NoneCame old new = (now : List Label) → new ≡ Some now → (was : List Label) × (old ≡ Some was) × AreLeft was now
-
--- where nobody else has turns none comes, unless a call of the disk failed
-abbrev pub IsTidy : Bool → Type 0 → Option (List Label) → Option (List Label) → Type 0
-IsTidy bound rose old new = bound ≡ false → NoneCame old new ⊎ rose
-
--- where nobody else has turns this label went, unless a call of the disk failed
-abbrev pub Unlists : Bool → Label → Type 0 → Option (List Label) → Option (List Label) → Type 0
-Unlists bound label rose old new = bound ≡ false → (new ≡ option_map (without_label label) old) ⊎ rose
+-- this label went, unless a call of the disk failed
+abbrev pub Unlists : Label → Type 0 → Option (List Label) → Option (List Label) → Type 0
+Unlists label rose old new = (new ≡ option_map (without_label label) old) ⊎ rose
 
 -- ---- where nobody else has turns
 

@@ -1,18 +1,18 @@
 //! Full shards are packed, one after another, with the write lock held once.
-ghost use Rattle.std.specs.Prelude.{◌≡◌, ◌+◌, ◌<◌, ◌≤◌, ℕ, true, None, Some, Ok, Err, length, min, IfOk, IfErr, IfSome, OnOk};
+ghost use Rattle.std.specs.Prelude.{◌≡◌, ◌+◌, ◌<◌, ◌≤◌, ℕ, true, None, Some, Ok, Err, length, min, IfOk, IfErr, IfSome, OnOk, option_map};
 ghost use Rattle.fsfs_base.specs.Failures.{Rose};
 ghost use Rattle.fsfs_layout.specs.Layouts.{place_in_shard, shard_of, shard_size};
 ghost use Rattle.fsfs_layout.specs.Small.{IsRevLine};
 ghost use Rattle.fsfs_disk.specs.Benches.{IsFirmFile};
-ghost use Rattle.fsfs_disk.specs.Labels.{Pack as PackLabel};
+ghost use Rattle.fsfs_disk.specs.Labels.{Pack as PackLabel, txn_entries};
 ghost use Rattle.fsfs_machine.specs.declared.machine.Section.TheVariants.{Begun};
-ghost use Rattle.fsfs_turn.specs.Labels.{KeepsLabels};
+ghost use Rattle.fsfs_turn.specs.Labels.{IsTidy};
 ghost use Rattle.fsfs_turn.specs.Mountings.{RoseBy};
 ghost use Rattle.fsfs_turn.specs.Views.{View, MayPack};
 ghost use Rattle.fsfs_pack.specs.declared.answers.PackEnd.TheVariants.{Packed};
 ghost use Rattle.fsfs_pack.specs.declared.answers.PackFault.TheVariants.{Memory};
 ghost use Rattle.fsfs_pack.specs.Causes.{IfBench, IfDisk, IsUnread, HasDiskCause, HasBenchCause};
-ghost use Rattle.fsfs_pack.specs.Packs.{EndsBy, HeldEnd, IsTidy, KeepsTxns, LeftRose, LooksAt, Packing, ReadsFloor, Renamed, Says, Settled, ShardEnds, ShardsEnd, ShowsFloors, Unlists, renamed_by, stuck_by};
+ghost use Rattle.fsfs_pack.specs.Packs.{EndsBy, HeldEnd, LeftRose, LooksAt, Packing, ReadsFloor, Renamed, Says, Settled, ShardEnds, ShardsEnd, ShowsFloors, Unlists, renamed_by, stuck_by};
 ghost use Rattle.fsfs_pack.specs.Sections.{pack_text, manifest_text, IsNext, IsWritten};
 ghost use Rattle.fsfs_pack.specs.Shards.{IsShard};
 
@@ -42,7 +42,7 @@ fn read_floor<R, T: Turns<R>>(rt: &R, turns: &mut T, layout: Layout) -> Result<R
     ensures below { (T.store turns.new).below ≡ (T.store turns.old).below }
     ensures mounted { T.mounting turns.new ≡ T.mounting turns.old }
     ensures duty { T.bound turns.new ≡ T.bound turns.old }
-    ensures listed { KeepsLabels (T.bound turns.old) (T.labels turns.old) (T.labels turns.new) }
+    ensures listed { T.own turns.new ≡ T.own turns.old }
     ensures cause { HasDiskCause (T.faults turns.old) (T.faults turns.new) result }
 {
     let mut text = [0; 64];
@@ -64,7 +64,7 @@ fn find<R, T: Turns<R>>(rt: &R, turns: &mut T) -> Result<Found, PackFault>
     ensures below { (T.store turns.new).below ≡ (T.store turns.old).below }
     ensures mounted { T.mounting turns.new ≡ T.mounting turns.old }
     ensures duty { T.bound turns.new ≡ T.bound turns.old }
-    ensures listed { KeepsLabels (T.bound turns.old) (T.labels turns.old) (T.labels turns.new) }
+    ensures listed { T.own turns.new ≡ T.own turns.old }
     ensures cause { HasDiskCause (T.faults turns.old) (T.faults turns.new) result }
 {
     let layout = turns.layout();
@@ -106,7 +106,7 @@ fn finish_shard<R, T: Turns<R>>(
     ensures bench_same { T.Bench.faults bench.new ≡ T.Bench.faults bench.old }
     ensures mounted { T.mounting turns.new ≡ T.mounting turns.old }
     ensures duty { T.bound turns.new ≡ T.bound turns.old }
-    ensures listed { KeepsLabels (T.bound turns.old) (T.labels turns.old) (T.labels turns.new) }
+    ensures listed { T.own turns.new ≡ T.own turns.old }
     ensures cause { HasDiskCause (T.faults turns.old) (T.faults turns.new) result }
     ensures bench_cause { (n : ℕ) → HasBenchCause n n result }
 {
@@ -133,7 +133,7 @@ fn pack_by<R, T: Turns<R>, G: Gate>(
     ensures left { IfOk result.1 (λ left. RoseBy left (T.faults turns) (T.faults result.0)) }
     ensures mounted { T.mounting result.0 ≡ T.mounting turns }
     ensures duty { T.bound result.0 ≡ T.bound turns }
-    ensures listed { KeepsLabels (T.bound turns) (T.labels turns) (T.labels result.0) }
+    ensures listed { T.own result.0 ≡ T.own turns }
     ensures later { T.faults turns ≤ T.faults result.0 }
     ensures cause { IfErr result.1 (λ fault. IfDisk fault (Rose (T.faults turns) (T.faults result.0))) }
     ensures bench_cause { HasBenchCause (T.Bench.faults bench.old) (T.Bench.faults bench.new) result.1 }
@@ -168,8 +168,8 @@ fn pack_in<R, T: Turns<R>, G: Gate>(
     ensures left { IfOk result.1 (λ left. RoseBy left (T.faults turns) (T.faults result.0)) }
     ensures mounted { (T.mounting result.0).mount ≡ (T.mounting turns).mount }
     ensures duty { T.bound result.0 ≡ T.bound turns }
-    ensures listed { KeepsTxns (T.bound turns) (T.labels turns) (T.labels result.0) }
-    ensures unlisted { Unlists (T.bound turns) (PackLabel (shard_of shard.now.layout shard.now.first)) (Rose (T.faults turns) (T.faults result.0)) (T.labels turns) (T.labels result.0) }
+    ensures listed { option_map txn_entries (T.own result.0) ≡ option_map txn_entries (T.own turns) }
+    ensures unlisted { Unlists (PackLabel (shard_of shard.now.layout shard.now.first)) (Rose (T.faults turns) (T.faults result.0)) (T.own turns) (T.own result.0) }
     ensures later { T.faults turns ≤ T.faults result.0 }
     ensures cause { IfErr result.1 (λ fault. IfDisk fault (Rose (T.faults turns) (T.faults result.0))) }
     ensures benches { RoseBy 0 (T.mounting turns).bench_faults (T.mounting result.0).bench_faults }
@@ -197,8 +197,8 @@ fn pack_shard<R, T: Turns<R>, G: Gate>(
     ensures left { IfOk result.1 (λ left. RoseBy left (T.faults turns) (T.faults result.0)) }
     ensures mounted { (T.mounting result.0).mount ≡ (T.mounting turns).mount }
     ensures duty { T.bound result.0 ≡ T.bound turns }
-    ensures listed { KeepsTxns (T.bound turns) (T.labels turns) (T.labels result.0) }
-    ensures tidy { IsTidy (T.bound turns) (Rose (T.faults turns) (T.faults result.0)) (T.labels turns) (T.labels result.0) }
+    ensures listed { option_map txn_entries (T.own result.0) ≡ option_map txn_entries (T.own turns) }
+    ensures tidy { IsTidy (Rose (T.faults turns) (T.faults result.0)) (T.own turns) (T.own result.0) }
     ensures later { T.faults turns ≤ T.faults result.0 }
     ensures cause { IfErr result.1 (λ fault. IfDisk fault (Rose (T.faults turns) (T.faults result.0))) }
     ensures benches { RoseBy 0 (T.mounting turns).bench_faults (T.mounting result.0).bench_faults }
@@ -271,8 +271,8 @@ fn pack_from<R, T: Turns<R>, G: Gate>(
     ensures left { IfOk result.1.end (λ end. LeftRose end (T.faults turns) (T.faults result.0)) }
     ensures mounted { (T.mounting result.0).mount ≡ (T.mounting turns).mount }
     ensures duty { T.bound result.0 ≡ T.bound turns }
-    ensures listed { KeepsTxns (T.bound turns) (T.labels turns) (T.labels result.0) }
-    ensures tidy { IsTidy (T.bound turns) (Rose (T.faults turns) (T.faults result.0)) (T.labels turns) (T.labels result.0) }
+    ensures listed { option_map txn_entries (T.own result.0) ≡ option_map txn_entries (T.own turns) }
+    ensures tidy { IsTidy (Rose (T.faults turns) (T.faults result.0)) (T.own turns) (T.own result.0) }
     ensures later { T.faults turns ≤ T.faults result.0 }
     ensures cause { IfErr result.1.end (λ fault. IfDisk fault (Rose (T.faults turns) (T.faults result.0))) }
     ensures benches { RoseBy 0 (T.mounting turns).bench_faults (T.mounting result.0).bench_faults }
@@ -314,8 +314,8 @@ fn pack_held<R, T: Turns<R>, G: Gate>(rt: &R, alloc: Global, turns: T, gate: &G)
     ensures left { IfOk result.1.end (λ end. LeftRose end (T.faults turns) (T.faults result.0)) }
     ensures mounted { (T.mounting result.0).mount ≡ (T.mounting turns).mount }
     ensures duty { T.bound result.0 ≡ T.bound turns }
-    ensures listed { KeepsTxns (T.bound turns) (T.labels turns) (T.labels result.0) }
-    ensures tidy { IsTidy (T.bound turns) (Rose (T.faults turns) (T.faults result.0)) (T.labels turns) (T.labels result.0) }
+    ensures listed { option_map txn_entries (T.own result.0) ≡ option_map txn_entries (T.own turns) }
+    ensures tidy { IsTidy (Rose (T.faults turns) (T.faults result.0)) (T.own turns) (T.own result.0) }
     ensures later { T.faults turns ≤ T.faults result.0 }
     ensures cause { IfErr result.1.end (λ fault. IfDisk fault (Rose (T.faults turns) (T.faults result.0))) }
     ensures benches { RoseBy 0 (T.mounting turns).bench_faults (T.mounting result.0).bench_faults }
@@ -355,7 +355,7 @@ fn settle<R, T: Turns<R>>(turns: &mut T, end: &Result<PackEnd, PackFault>)
     ensures below { OnOk end.now ((T.store turns.new).below ≡ (T.store turns.old).below) }
     ensures mounted { T.mounting turns.new ≡ T.mounting turns.old }
     ensures duty { T.bound turns.new ≡ T.bound turns.old }
-    ensures listed { KeepsLabels (T.bound turns.old) (T.labels turns.old) (T.labels turns.new) }
+    ensures listed { T.own turns.new ≡ T.own turns.old }
     ensures faults { T.faults turns.new ≡ T.faults turns.old }
 {
     match stuck_by(end) {
@@ -373,8 +373,8 @@ fn pack_all<R, T: Turns<R>, G: Gate>(rt: &R, alloc: Global, turns: T, gate: &G) 
     ensures left { IfOk result.1.end (λ end. LeftRose end (T.faults turns) (T.faults result.0)) }
     ensures mounted { (T.mounting result.0).mount ≡ (T.mounting turns).mount }
     ensures duty { T.bound result.0 ≡ T.bound turns }
-    ensures listed { KeepsTxns (T.bound turns) (T.labels turns) (T.labels result.0) }
-    ensures tidy { IsTidy (T.bound turns) (Rose (T.faults turns) (T.faults result.0)) (T.labels turns) (T.labels result.0) }
+    ensures listed { option_map txn_entries (T.own result.0) ≡ option_map txn_entries (T.own turns) }
+    ensures tidy { IsTidy (Rose (T.faults turns) (T.faults result.0)) (T.own turns) (T.own result.0) }
     ensures later { T.faults turns ≤ T.faults result.0 }
     ensures cause { IfErr result.1.end (λ fault. IfDisk fault (Rose (T.faults turns) (T.faults result.0))) }
     ensures benches { RoseBy 0 (T.mounting turns).bench_faults (T.mounting result.0).bench_faults }
@@ -406,8 +406,8 @@ pub fn pack<R, T: Turns<R>, G: Gate>(rt: &R, alloc: Global, turns: T, gate: &G) 
     ensures left { IfOk result.1.end (λ end. LeftRose end (T.faults turns) (T.faults result.0)) }
     ensures mounted { (T.mounting result.0).mount ≡ (T.mounting turns).mount }
     ensures duty { T.bound result.0 ≡ T.bound turns }
-    ensures listed { KeepsTxns (T.bound turns) (T.labels turns) (T.labels result.0) }
-    ensures tidy { IsTidy (T.bound turns) (Rose (T.faults turns) (T.faults result.0)) (T.labels turns) (T.labels result.0) }
+    ensures listed { option_map txn_entries (T.own result.0) ≡ option_map txn_entries (T.own turns) }
+    ensures tidy { IsTidy (Rose (T.faults turns) (T.faults result.0)) (T.own turns) (T.own result.0) }
     ensures later { T.faults turns ≤ T.faults result.0 }
     ensures cause { IfErr result.1.end (λ fault. IfDisk fault (Rose (T.faults turns) (T.faults result.0))) }
     ensures benches { RoseBy 0 (T.mounting turns).bench_faults (T.mounting result.0).bench_faults }

@@ -1,7 +1,6 @@
 //! What is left of a shard that is packed goes.
 ghost use Rattle.std.specs.Prelude.{◌≡◌, ◌<◌, ◌≤◌, ℕ, true, Some};
 ghost use Rattle.fsfs_machine.specs.declared.machine.Section.TheVariants.{Packed};
-ghost use Rattle.fsfs_turn.specs.Labels.{KeepsLabels};
 ghost use Rattle.fsfs_turn.specs.Mountings.{RoseBy};
 ghost use Rattle.fsfs_turn.specs.Packing.{MayRemove};
 ghost use Rattle.fsfs_turn.specs.Views.{View};
@@ -20,7 +19,7 @@ fn remove_one<R, T: Turns<R>>(rt: &R, turns: &mut T, layout: Layout, rev: RevNum
     ensures later { T.faults turns.old ≤ T.faults turns.new }
     ensures mounted { T.mounting turns.new ≡ T.mounting turns.old }
     ensures duty { T.bound turns.new ≡ T.bound turns.old }
-    ensures listed { KeepsLabels (T.bound turns.old) (T.labels turns.old) (T.labels turns.new) }
+    ensures listed { T.own turns.new ≡ T.own turns.old }
 {
     match turns.remove(rt, &RepositoryFile::Revision(rev).name(layout)) {
         Ok(_) => 0,
@@ -36,7 +35,7 @@ fn remove_files<R, T: Turns<R>>(rt: &R, turns: &mut T, shard: &Shard) -> u64
     ensures later { T.faults turns.old ≤ T.faults turns.new }
     ensures mounted { T.mounting turns.new ≡ T.mounting turns.old }
     ensures duty { T.bound turns.new ≡ T.bound turns.old }
-    ensures listed { KeepsLabels (T.bound turns.old) (T.labels turns.old) (T.labels turns.new) }
+    ensures listed { T.own turns.new ≡ T.own turns.old }
 {
     let mut left: u64 = 0;
     'files: for number in shard.first.get()..shard.next.get() {
@@ -57,7 +56,7 @@ pub(crate) fn remove_old<R, T: Turns<R>>(rt: &R, turns: &mut T, shard: &Shard) -
     ensures later { T.faults turns.old ≤ T.faults turns.new }
     ensures mounted { T.mounting turns.new ≡ T.mounting turns.old }
     ensures duty { T.bound turns.new ≡ T.bound turns.old }
-    ensures listed { KeepsLabels (T.bound turns.old) (T.labels turns.old) (T.labels turns.new) }
+    ensures listed { T.own turns.new ≡ T.own turns.old }
 {
     let left = remove_files(rt, turns, shard);
     let folder = RepositoryFile::Shard(shard.number()).name(shard.layout);

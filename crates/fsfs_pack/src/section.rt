@@ -6,7 +6,6 @@ ghost use Rattle.fsfs_layout.specs.Layouts.{shard_size};
 ghost use Rattle.fsfs_layout.specs.Small.{IsRevLine};
 ghost use Rattle.fsfs_disk.specs.Benches.{IsFirmFile};
 ghost use Rattle.fsfs_machine.specs.declared.machine.Section.TheVariants.{PackPut, ManifestPut, PackFirm, FloorPut, FloorRenamed, Packed};
-ghost use Rattle.fsfs_turn.specs.Labels.{KeepsLabels};
 ghost use Rattle.fsfs_turn.specs.Views.{View, MayPack};
 ghost use Rattle.fsfs_pack.specs.Copies.{HasFile};
 ghost use Rattle.fsfs_pack.specs.Sections.{pack_text, manifest_text, Goes, IsNext, IsWritten, HasManifest};
@@ -34,7 +33,7 @@ fn adopt_pack<R, T: Turns<R>>(
     ensures bench_same { T.Bench.faults bench.new ≡ T.Bench.faults bench.old }
     ensures mounted { T.mounting turns.new ≡ T.mounting turns.old }
     ensures duty { T.bound turns.new ≡ T.bound turns.old }
-    ensures listed { KeepsLabels (T.bound turns.old) (T.labels turns.old) (T.labels turns.new) }
+    ensures listed { T.own turns.new ≡ T.own turns.old }
     ensures cause { HasCause (T.faults turns.old) (T.faults turns.new) result }
 {
     let folder = RepositoryFile::PackFolder(shard.number()).name(shard.layout);
@@ -62,7 +61,7 @@ fn adopt_manifest<R, T: Turns<R>>(
     ensures bench_same { T.Bench.faults bench.new ≡ T.Bench.faults bench.old }
     ensures mounted { T.mounting turns.new ≡ T.mounting turns.old }
     ensures duty { T.bound turns.new ≡ T.bound turns.old }
-    ensures listed { KeepsLabels (T.bound turns.old) (T.labels turns.old) (T.labels turns.new) }
+    ensures listed { T.own turns.new ≡ T.own turns.old }
     ensures cause { HasCause (T.faults turns.old) (T.faults turns.new) result }
 {
     let name = RepositoryFile::Manifest(shard.number()).name(shard.layout);
@@ -78,7 +77,7 @@ fn firm_pack<R, T: Turns<R>>(rt: &R, turns: &mut T) -> Result<(), PackPlace>
     ensures turned { (v : View) (f : ℕ) → T.knows turns.old v → v.section ≡ Some ManifestPut → v.firm ≡ Some f → Goes (T.knows turns.new) result PackFirm f v }
     ensures mounted { T.mounting turns.new ≡ T.mounting turns.old }
     ensures duty { T.bound turns.new ≡ T.bound turns.old }
-    ensures listed { KeepsLabels (T.bound turns.old) (T.labels turns.old) (T.labels turns.new) }
+    ensures listed { T.own turns.new ≡ T.own turns.old }
     ensures cause { HasCause (T.faults turns.old) (T.faults turns.new) result }
 {
     match turns.firm_names(rt) {
@@ -94,7 +93,7 @@ fn put_floor<R, T: Turns<R>>(rt: &R, turns: &mut T, line: &[u8]) -> Result<(), P
     ensures used { OnOk result (T.in_use turns.new (only_name OnlyFile.MinUnpackedRevNext)) }
     ensures mounted { T.mounting turns.new ≡ T.mounting turns.old }
     ensures duty { T.bound turns.new ≡ T.bound turns.old }
-    ensures listed { KeepsLabels (T.bound turns.old) (T.labels turns.old) (T.labels turns.new) }
+    ensures listed { T.own turns.new ≡ T.own turns.old }
     ensures cause { HasCause (T.faults turns.old) (T.faults turns.new) result }
 {
     match turns.put(rt, &OnlyFile::MinUnpackedRevNext.name(), line) {
@@ -110,7 +109,7 @@ fn rename_floor<R, T: Turns<R>>(rt: &R, turns: &mut T) -> Result<(), PackPlace>
     ensures turned { (v : View) (f : ℕ) → T.knows turns.old v → v.section ≡ Some FloorPut → v.since.packs ≡ true → v.firm ≡ Some f → Goes (T.knows turns.new) result FloorRenamed f v }
     ensures mounted { T.mounting turns.new ≡ T.mounting turns.old }
     ensures duty { T.bound turns.new ≡ T.bound turns.old }
-    ensures listed { KeepsLabels (T.bound turns.old) (T.labels turns.old) (T.labels turns.new) }
+    ensures listed { T.own turns.new ≡ T.own turns.old }
     ensures cause { HasCause (T.faults turns.old) (T.faults turns.new) result }
 {
     let next = OnlyFile::MinUnpackedRevNext.name();
@@ -127,7 +126,7 @@ fn firm_floor<R, T: Turns<R>>(rt: &R, turns: &mut T) -> Result<(), PackPlace>
     ensures turned { (v : View) (f : ℕ) → T.knows turns.old v → v.section ≡ Some FloorRenamed → v.firm ≡ Some f → Goes (T.knows turns.new) result Packed (f + shard_size v.layout) v }
     ensures mounted { T.mounting turns.new ≡ T.mounting turns.old }
     ensures duty { T.bound turns.new ≡ T.bound turns.old }
-    ensures listed { KeepsLabels (T.bound turns.old) (T.labels turns.old) (T.labels turns.new) }
+    ensures listed { T.own turns.new ≡ T.own turns.old }
     ensures cause { HasCause (T.faults turns.old) (T.faults turns.new) result }
 {
     match turns.firm_names(rt) {
@@ -150,7 +149,7 @@ fn name_pack<R, T: Turns<R>>(
     ensures bench_same { T.Bench.faults bench.new ≡ T.Bench.faults bench.old }
     ensures mounted { T.mounting turns.new ≡ T.mounting turns.old }
     ensures duty { T.bound turns.new ≡ T.bound turns.old }
-    ensures listed { KeepsLabels (T.bound turns.old) (T.labels turns.old) (T.labels turns.new) }
+    ensures listed { T.own turns.new ≡ T.own turns.old }
     ensures cause { HasCause (T.faults turns.old) (T.faults turns.new) result }
 {
     match adopt_pack(rt, turns, shard, bench) {
@@ -170,7 +169,7 @@ fn raise_floor<R, T: Turns<R>>(rt: &R, turns: &mut T, line: &[u8]) -> Result<(),
     ensures turned { (v : View) (f : ℕ) → T.knows turns.old v → v.section ≡ Some PackFirm → v.since.packs ≡ true → v.firm ≡ Some f → IsRevLine line.now (f + shard_size v.layout) → Goes (T.knows turns.new) result Packed (f + shard_size v.layout) v }
     ensures mounted { T.mounting turns.new ≡ T.mounting turns.old }
     ensures duty { T.bound turns.new ≡ T.bound turns.old }
-    ensures listed { KeepsLabels (T.bound turns.old) (T.labels turns.old) (T.labels turns.new) }
+    ensures listed { T.own turns.new ≡ T.own turns.old }
     ensures cause { HasCause (T.faults turns.old) (T.faults turns.new) result }
 {
     match put_floor(rt, turns, line) {
@@ -202,7 +201,7 @@ pub(crate) fn publish<R, T: Turns<R>>(
     ensures bench_same { T.Bench.faults bench.new ≡ T.Bench.faults bench.old }
     ensures mounted { T.mounting turns.new ≡ T.mounting turns.old }
     ensures duty { T.bound turns.new ≡ T.bound turns.old }
-    ensures listed { KeepsLabels (T.bound turns.old) (T.labels turns.old) (T.labels turns.new) }
+    ensures listed { T.own turns.new ≡ T.own turns.old }
     ensures cause { HasCause (T.faults turns.old) (T.faults turns.new) result }
 {
     match name_pack(rt, turns, shard, bench) {

@@ -3,7 +3,6 @@ ghost use Rattle.std.specs.Prelude.{◌≡◌, ◌<◌, ◌≢◌, ℕ, List, le
 ghost use Rattle.fsfs_disk.specs.Benches.{IsFirmFile};
 ghost use Rattle.fsfs_layout.specs.Manifest.{IsManifest};
 ghost use Rattle.fsfs_turn.specs.Courses.{ReadOnly};
-ghost use Rattle.fsfs_turn.specs.Labels.{KeepsLabels};
 ghost use Rattle.fsfs_turn.specs.Views.{View, is_held};
 ghost use Rattle.fsfs_pack.specs.Causes.{HasDiskCause, HasBenchCause, IsEarly, IsWant};
 ghost use Rattle.fsfs_pack.specs.Copies.{HasFile, AreOffsets};
@@ -82,7 +81,7 @@ pub(crate) fn fill<R, T: Turns<R>>(
     ensures manifest { OnOk result.1 (IsFirmFile (T.Bench.contents bench.new) (T.Bench.firm_to bench.new manifest_text) manifest_text) }
     ensures mounted { T.mounting result.0 ≡ T.mounting turns }
     ensures duty { T.bound result.0 ≡ T.bound turns }
-    ensures listed { KeepsLabels (T.bound turns) (T.labels turns) (T.labels result.0) }
+    ensures listed { T.own result.0 ≡ T.own turns }
     ensures disk_cause { HasDiskCause (T.faults turns) (T.faults result.0) result.1 }
     ensures bench_cause { HasBenchCause (T.Bench.faults bench.old) (T.Bench.faults bench.new) result.1 }
 {

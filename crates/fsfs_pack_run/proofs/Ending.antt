@@ -16,7 +16,8 @@ use Rattle.fsfs_turn.specs.Views.{View}
 use Rattle.fsfs_turn.specs.declared.since.Since.{Since}
 use Rattle.fsfs_repo.specs.Known.{HasSeenAll, HoldBytes}
 use Rattle.fsfs_repo.specs.PackCauses.{IfBench, IfDisk, IsWant}
-use Rattle.fsfs_repo.specs.Packs.{LeftRose, NoneCame, Packing, Says}
+use Rattle.fsfs_turn.specs.Labels.{NoneCame}
+use Rattle.fsfs_repo.specs.Packs.{LeftRose, Packing, Says}
 use Rattle.fsfs_repo.specs.PackEnd.{PackEnd}
 use Rattle.fsfs_repo.specs.PackEnd.TheVariants.{Nothing, Packed}
 use Rattle.fsfs_repo.specs.PackFault.{PackFault}

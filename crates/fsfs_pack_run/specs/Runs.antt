@@ -16,6 +16,7 @@ use Rattle.fsfs_disk.specs.Labels.{txn_entries}
 use Rattle.fsfs_disk.specs.Trace.{Trace, Operation, FirmNames, FailsAt, ImageSince, files_now, labels_now}
 use Rattle.fsfs_stands.specs.Files.{StandsFor}
 use Rattle.fsfs_turn.specs.Alone.{are_harmless}
+use Rattle.fsfs_turn.specs.Labels.{NoneCame}
 use Rattle.fsfs_turn.specs.Opening.{opened_at}
 use Rattle.fsfs_turn.specs.Stands.{AreLasting}
 use Rattle.fsfs_turn.specs.Views.{View}
@@ -23,7 +24,7 @@ use Rattle.fsfs_turn.specs.declared.since.Since.{Since}
 use Rattle.fsfs_repo.specs.Known.{HoldBytes}
 use Rattle.fsfs_repo.specs.OpenFaults.{OpensBecause}
 use Rattle.fsfs_repo.specs.PackCauses.{IfBench, IfDisk, IsWant}
-use Rattle.fsfs_repo.specs.Packs.{LeftRose, NoneCame}
+use Rattle.fsfs_repo.specs.Packs.{LeftRose}
 use Rattle.fsfs_repo.specs.PackEnd.{PackEnd}
 use Rattle.fsfs_repo.specs.PackEnd.TheVariants.{Nothing, Packed}
 use Rattle.fsfs_repo.specs.PackFault.{PackFault}

@@ -23,6 +23,7 @@ use Rattle.fsfs_pass.specs.SeatCalls.Tells.{MayAdoptIt, AdoptedBy, IsPutOf, adop
 use Rattle.fsfs_pass.proofs.Lasting.{IsPassingChange, HasPassingName, rev_passes, lasts_rises}
 use Rattle.fsfs_pass.proofs.FilesLast.{made_lasts, made_own}
 use Rattle.fsfs_pass.proofs.LabelsStay.{IsByNames, made_stay}
+use Rattle.fsfs_pass.proofs.OwnLabels.{KeepsNone, none_made}
 use Rattle.fsfs_pass.proofs.Going.{IsShort, StaysSure, after_more, Turn, gives_so}
 use Rattle.fsfs_pass.proofs.SectionCalls.{result_of, ended_so, made_well, put_ill, file_ill, made_told, adopted_stays}
 
@@ -73,7 +74,10 @@ adopted_turn me d t a bytes name change may named put made told old is young w s
         adopt_file_comes me.layout me.low young (stuck_place w.lock) old w v store sees refl safe a.txn a.properties a.next bytes may (Unit {0}) (Unit {0}) d.trace name (result_of d.failed) named
         (made_well d.failed (real.Adopt name bytes) (Some old) d.trace m) (file_ill d.failed name bytes (Some old) d.trace m)) put
 
+put_keeps_none : (name bytes : List ℕ) (change : real.NameChange) → IsPutOf name bytes change → KeepsNone change
+put_keeps_none name bytes change put = ⊎_elim (λ same. subst (λ k. KeepsNone k) (sym same) tt) (λ same. subst (λ k. KeepsNone k) (sym same) tt) put
+
 pub gives_adopted : (a : Adoption) (bytes : List ℕ) (began : DiskSeen) (first : SeatView) (slots id : ℕ) (me : Sat) (d : DiskSeen) → IsSitting me.0 → IsShort d → (was : DiskSeen) (name : List ℕ) (change : real.NameChange) → 0 < slots → me.1 ≡ (0, Some d) ∷ [] → me.0.hand ≡ Out was → IsLater (once d.failed) 0 was d → Made d.failed change was.trace d.trace
     → (me.0.told ≡ true → MayAdoptIt (view_of me.0) a bytes × (name ≡ rev_name (view_of me.0) (length me.0.seen)) × IsPutOf name bytes change) → Allows (Rule began first) slots id me 0 (λ _. 0) (λ _. adopted_back a bytes (step slots 0 0 0 none) me 0)
-gives_adopted a bytes began first slots id me d sits short was name change room carries has later made may = gives_so (λ m u. AdoptedBy a bytes (failed_of (carried m.1)) (view_of m.0) u) began first slots id me d sits short was room carries has later (made_told d.failed change was.trace d.trace made)
+gives_adopted a bytes began first slots id me d sits short was name change room carries has later made may = gives_so (λ m u. AdoptedBy a bytes (failed_of (carried m.1)) (view_of m.0) u) began first slots id me d sits short was room carries has later (made_told d.failed change was.trace d.trace made) (λ told. let x = may told in none_made d.failed change (put_keeps_none name bytes change x.2) was.trace d.trace made)
     (λ told. let x = may told in adopted_turn me.0 d was.trace a bytes name change x.0 x.1 x.2 made told)

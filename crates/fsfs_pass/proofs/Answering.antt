@@ -1,12 +1,12 @@
 -- What a call tells, by its answer.
 use Rattle.std.proofs.Common.{◌≡◌, ◌≢◌, ◌≤◌, ◌+◌, ◌-◌, ◌^◌, ℕ, List, true, false, ⊎_elim, inl, inr, refl, sym, ap, subst, ◌∙◌, arith}
-use Rattle.std.specs.Prelude.{is_some, Option, Some, None, Bool, Result, Ok, Err, OnOk, OnErr, IfOk, is_err, min, MatchOption, unwrap_or, option_map}
+use Rattle.std.specs.Prelude.{is_some, Option, Some, None, Bool, Result, Ok, Err, OnOk, OnErr, IfOk, IfSome, is_err, min, MatchOption, unwrap_or, option_map}
 use Rattle.std.proofs.Math.Nat.{min-le_left}
 use Rattle.fsfs_base.specs.Files.{Files}
 use Rattle.fsfs_base.specs.Failures.{HasCause, Rose, added_count}
 use Rattle.fsfs_fetch.specs.Views.{Later}
-use Rattle.fsfs_disk.specs.Labels.{Label}
-use Rattle.fsfs_disk.specs.Trace.{Trace, DropLabel, Performs, PerformsIfThere, FailsAt, FailsToPut, FailsToAdopt}
+use Rattle.fsfs_disk.specs.Labels.{Label, has_label}
+use Rattle.fsfs_disk.specs.Trace.{Trace, labels_now, DropLabel, Performs, PerformsIfThere, FailsAt, FailsToPut, FailsToAdopt}
 use Rattle.fsfs_disk.specs.Trace as real
 use Rattle.fsfs_base.specs.declared.places.place.DiskPlace.{DiskPlace}
 use Rattle.fsfs_machine.specs.declared.machine.Drawn.{Drawn}
@@ -90,9 +90,9 @@ made_remove failed name old new (Ok true) there is ok err = subst (λ f. Made f 
 made_remove failed name old new (Ok false) there is ok err = absurd (there refl)
 made_remove failed name old new (Err e) there is ok err = subst (λ f. Made f (real.Remove name) old new) (sym is) err
 
-pub made_drop : {E : Type 0} (failed : Bool) (l : Label) (old new : Option Trace) (result : Result Bool E) → failed ≡ is_err result → IfOk result (λ there. PerformsIfThere there (DropLabel l) old new) → OnErr result (FailsAt (DropLabel l) old new) → Dropped failed l old new
-made_drop failed l old new (Ok there) is ok err = subst (λ f. Dropped f l old new) (sym is) (there, ok)
-made_drop failed l old new (Err e) is ok err = subst (λ f. Dropped f l old new) (sym is) err
+pub made_drop : {E : Type 0} (failed : Bool) (l : Label) (old new : Option Trace) (result : Result Bool E) → failed ≡ is_err result → IfSome old (λ t. IfOk result (λ there. there ≡ has_label l (labels_now t))) → IfOk result (λ there. PerformsIfThere there (DropLabel l) old new) → OnErr result (FailsAt (DropLabel l) old new) → Dropped failed l old new
+made_drop failed l old new (Ok there) is said ok err = subst (λ f. Dropped f l old new) (sym is) (there, ok, said)
+made_drop failed l old new (Err e) is said ok err = subst (λ f. Dropped f l old new) (sym is) err
 
 -- ---- how it is answered
 

@@ -35,6 +35,7 @@ use Rattle.fsfs_pass.proofs.Following.{met_now}
 use Rattle.fsfs_pass.specs.OtherLabels.{AreAbove}
 use Rattle.fsfs_pass.proofs.LabelsStay.{keeps_itself}
 use Rattle.fsfs_pass.specs.First.{IsFirst}
+use Rattle.fsfs_pass.specs.OwnLabels.{AreOwnedOf}
 use Rattle.fsfs_machine.specs.Kept.{most_floor, may_rise}
 
 first_told : (layout : Layout) (low young : ℕ) (told : Option Trace) (v : SeatView) → IsFirst layout low young told v → v.told ≡ is_some told
@@ -138,6 +139,11 @@ store_first layout low young t first short k = record {
     met_first : Met first.layout w t (nameless_view first) t
     met_first = met_now first.layout first.low young (stuck_place w.lock) t w (nameless_view first) here (seen_within w (view_of first) known.2) (seen_of (length w.history) w.low (most_floor (may_rise w.lock) w.size w.floor) w.passes first.number first.pass known.1.kept.seen known.2.pass).least
 
+-- the labels that are kept then were kept then
+owned_first : (views : List SeatView) (o : Option Trace) → AreOwnedOf views o o
+owned_first views None = tt
+owned_first views (Some t) = λ l has. inl has
+
 pub begins : (layout : Layout) (low young : ℕ) (d : DiskSeen) (first : SeatView) → young ≤ last_rev → IfSome d.trace (λ t. HasShortFiles (files_now t)) → IsFirst layout low young d.trace first → Rule d first (opening (0 ∷ 0 ∷ young ∷ []) (Some d ∷ []) (nameless_view first))
 begins layout low young d first fits short k = record {
   out = 0;
@@ -155,5 +161,6 @@ begins layout low young d first fits short k = record {
   alone = λ j v e sits all. one_seat (λ j v. v.met ≡ d.trace) (nameless_view first) (first_met layout low young d.trace first k) j v e;
   names = one_seat (λ j v. AreAbove first.given v.given) (nameless_view first) (λ k i. absurd i);
   labels = keeps_itself first.since.packs first.given d.trace;
+  owned = owned_first (nameless_view first ∷ []) d.trace;
   store = λ t is. store_first layout low young t first (subst (λ o. IfSome o (λ z. HasShortFiles (files_now z))) is short) (subst (λ o. IsFirst layout low young o first) is k);
 }

@@ -32,6 +32,7 @@ use Rattle.fsfs_pass.proofs.Following.{lasts_same}
 use Rattle.fsfs_pass.specs.SeatCalls.Made.{went_of, carried, failed_of, trace_of, once}
 use Rattle.fsfs_pass.specs.SeatCalls.Tells.{DrawnBy, drawn_back}
 use Rattle.fsfs_pass.proofs.Going.{IsShort, StaysSure, after_more, Turn, gives_so}
+use Rattle.fsfs_pass.proofs.OwnLabels.{none_same}
 
 less_or_not : (a b : ℕ) → (a < b) ⊎ (b ≤ a)
 less_or_not zero zero = inr (omega arith)
@@ -81,5 +82,5 @@ drawn_turn me d t base same begun least told old is young w store sees safe = �
     drawn u turned full = record { trace = old; told_is = same ∙ is; text = file.0; number = at.0; line = file.2; there = file.1; turned = turned; full = full }
 
 pub gives_drawn : (base : ℕ) (began : DiskSeen) (first : SeatView) (slots id : ℕ) (me : Sat) (d was : DiskSeen) → IsSitting me.0 → IsShort d → 0 < slots → me.1 ≡ (0, Some d) ∷ [] → me.0.hand ≡ Out was → IsLater (once d.failed) 0 was d → d.trace ≡ was.trace → (me.0.told ≡ true → (me.0.section ≡ Some Begun) × (base ≤ me.0.pass.least)) → Allows (Rule began first) slots id me 0 (λ _. 0) (λ _. drawn_back base (step slots 0 0 0 none) me 0)
-gives_drawn base began first slots id me d was sits short room carries has later same may = gives_so (λ m u. DrawnBy base (trace_of (carried m.1)) (went_of (failed_of (carried m.1))) (view_of m.0) u) began first slots id me d sits short was room carries has later (ap (λ o. is_some o) same)
+gives_drawn base began first slots id me d was sits short room carries has later same may = gives_so (λ m u. DrawnBy base (trace_of (carried m.1)) (went_of (failed_of (carried m.1))) (view_of m.0) u) began first slots id me d sits short was room carries has later (ap (λ o. is_some o) same) (λ told. none_same was.trace d.trace same)
     (λ told. let x = may told in drawn_turn me.0 d was.trace base same x.0 x.1 told)

@@ -7,6 +7,7 @@ use Rattle.atomic_table.specs.Table.{Act, step, gives, rest, carried_after, Vali
 use Rattle.fsfs_layout.specs.declared.layout.Layout.{Layout}
 use Rattle.fsfs_fetch.specs.Views.{Later}
 use Rattle.fsfs_disk.specs.Benches.{HasShortFiles}
+use Rattle.fsfs_disk.specs.Labels.{Label}
 use Rattle.fsfs_disk.specs.Trace.{Trace, files_now, labels_now}
 use Rattle.fsfs_base.specs.declared.places.place.DiskPlace.{DiskPlace}
 use Rattle.fsfs_base.proofs.ResultLemmas.{none_of}
@@ -38,10 +39,11 @@ use Rattle.fsfs_pass.proofs.Accounts.{Turns, quiet_turn, harmful_more}
 use Rattle.fsfs_pass.proofs.Others.{Adds, seated, seat_sees, seat_safe, meets, goes_on}
 use Rattle.fsfs_pass.proofs.Rules.{St, seat_stays, restored, returned}
 use Rattle.fsfs_pass.specs.SeatCalls.Made.{once, risen}
-use Rattle.fsfs_pass.specs.SeatCalls.Tells.{IsBack, GivenBack, Back, counting}
+use Rattle.fsfs_pass.specs.SeatCalls.Tells.{IsBack, GivenBack, Back, counting, owning}
 use Rattle.fsfs_pass.proofs.FilesLast.{OwnStays}
 use Rattle.fsfs_pass.specs.OtherLabels.{AreAbove, KeepsOthers, KeepsOthersOf}
 use Rattle.fsfs_pass.proofs.LabelsStay.{OthersStay, below_some, stay_keeps}
+use Rattle.fsfs_pass.proofs.OwnLabels.{NoneComesOf, OwnsOf, owns_none, owns_where}
 use Rattle.fsfs_machine.specs.Kept.{AllBelow, IsIn, most_floor, may_rise}
 
 -- the word of the lock stays
@@ -97,13 +99,13 @@ module _ (first : SeatView) (views : List SeatView) (lock young : ℕ) (t : Trac
   met_own = subst (λ l. Met l w t me own.met.0) (sym own.layout) own.met.2
 
   -- after a call of the disk that left it so
-  module _ (k : ℕ) (failed : Bool) (left : Option Trace) (new : Trace) (left_is : left ≡ Some new) (P : View → Type 0) (a : IsAfter me.layout me.low young (stuck_place w.lock) new w (view_of me) (λ u. StaysSure w.given (view_of me) u × P u))
+  module _ (k : ℕ) (ls : List Label) (failed : Bool) (left : Option Trace) (new : Trace) (left_is : left ≡ Some new) (P : View → Type 0) (a : IsAfter me.layout me.low young (stuck_place w.lock) new w (view_of me) (λ u. StaysSure w.given (view_of me) u × P u))
       (lasts : Lasts me.layout (length w.history) (files_now t) (files_now new)) (owns : OwnStays me.layout me.since t new) (short : HasShortFiles (files_now new)) where
     abbrev after_call : SeatView
-    after_call = seat_with failed left (counting k me) a.view
+    after_call = seat_with failed left (counting k (owning ls me)) a.view
 
     view_is : a.view ≡ view_of after_call
-    view_is = seat_knows failed left (counting k me) a.view a.layout_is a.since_is a.opened_is a.number_is a.turned.0.same a.left_is
+    view_is = seat_knows failed left (counting k (owning ls me)) a.view a.layout_is a.since_is a.opened_is a.number_is a.turned.0.same a.left_is
 
     moved : Moved me.layout me.low young new w (view_of me) (view_of after_call) a.world.lock
     moved = subst (λ u. Moved me.layout me.low young new w (view_of me) u a.world.lock) view_is (call_moved me.layout me.low young (stuck_place w.lock) new w (view_of me) (λ u. StaysSure w.given (view_of me) u × P u) a)
@@ -157,9 +159,9 @@ module _ (first : SeatView) (views : List SeatView) (lock young : ℕ) (t : Trac
     tells_after = subst P view_is a.turned.1
 
   -- after one that left the store
-  module _ (k : ℕ) (failed : Bool) (left : Option Trace) (left_is : left ≡ Some t) (full : Bool) (names : KnowsNames full me.section w.disk) where
+  module _ (k : ℕ) (ls : List Label) (failed : Bool) (left : Option Trace) (left_is : left ≡ Some t) (full : Bool) (names : KnowsNames full me.section w.disk) where
     abbrev as_it_was : SeatView
-    as_it_was = seat_as failed left full (counting k me)
+    as_it_was = seat_as failed left full (counting k (owning ls me))
 
     sees_still : Sees w (view_of as_it_was)
     sees_still = let e = own.sees in record { pass = e.pass; seen = e.seen; section = e.section; up = e.up; sure = e.sure; whole = e.whole; given = e.given; opened = e.opened; shown = e.shown; firm = e.firm; names = names }
@@ -200,10 +202,10 @@ Turn me d t P = me.told ≡ true → (old : Trace) → t ≡ Some old → (young
 pub one_trace : (a b : Trace) → Some a ≡ Some b → a ≡ b
 one_trace a b e = cc
 
-module _ (began : DiskSeen) (first : SeatView) (slots id : ℕ) (me : Sat) (d : DiskSeen) (sits : IsSitting me.0) (short : IsShort d) (was : DiskSeen) (k : ℕ) (room : 0 < slots) (carries : me.1 ≡ (0, Some d) ∷ []) (has : me.0.hand ≡ Out was) (later : IsLater (once d.failed) k was d)
-    (same : is_some d.trace ≡ is_some was.trace) (P : View → Type 0) (turn : Turn me.0 d was.trace P) (s : St) (r : Rule began first s) (long : length s.homes ≡ slots) (at : get_elem? s.views id ≡ some me.0) where
+module _ (began : DiskSeen) (first : SeatView) (slots id : ℕ) (me : Sat) (d : DiskSeen) (sits : IsSitting me.0) (short : IsShort d) (was : DiskSeen) (k : ℕ) (ls : List Label) (room : 0 < slots) (carries : me.1 ≡ (0, Some d) ∷ []) (has : me.0.hand ≡ Out was) (later : IsLater (once d.failed) k was d)
+    (same : is_some d.trace ≡ is_some was.trace) (owns : me.0.told ≡ true → OwnsOf me.0.own ls was.trace d.trace) (P : View → Type 0) (turn : Turn me.0 d was.trace P) (s : St) (r : Rule began first s) (long : length s.homes ≡ slots) (at : get_elem? s.views id ≡ some me.0) where
   abbrev Goes : Type 0
-  Goes = (u : SeatView) × (a : Act (Option DiskSeen)) × Valid s.homes me.1 a × Rule began first (stepped s 0 0 id me.1 u a) × ((carried_after me.1 a ≡ []) × GivenBack P d.failed d.trace (counting k me.0) u)
+  Goes = (u : SeatView) × (a : Act (Option DiskSeen)) × Valid s.homes me.1 a × Rule began first (stepped s 0 0 id me.1 u a) × ((carried_after me.1 a ≡ []) × GivenBack P d.failed d.trace (counting k (owning ls me.0)) u)
 
   mine : HandIs r.out r.holder r.disk id (Out was)
   mine = subst (λ h. HandIs r.out r.holder r.disk id h) has (r.hands id me.0 at)
@@ -215,17 +217,20 @@ module _ (began : DiskSeen) (first : SeatView) (slots id : ℕ) (me : Sat) (d : 
   told_is : me.0.told ≡ is_some was.trace
   told_is = r.told id me.0 at (seat_stays me.0 sits) ∙ ap (λ o. is_some o) there
 
+  owns_now : OwnsOf me.0.own ls was.trace d.trace
+  owns_now = owns_where me.0.own ls was.trace d.trace me.0.told told_is owns
+
   met_is : is_some me.0.met ≡ me.0.told
   met_is = r.met id me.0 at (seat_stays me.0 sits) ∙ sym (r.told id me.0 at (seat_stays me.0 sits))
 
   -- the seat knows so much, and the table holds such a store
-  goes_so : (u : SeatView) → u.hand ≡ Empty → u.failures ≡ risen d.failed me.0.failures → u.bench_failures ≡ me.0.bench_failures + k → u.told ≡ me.0.told → u.kin ≡ me.0.kin → u.met ≡ d.trace → IsBack d.failed (counting k me.0) u → AreAbove first.given u.given → KeepsOthersOf first.since.packs first.given r.disk.trace d.trace → (me.0.told ≡ true → TellsSeen u.low (seat_store u) (view_of u)) → Later (seat_store me.0) (seat_store u) → (me.0.told ≡ true → P (view_of u))
+  goes_so : (u : SeatView) → u.hand ≡ Empty → u.failures ≡ risen d.failed me.0.failures → u.bench_failures ≡ me.0.bench_failures + k → u.told ≡ me.0.told → u.kin ≡ me.0.kin → u.own ≡ ls → u.met ≡ d.trace → IsBack d.failed (counting k (owning ls me.0)) u → AreAbove first.given u.given → KeepsOthersOf first.since.packs first.given r.disk.trace d.trace → (me.0.told ≡ true → TellsSeen u.low (seat_store u) (view_of u)) → Later (seat_store me.0) (seat_store u) → (me.0.told ≡ true → P (view_of u))
       → ((new : Trace) → d.trace ≡ Some new → Store first (slice_set s.views id u) r.lock r.young new) → Goes
-  goes_so u hand failed benches told kin met back names keeps tells follows step store = (
+  goes_so u hand failed benches told kin own_is met back names keeps tells follows step store = (
     u,
     gives,
     tt,
-    returned began first s r id me.0 u d me.1 was (once d.failed) k (at, sits) (omega (arith, room, long)) carries has later hand (failed ∙ risen_once d.failed me.0.failures) benches told (ap (λ o. is_some o) met) same kin (λ all. met) names keeps store,
+    returned began first s r id me.0 u d me.1 was (once d.failed) k (at, sits) (omega (arith, room, long)) carries has later hand (failed ∙ risen_once d.failed me.0.failures) benches told (ap (λ o. is_some o) met) same kin (λ all. met) names keeps (subst (λ (x : List Label × Option Trace). OwnsOf me.0.own x.0 x.1 d.trace) (λ i. (sym own_is i, sym there i)) owns_now) store,
     (
       ap (λ (cs : List (ℕ × Option DiskSeen)). rest cs) carries,
       record { back = back; left = met; was = met_is; tells = (ap (λ o. is_some o) met ∙ same ∙ sym told_is ∙ sym told, (λ is. tells (sym told ∙ is)), subst (λ o. IfSome (option_map files_now o) HasShortFiles) (sym met) (short_met d.trace short)); later = follows; step = step },
@@ -241,11 +246,11 @@ module _ (began : DiskSeen) (first : SeatView) (slots id : ℕ) (me : Sat) (d : 
   by_trace : (o : Option Trace) → was.trace ≡ o → Goes
   by_trace None is =
       let untold : me.0.told ≡ false = told_is ∙ ap (λ o. is_some o) is in
-      goes_so (seat_as d.failed d.trace me.0.full (counting k me.0)) refl refl refl refl refl refl refl
+      goes_so (seat_as d.failed d.trace me.0.full (counting k (owning ls me.0))) refl refl refl refl refl refl refl refl
       (r.names id me.0 at)
       (subst (λ o. KeepsOthersOf first.since.packs first.given o d.trace) (sym (there ∙ is)) tt)
       (λ told. let e : true ≡ false = sym told ∙ untold in absurd cc)
-      (later_untold me.0 (seat_as d.failed d.trace me.0.full (counting k me.0)) untold (none_of me.0.met (met_is ∙ untold)) refl refl)
+      (later_untold me.0 (seat_as d.failed d.trace me.0.full (counting k (owning ls me.0))) untold (none_of me.0.met (met_is ∙ untold)) refl refl)
       (λ told. let e : true ≡ false = sym told ∙ untold in absurd cc)
       (λ new told. let e : true ≡ false = ap (λ o. is_some o) (sym told) ∙ same ∙ ap (λ o. is_some o) is in absurd cc)
   by_trace (Some old) is =
@@ -253,49 +258,55 @@ module _ (began : DiskSeen) (first : SeatView) (slots id : ℕ) (me : Sat) (d : 
       let told : me.0.told ≡ true = told_is ∙ ap (λ o. is_some o) is in
       ⊎_elim
       (λ (x : (new : Trace) × (d.trace ≡ Some new) × IsAfter me.0.layout me.0.low r.young (stuck_place held.world.lock) new held.world (view_of me.0) (λ u. StaysSure held.world.given (view_of me.0) u × P u) × Lasts me.0.layout (length held.world.history) (files_now old) (files_now new) × OwnStays me.0.layout me.0.since old new × OthersStay me.0.since.packs me.0.given old new).
-      goes_so (seat_with d.failed d.trace (counting k me.0) x.2.view) refl refl refl refl refl refl refl
+      goes_so (seat_with d.failed d.trace (counting k (owning ls me.0)) x.2.view) refl refl refl refl refl refl refl refl
       (λ n i. ⊎_elim (λ was. r.names id me.0 at n was) (λ above. below_some n held.world.given first.given above held.before) (x.2.turned.0.names n i))
       (keeps_at old x.0 (there ∙ is) x.1 (stay_keeps first.since.packs first.given me.0.given old x.0 (r.names id me.0 at) (subst (λ b. OthersStay b me.0.given old x.0) (ap (λ (n : Since). n.packs) (seated first s.views r.lock r.young old held id me.0 (at, sits)).since) x.5)))
-      (seen_after first s.views r.lock r.young old held id me.0 (at, sits) k d.failed d.trace x.0 x.1 P x.2 x.3 x.4 (short_at x.0 x.1))
-      (later_after first s.views r.lock r.young old held id me.0 (at, sits) k d.failed d.trace x.0 x.1 P x.2 x.3 x.4 (short_at x.0 x.1) told)
-      (λ _. tells_after first s.views r.lock r.young old held id me.0 (at, sits) k d.failed d.trace x.0 x.1 P x.2 x.3 x.4 (short_at x.0 x.1))
-      (λ new now. subst (λ (o : Trace). Store first (slice_set s.views id (seat_with d.failed d.trace (counting k me.0) x.2.view)) r.lock r.young o) (one_trace x.0 new (sym x.1 ∙ now))
-      (goes_after first s.views r.lock r.young old held id me.0 (at, sits) k d.failed d.trace x.0 x.1 P x.2 x.3 x.4 (short_at x.0 x.1))))
+      (seen_after first s.views r.lock r.young old held id me.0 (at, sits) k ls d.failed d.trace x.0 x.1 P x.2 x.3 x.4 (short_at x.0 x.1))
+      (later_after first s.views r.lock r.young old held id me.0 (at, sits) k ls d.failed d.trace x.0 x.1 P x.2 x.3 x.4 (short_at x.0 x.1) told)
+      (λ _. tells_after first s.views r.lock r.young old held id me.0 (at, sits) k ls d.failed d.trace x.0 x.1 P x.2 x.3 x.4 (short_at x.0 x.1))
+      (λ new now. subst (λ (o : Trace). Store first (slice_set s.views id (seat_with d.failed d.trace (counting k (owning ls me.0)) x.2.view)) r.lock r.young o) (one_trace x.0 new (sym x.1 ∙ now))
+      (goes_after first s.views r.lock r.young old held id me.0 (at, sits) k ls d.failed d.trace x.0 x.1 P x.2 x.3 x.4 (short_at x.0 x.1))))
       (λ (x : (d.trace ≡ Some old) × ((full : Bool) × KnowsNames full me.0.section held.world.disk × P (record (view_of me.0) { full = full }))).
-      goes_so (seat_as d.failed d.trace x.1.0 (counting k me.0)) refl refl refl refl refl refl refl
+      goes_so (seat_as d.failed d.trace x.1.0 (counting k (owning ls me.0))) refl refl refl refl refl refl refl refl
       (r.names id me.0 at)
       (keeps_at old old (there ∙ is) x.0 (λ l other. refl))
-      (seen_still first s.views r.lock r.young old held id me.0 (at, sits) k d.failed d.trace x.0 x.1.0 x.1.1)
-      (later_still first s.views r.lock r.young old held id me.0 (at, sits) k d.failed d.trace x.0 x.1.0 x.1.1 told)
+      (seen_still first s.views r.lock r.young old held id me.0 (at, sits) k ls d.failed d.trace x.0 x.1.0 x.1.1)
+      (later_still first s.views r.lock r.young old held id me.0 (at, sits) k ls d.failed d.trace x.0 x.1.0 x.1.1 told)
       (λ _. x.1.2)
-      (λ new now. subst (λ (o : Trace). Store first (slice_set s.views id (seat_as d.failed d.trace x.1.0 (counting k me.0))) r.lock r.young o) (one_trace old new (sym x.0 ∙ now))
-      (still first s.views r.lock r.young old held id me.0 (at, sits) k d.failed d.trace x.0 x.1.0 x.1.1)))
+      (λ new now. subst (λ (o : Trace). Store first (slice_set s.views id (seat_as d.failed d.trace x.1.0 (counting k (owning ls me.0)))) r.lock r.young o) (one_trace old new (sym x.0 ∙ now))
+      (still first s.views r.lock r.young old held id me.0 (at, sits) k ls d.failed d.trace x.0 x.1.0 x.1.1)))
       (turn told old is r.young held.world (stands first s.views r.lock r.young old held id me.0 (at, sits)) (seat_sees first s.views r.lock r.young old held id me.0 (at, sits)) (stands_safe first s.views r.lock r.young old held id me.0 (at, sits)))
 
   pub goes_now : Goes
   goes_now = by_trace was.trace refl
 
 -- the seat gives the disk back with a call done, and a bench dropped whose calls failed so often
-pub goes_back : (began : DiskSeen) (first : SeatView) (slots id : ℕ) (me : Sat) (d : DiskSeen) → IsSitting me.0 → IsShort d → (was : DiskSeen) (k : ℕ) → 0 < slots → me.1 ≡ (0, Some d) ∷ [] → me.0.hand ≡ Out was → IsLater (once d.failed) k was d → is_some d.trace ≡ is_some was.trace → (P : View → Type 0) → Turn me.0 d was.trace P
-    → Allows (Rule began first) slots id me 0 (λ _. 0) (λ found m'. (m'.1 ≡ []) × GivenBack P d.failed d.trace (counting k me.0) m'.0)
-goes_back began first slots id me d sits short was k room carries has later same P turn s r long at small = goes_now began first slots id me d sits short was k room carries has later same P turn s r long at
+pub goes_back : (began : DiskSeen) (first : SeatView) (slots id : ℕ) (me : Sat) (d : DiskSeen) → IsSitting me.0 → IsShort d → (was : DiskSeen) (k : ℕ) (ls : List Label) → 0 < slots → me.1 ≡ (0, Some d) ∷ [] → me.0.hand ≡ Out was → IsLater (once d.failed) k was d → is_some d.trace ≡ is_some was.trace → (me.0.told ≡ true → OwnsOf me.0.own ls was.trace d.trace) → (P : View → Type 0) → Turn me.0 d was.trace P
+    → Allows (Rule began first) slots id me 0 (λ _. 0) (λ found m'. (m'.1 ≡ []) × GivenBack P d.failed d.trace (counting k (owning ls me.0)) m'.0)
+goes_back began first slots id me d sits short was k ls room carries has later same owns P turn s r long at small = goes_now began first slots id me d sits short was k ls room carries has later same owns P turn s r long at
 
 -- as the store of the word asks for it
-pub gives_with : (T : Sat → View → Type 0) (began : DiskSeen) (first : SeatView) (slots id : ℕ) (me : Sat) (d : DiskSeen) → IsSitting me.0 → IsShort d → (was : DiskSeen) (k : ℕ) → 0 < slots → me.1 ≡ (0, Some d) ∷ [] → me.0.hand ≡ Out was → IsLater (once d.failed) k was d → is_some d.trace ≡ is_some was.trace
-    → Turn me.0 d was.trace (T (counting k me.0, (0, Some d) ∷ [])) → Allows (Rule began first) slots id me 0 (λ _. 0) (λ _. Back T (step slots 0 0 0 none) (counting k me.0, me.1) 0)
-gives_with T began first slots id me d sits short was k room carries has later same turn =
-    subst (λ (cs : List (ℕ × Option DiskSeen)). Allows (Rule began first) slots id (me.0, cs) 0 (λ _. 0) (λ _. Back T (step slots 0 0 0 none) (counting k me.0, cs) 0)) (sym carries)
-    (goes_back began first slots id (me.0, (0, Some d) ∷ []) d sits short was k room refl has later same (T (counting k me.0, (0, Some d) ∷ [])) turn)
+pub gives_with : (T : Sat → View → Type 0) (began : DiskSeen) (first : SeatView) (slots id : ℕ) (me : Sat) (d : DiskSeen) → IsSitting me.0 → IsShort d → (was : DiskSeen) (k : ℕ) (ls : List Label) → 0 < slots → me.1 ≡ (0, Some d) ∷ [] → me.0.hand ≡ Out was → IsLater (once d.failed) k was d → is_some d.trace ≡ is_some was.trace → (me.0.told ≡ true → OwnsOf me.0.own ls was.trace d.trace)
+    → Turn me.0 d was.trace (T (counting k (owning ls me.0), (0, Some d) ∷ [])) → Allows (Rule began first) slots id me 0 (λ _. 0) (λ _. Back T (step slots 0 0 0 none) (counting k (owning ls me.0), me.1) 0)
+gives_with T began first slots id me d sits short was k ls room carries has later same owns turn =
+    subst (λ (cs : List (ℕ × Option DiskSeen)). Allows (Rule began first) slots id (me.0, cs) 0 (λ _. 0) (λ _. Back T (step slots 0 0 0 none) (counting k (owning ls me.0), cs) 0)) (sym carries)
+    (goes_back began first slots id (me.0, (0, Some d) ∷ []) d sits short was k ls room refl has later same owns (T (counting k (owning ls me.0), (0, Some d) ∷ [])) turn)
 
 counting_none : (v : SeatView) → counting 0 v ≡ v
 counting_none v = ap (λ (n : ℕ). record v { bench_failures = n }) (omega arith)
 
--- with no bench dropped
-pub gives_so : (T : Sat → View → Type 0) (began : DiskSeen) (first : SeatView) (slots id : ℕ) (me : Sat) (d : DiskSeen) → IsSitting me.0 → IsShort d → (was : DiskSeen) → 0 < slots → me.1 ≡ (0, Some d) ∷ [] → me.0.hand ≡ Out was → IsLater (once d.failed) 0 was d → is_some d.trace ≡ is_some was.trace → Turn me.0 d was.trace (T (me.0, (0, Some d) ∷ []))
+-- with no bench dropped, and these labels for which the pass answers then
+pub gives_owning : (T : Sat → View → Type 0) (began : DiskSeen) (first : SeatView) (slots id : ℕ) (me : Sat) (d : DiskSeen) → IsSitting me.0 → IsShort d → (was : DiskSeen) (ls : List Label) → 0 < slots → me.1 ≡ (0, Some d) ∷ [] → me.0.hand ≡ Out was → IsLater (once d.failed) 0 was d → is_some d.trace ≡ is_some was.trace → (me.0.told ≡ true → OwnsOf me.0.own ls was.trace d.trace)
+    → Turn me.0 d was.trace (T (owning ls me.0, (0, Some d) ∷ [])) → Allows (Rule began first) slots id me 0 (λ _. 0) (λ _. Back T (step slots 0 0 0 none) (owning ls me.0, me.1) 0)
+gives_owning T began first slots id me d sits short was ls room carries has later same owns turn =
+    subst (λ (v : SeatView). Allows (Rule began first) slots id me 0 (λ _. 0) (λ _. Back T (step slots 0 0 0 none) (v, me.1) 0)) (counting_none (owning ls me.0))
+    (gives_with T began first slots id me d sits short was 0 ls room carries has later same owns (subst (λ (v : SeatView). Turn me.0 d was.trace (T (v, (0, Some d) ∷ []))) (sym (counting_none (owning ls me.0))) turn))
+
+-- and by which no label came
+pub gives_so : (T : Sat → View → Type 0) (began : DiskSeen) (first : SeatView) (slots id : ℕ) (me : Sat) (d : DiskSeen) → IsSitting me.0 → IsShort d → (was : DiskSeen) → 0 < slots → me.1 ≡ (0, Some d) ∷ [] → me.0.hand ≡ Out was → IsLater (once d.failed) 0 was d → is_some d.trace ≡ is_some was.trace → (me.0.told ≡ true → NoneComesOf was.trace d.trace) → Turn me.0 d was.trace (T (me.0, (0, Some d) ∷ []))
     → Allows (Rule began first) slots id me 0 (λ _. 0) (λ _. Back T (step slots 0 0 0 none) me 0)
-gives_so T began first slots id me d sits short was room carries has later same turn =
-    subst (λ (v : SeatView). Allows (Rule began first) slots id me 0 (λ _. 0) (λ _. Back T (step slots 0 0 0 none) (v, me.1) 0)) (counting_none me.0)
-    (gives_with T began first slots id me d sits short was 0 room carries has later same (subst (λ (v : SeatView). Turn me.0 d was.trace (T (v, (0, Some d) ∷ []))) (sym (counting_none me.0)) turn))
+gives_so T began first slots id me d sits short was room carries has later same fewer turn =
+    gives_owning T began first slots id me d sits short was me.0.own room carries has later same (λ told. owns_none me.0.own was.trace d.trace (fewer told)) turn
 
 -- what was told of the seat as it had the disk in its slot again
 pub told_so : (T : Sat → View → Type 0) (slots : ℕ) (me now after : Sat) (d : DiskSeen) → me.1 ≡ (0, None) ∷ [] → now ≡ (me.0, (0, Some d) ∷ rest me.1) → Back T (step slots 0 0 0 none) now 0 after

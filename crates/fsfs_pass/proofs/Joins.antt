@@ -51,6 +51,7 @@ use Rattle.fsfs_pass.proofs.Failures.{failed, bench_failed, sum_joined, later_as
 use Rattle.fsfs_pass.proofs.Others.{at_less, left_apart, placed_other, as_long, seated, replaced}
 use Rattle.fsfs_pass.proofs.Stores as stores
 use Rattle.fsfs_pass.proofs.Rules.{short_told, seat_stays, goes, trace_of}
+use Rattle.fsfs_pass.proofs.OwnLabels.{owned_joined}
 
 no_more : (a b : ℕ) → nat_le a b ≡ true → a ≤ b
 no_more a b e = grind (arith, nat_tests)
@@ -467,6 +468,7 @@ module _ (began : DiskSeen) (first : SeatView) where
             (at_set s.views id j (joining_view v z) y stays.1))
             (at_set (slice_set s.views id (joining_view v z)) other j left_view y e);
         labels = r.labels;
+        owned = owned_joined s.views id v (joining_view v z) other z left_view at by apart refl refl began.trace r.disk.trace r.owned;
         store = λ t is. join_goes first s.views r.lock r.young t (r.store t is) id other v z (at, sits) (by, rests) apart (r.told id v at (seat_stays v sits) ∙ ap (λ o. is_some o) is) (r.told other z by (seat_stays z rests) ∙ ap (λ o. is_some o) is) outside;
       }
     where
@@ -482,7 +484,7 @@ module _ (began : DiskSeen) (first : SeatView) where
     settled_view r.disk.trace me.0,
     keeps,
     tt,
-    goes began first s r id me.0 (settled_view r.disk.trace me.0) (slice_set s.words 0 (slice_index s.words 0)) r.lock r.young at stays (ap (λ ws. slice_set ws 0 (slice_index ws 0)) r.words) r.bound refl refl refl refl refl refl (λ _ _. refl) after,
+    goes began first s r id me.0 (settled_view r.disk.trace me.0) (slice_set s.words 0 (slice_index s.words 0)) r.lock r.young at stays (ap (λ ws. slice_set ws 0 (slice_index ws 0)) r.words) r.bound refl refl refl refl refl refl refl refl (λ _ _. refl) after,
     (refl, fits, tells_it),
   )
     where

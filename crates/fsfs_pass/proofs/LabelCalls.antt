@@ -1,9 +1,9 @@
 -- Calls on labels, as the disk goes back.
-use Rattle.std.proofs.Common.{◌≡◌, ◌<◌, ℕ, [], ◌∷◌, ◌++◌, length, true, false, inl, ⊎_elim, refl, sym, ap, subst, ◌∙◌}
+use Rattle.std.proofs.Common.{◌≡◌, ◌<◌, ℕ, [], ◌∷◌, ◌++◌, length, true, false, inl, ⊎_elim, refl, sym, ap, subst, ◌∙◌, List}
 use Rattle.std.specs.Prelude.{Option, Some, None, Bool, Result, Ok, Err, OnErr, IfOk, if◌then◌else◌, is_some}
 use mathlib.Core.Option.{none}
 use Rattle.atomic_table.specs.Table.{step, Allows}
-use Rattle.fsfs_disk.specs.Labels.{Label, Txn as TxnLabel, Pack as PackLabel}
+use Rattle.fsfs_disk.specs.Labels.{Label, Txn as TxnLabel, Pack as PackLabel, with_label}
 use Rattle.fsfs_disk.specs.Trace.{Trace, KeepLabel, DropLabel, PerformsIfThere, FailsAt}
 use Rattle.fsfs_base.specs.declared.places.place.DiskPlace.{DiskPlace}
 use Rattle.fsfs_base.specs.declared.places.place.DiskPlace.TheVariants as place
@@ -27,11 +27,12 @@ use Rattle.fsfs_pass.specs.Seats.{view_of, IsSitting}
 use Rattle.fsfs_pass.specs.Rule.{Rule}
 use Rattle.fsfs_pass.specs.Tells.{Sat}
 use Rattle.fsfs_pass.specs.SeatCalls.Made.{Made, Ended, Dropped, carried, failed_of, once}
-use Rattle.fsfs_pass.specs.SeatCalls.Tells.{BenchedBy, MayKeep, MayDrop, PurgedBy, benched_back, purged_back}
+use Rattle.fsfs_pass.specs.SeatCalls.Tells.{Back, BenchedBy, MayKeep, MayDrop, PurgedBy, benched_back, purged_back, counting, disowned, owning}
 use Rattle.fsfs_pass.proofs.Lasting.{lasts_rises}
 use Rattle.fsfs_pass.proofs.FilesLast.{made_lasts, dropped_lasts, made_own, dropped_own}
 use Rattle.fsfs_pass.proofs.LabelsStay.{IsOfOne, made_stay, dropped_stay}
-use Rattle.fsfs_pass.proofs.Going.{IsShort, StaysSure, after_more, Turn, gives_so, gives_with}
+use Rattle.fsfs_pass.proofs.Going.{IsShort, StaysSure, after_more, Turn, gives_owning, gives_with}
+use Rattle.fsfs_pass.proofs.OwnLabels.{owns_kept, owns_dropped}
 use Rattle.fsfs_pass.proofs.SectionCalls.{result_of, ended_so, made_well, done_told, failed_told, made_told}
 use Rattle.fsfs_pass.proofs.ReadCalls.{seen_view, learned_is, learned_stays}
 
@@ -160,11 +161,28 @@ dropped_told false l old new m = by_there m.0 m.1
 dropped_told true l old new m = failed_told (DropLabel l) old new m
 
 pub gives_benched : (began : DiskSeen) (first : SeatView) (slots id : ℕ) (me : Sat) (d : DiskSeen) → IsSitting me.0 → IsShort d → (was : DiskSeen) (l : Label) → 0 < slots → me.1 ≡ (0, Some d) ∷ [] → me.0.hand ≡ Out was → IsLater (once d.failed) 0 was d → Made d.failed (KeepLabel l) was.trace d.trace → (me.0.told ≡ true → MayKeep (view_of me.0) l)
-    → Allows (Rule began first) slots id me 0 (λ _. 0) (λ _. benched_back (step slots 0 0 0 none) me 0)
-gives_benched began first slots id me d sits short was l room carries has later made may = gives_so (λ m u. BenchedBy (failed_of (carried m.1)) (view_of m.0) u) began first slots id me d sits short was room carries has later (made_told d.failed (KeepLabel l) was.trace d.trace made)
+    → Allows (Rule began first) slots id me 0 (λ _. 0) (λ _. benched_back l (step slots 0 0 0 none) me 0)
+gives_benched began first slots id me d sits short was l room carries has later made may = gives_owning (λ m u. BenchedBy (failed_of (carried m.1)) (view_of m.0) u) began first slots id me d sits short was (with_label l me.0.own) room carries has later (made_told d.failed (KeepLabel l) was.trace d.trace made)
+    (λ told. owns_kept d.failed l me.0.own was.trace d.trace made)
     (λ told. benched_turn me.0 d was.trace l (may told) made told)
 
 pub gives_purged : (k : ℕ) (began : DiskSeen) (first : SeatView) (slots id : ℕ) (me : Sat) (d : DiskSeen) → IsSitting me.0 → IsShort d → (was : DiskSeen) (l : Label) → 0 < slots → me.1 ≡ (0, Some d) ∷ [] → me.0.hand ≡ Out was → IsLater (once d.failed) k was d → Dropped d.failed l was.trace d.trace → (me.0.told ≡ true → MayDrop (view_of me.0) l)
-    → Allows (Rule began first) slots id me 0 (λ _. 0) (λ _. purged_back k (step slots 0 0 0 none) me 0)
-gives_purged k began first slots id me d sits short was l room carries has later dropped may = gives_with (λ m u. PurgedBy (failed_of (carried m.1)) (view_of m.0) u) began first slots id me d sits short was k room carries has later (dropped_told d.failed l was.trace d.trace dropped)
-    (λ told. purged_turn me.0 d was.trace l (may told) dropped told)
+    → Allows (Rule began first) slots id me 0 (λ _. 0) (λ _. purged_back k l (step slots 0 0 0 none) me 0)
+gives_purged k began first slots id me d sits short was l room carries has later dropped may =
+    subst (λ (cs : List (ℕ × Option DiskSeen)). Allows (Rule began first) slots id me 0 (λ _. 0) (λ _. Back (λ m u. PurgedBy (failed_of (carried m.1)) (view_of m.0) u) (step slots 0 0 0 none) (counting k (owning (disowned (failed_of (carried cs)) l me.0.own) me.0), me.1) 0)) (sym carries)
+    (gives_with (λ m u. PurgedBy (failed_of (carried m.1)) (view_of m.0) u) began first slots id me d sits short was k (disowned d.failed l me.0.own) room carries has later (dropped_told d.failed l was.trace d.trace dropped)
+    (λ told. owns_dropped d.failed l me.0.own was.trace d.trace dropped) (λ told. purged_turn me.0 d was.trace l (may told) dropped told))
+
+-- ---- the seat that is given back
+
+-- with a label kept
+abbrev pub kept_by : Label → Sat → Sat
+kept_by l m = (owning (with_label l m.0.own) m.0, m.1)
+
+-- with a bench and its label dropped
+abbrev pub dropped_by : ℕ → Bool → Label → Sat → Sat
+dropped_by n failed l m = (counting n (owning (disowned failed l m.0.own) m.0), m.1)
+
+-- by the disk that it carried
+pub dropped_back : (n : ℕ) (l : Label) (slots : ℕ) (m after : Sat) (d : DiskSeen) → m.1 ≡ (0, Some d) ∷ [] → purged_back n l (step slots 0 0 0 none) m 0 after → Back (λ m u. PurgedBy (failed_of (carried m.1)) (view_of m.0) u) (step slots 0 0 0 none) (dropped_by n d.failed l m) 0 after
+dropped_back n l slots m after d carries told = subst (λ (cs : List (ℕ × Option DiskSeen)). Back (λ m u. PurgedBy (failed_of (carried m.1)) (view_of m.0) u) (step slots 0 0 0 none) (dropped_by n (failed_of (carried cs)) l m) 0 after) carries told

@@ -6,6 +6,7 @@ pub mod Accounts
 pub mod Following
 pub mod Lasting
 pub mod LabelsStay
+pub mod OwnLabels
 pub mod Others
 pub mod Locks
 pub mod Stores

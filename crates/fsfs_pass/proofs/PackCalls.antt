@@ -29,6 +29,7 @@ use Rattle.fsfs_pass.proofs.Following.{lasts_same}
 use Rattle.fsfs_pass.proofs.Lasting.{removal_passes, lasts_rises}
 use Rattle.fsfs_pass.proofs.FilesLast.{made_lasts, made_own}
 use Rattle.fsfs_pass.proofs.LabelsStay.{made_stay}
+use Rattle.fsfs_pass.proofs.OwnLabels.{none_made, none_same}
 use Rattle.fsfs_pass.proofs.Answering.{ended_still}
 use Rattle.fsfs_pass.proofs.Going.{IsShort, StaysSure, after_more, Turn, gives_so}
 use Rattle.fsfs_pass.proofs.ReadCalls.{learned_stays}
@@ -120,8 +121,8 @@ beside_turn me d t same told old is young w store sees safe = inl (
 
 pub gives_removed : (name : List ℕ) (began : DiskSeen) (first : SeatView) (slots id : ℕ) (me : Sat) (d : DiskSeen) → IsSitting me.0 → IsShort d → (was : DiskSeen) → 0 < slots → me.1 ≡ (0, Some d) ∷ [] → me.0.hand ≡ Out was → IsLater (once d.failed) 0 was d → Made d.failed (Remove name) was.trace d.trace
     → (me.0.told ≡ true → (r : ℕ) × MayRemove (view_of me.0) r × (name ≡ rev_name (view_of me.0) r)) → Allows (Rule began first) slots id me 0 (λ _. 0) (λ _. removed_back name (step slots 0 0 0 none) me 0)
-gives_removed name began first slots id me d sits short was room carries has later made may = gives_so (λ m u. RemovedBy name (failed_of (carried m.1)) (view_of m.0) u) began first slots id me d sits short was room carries has later (made_told d.failed (Remove name) was.trace d.trace made)
+gives_removed name began first slots id me d sits short was room carries has later made may = gives_so (λ m u. RemovedBy name (failed_of (carried m.1)) (view_of m.0) u) began first slots id me d sits short was room carries has later (made_told d.failed (Remove name) was.trace d.trace made) (λ told. none_made d.failed (Remove name) tt was.trace d.trace made)
     (λ told. let x = may told in removed_turn name me.0 d was.trace x.0 x.1 x.2 made told)
 
 pub gives_beside : (began : DiskSeen) (first : SeatView) (slots id : ℕ) (me : Sat) (d was : DiskSeen) → IsSitting me.0 → IsShort d → 0 < slots → me.1 ≡ (0, Some d) ∷ [] → me.0.hand ≡ Out was → IsLater (once d.failed) 0 was d → d.trace ≡ was.trace → Allows (Rule began first) slots id me 0 (λ _. 0) (λ _. beside_back (step slots 0 0 0 none) me 0)
-gives_beside began first slots id me d was sits short room carries has later same = gives_so (λ m u. BesideBy (failed_of (carried m.1)) (view_of m.0) u) began first slots id me d sits short was room carries has later (ap (λ o. is_some o) same) (beside_turn me.0 d was.trace same)
+gives_beside began first slots id me d was sits short room carries has later same = gives_so (λ m u. BesideBy (failed_of (carried m.1)) (view_of m.0) u) began first slots id me d sits short was room carries has later (ap (λ o. is_some o) same) (λ told. none_same was.trace d.trace same) (beside_turn me.0 d was.trace same)

@@ -41,6 +41,7 @@ use Rattle.fsfs_pass.proofs.Following.{lasts_same}
 use Rattle.fsfs_pass.specs.SeatCalls.Made.{went_of, carried, failed_of, trace_of, once}
 use Rattle.fsfs_pass.specs.SeatCalls.Tells.{ReadBy, read_back, listed_back}
 use Rattle.fsfs_pass.proofs.Going.{IsShort, StaysSure, after_more, Turn, gives_so}
+use Rattle.fsfs_pass.proofs.OwnLabels.{none_same}
 use Rattle.fsfs_pass.proofs.Onward.{reads_only, beside_only}
 
 -- the pass that has seen this history, and has learned so much of it
@@ -139,7 +140,7 @@ listed_turn me d t same told old is young w store sees safe = inl (old, same ∙
     )
 
 pub gives_read : (name : List ℕ) (began : DiskSeen) (first : SeatView) (slots id : ℕ) (me : Sat) (d was : DiskSeen) → IsSitting me.0 → IsShort d → 0 < slots → me.1 ≡ (0, Some d) ∷ [] → me.0.hand ≡ Out was → IsLater (once d.failed) 0 was d → d.trace ≡ was.trace → Allows (Rule began first) slots id me 0 (λ _. 0) (λ _. read_back name (step slots 0 0 0 none) me 0)
-gives_read name began first slots id me d was sits short room carries has later same = gives_so (λ m u. ReadBy name (trace_of (carried m.1)) (went_of (failed_of (carried m.1))) (view_of m.0) u) began first slots id me d sits short was room carries has later (ap (λ o. is_some o) same) (read_turn name me.0 d was.trace same)
+gives_read name began first slots id me d was sits short room carries has later same = gives_so (λ m u. ReadBy name (trace_of (carried m.1)) (went_of (failed_of (carried m.1))) (view_of m.0) u) began first slots id me d sits short was room carries has later (ap (λ o. is_some o) same) (λ told. none_same was.trace d.trace same) (read_turn name me.0 d was.trace same)
 
 pub gives_listed : (began : DiskSeen) (first : SeatView) (slots id : ℕ) (me : Sat) (d was : DiskSeen) → IsSitting me.0 → IsShort d → 0 < slots → me.1 ≡ (0, Some d) ∷ [] → me.0.hand ≡ Out was → IsLater (once d.failed) 0 was d → d.trace ≡ was.trace → Allows (Rule began first) slots id me 0 (λ _. 0) (λ _. listed_back (step slots 0 0 0 none) me 0)
-gives_listed began first slots id me d was sits short room carries has later same = gives_so (λ m u. (ls : List Label) → Listed ls (went_of (failed_of (carried m.1))) (view_of m.0) u) began first slots id me d sits short was room carries has later (ap (λ o. is_some o) same) (listed_turn me.0 d was.trace same)
+gives_listed began first slots id me d was sits short room carries has later same = gives_so (λ m u. (ls : List Label) → Listed ls (went_of (failed_of (carried m.1))) (view_of m.0) u) began first slots id me d sits short was room carries has later (ap (λ o. is_some o) same) (λ told. none_same was.trace d.trace same) (listed_turn me.0 d was.trace same)

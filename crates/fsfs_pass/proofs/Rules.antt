@@ -54,7 +54,9 @@ use Rattle.fsfs_pass.proofs.WhoseOwn.{all_once, all_there}
 use Rattle.fsfs_pass.proofs.Failures.{failed, bench_failed, sum_of_one, sum_more, sum_same, later_then, later_less, later_as}
 use Rattle.fsfs_pass.proofs.Others.{reseated, left_apart, there_at, none_past, seated, replaced}
 use Rattle.fsfs_pass.specs.OtherLabels.{AreAbove, KeepsOthersOf}
+use Rattle.fsfs_pass.specs.OwnLabels.{AreOwnedOf, OwnsAll}
 use Rattle.fsfs_pass.proofs.LabelsStay.{keeps_itself, keeps_then}
+use Rattle.fsfs_pass.proofs.OwnLabels.{OwnsOf, owns_still, owned_set, none_owned, owned_alone}
 use Rattle.fsfs_pass.proofs.Stores as stores
 
 abbrev pub St : Type 0
@@ -126,9 +128,9 @@ names_set first views id me u at names its j z e = ⊎_elim
 
 module _ (began : DiskSeen) (first : SeatView) where
   -- one seat's view and a word change, and the disk stays where it is
-  pub goes : (s : St) (r : Rule began first s) (id : ℕ) (me u : SeatView) (ws : List ℕ) (lock young : ℕ) → get_elem? s.views id ≡ some me → is_left me.kin.stage ≡ false → ws ≡ r.out ∷ lock ∷ young ∷ [] → young ≤ last_rev → u.hand ≡ me.hand → u.failures ≡ me.failures → u.bench_failures ≡ me.bench_failures → u.told ≡ me.told → u.given ≡ me.given → is_some u.met ≡ is_some r.disk.trace → (IsSitting u → u.kin.parts ≡ all_parts → u.met ≡ r.disk.trace)
+  pub goes : (s : St) (r : Rule began first s) (id : ℕ) (me u : SeatView) (ws : List ℕ) (lock young : ℕ) → get_elem? s.views id ≡ some me → is_left me.kin.stage ≡ false → ws ≡ r.out ∷ lock ∷ young ∷ [] → young ≤ last_rev → u.hand ≡ me.hand → u.failures ≡ me.failures → u.bench_failures ≡ me.bench_failures → u.told ≡ me.told → u.given ≡ me.given → u.own ≡ me.own → is_left u.kin.stage ≡ false → is_some u.met ≡ is_some r.disk.trace → (IsSitting u → u.kin.parts ≡ all_parts → u.met ≡ r.disk.trace)
       → ((t : Trace) → r.disk.trace ≡ Some t → Store first (slice_set s.views id u) lock young t) → Rule began first record { words = ws; homes = s.homes; views = slice_set s.views id u }
-  goes s r id me u ws lock young at stays words bound hand fails benches told given met alone store = record {
+  goes s r id me u ws lock young at stays words bound hand fails benches told given own stays_on met alone store = record {
     out = r.out;
     lock = lock;
     young = young;
@@ -152,6 +154,7 @@ module _ (began : DiskSeen) (first : SeatView) where
         (λ (there : (j ≢ id) × (get_elem? s.views j ≡ some z)). r.alone j z there.1) (at_set s.views id j u z e);
     names = names_set first s.views id me u at r.names (subst (λ ks. AreAbove first.given ks) (sym given) (r.names id me at));
     labels = r.labels;
+    owned = owned_set s.views id me u at stays_on began.trace r.disk.trace r.disk.trace refl (owns_still me.own u.own own r.disk.trace) r.owned;
     store = store;
   }
 
@@ -171,7 +174,7 @@ module _ (began : DiskSeen) (first : SeatView) where
         keeps,
         tt,
         subst (λ n. Rule began first record { words = slice_set s.words 2 (slice_index s.words 2); homes = s.homes; views = slice_set s.views id (look_view n r.disk.trace me.0) }) (sym found)
-            (goes s r id me.0 (look_view r.young r.disk.trace me.0) (slice_set s.words 2 (slice_index s.words 2)) r.lock r.young at (seat_stays me.0 sits) next r.bound refl refl refl refl refl refl (λ _ _. refl) (λ t is. (looks_at t is).1)),
+            (goes s r id me.0 (look_view r.young r.disk.trace me.0) (slice_set s.words 2 (slice_index s.words 2)) r.lock r.young at (seat_stays me.0 sits) next r.bound refl refl refl refl refl refl (seat_stays me.0 sits) refl (λ _ _. refl) (λ t is. (looks_at t is).1)),
         subst (λ n. looked (step slots 2 0 0 none) me n (look_view n r.disk.trace me.0, me.1)) (sym found) (r.bound, refl, (λ told. let t = trace_of s r id me.0 at (seat_stays me.0 sits) told in (looks_at t.0 t.1).0), by_told me.0.told refl, tells_it, λ all. sym (r.alone id me.0 at sits all)),
       )
     where
@@ -202,7 +205,7 @@ module _ (began : DiskSeen) (first : SeatView) where
         lock_view me.0,
         keeps,
         tt,
-        goes s r id me.0 (lock_view me.0) _ 1 r.young at (seat_stays me.0 sits) (next ∙ ap (λ b. r.out ∷ either b 1 r.lock ∷ r.young ∷ []) (eq-eqb r.lock 0 zero)) r.bound refl refl refl refl refl (r.met id me.0 at (seat_stays me.0 sits)) (λ _. r.alone id me.0 at sits)
+        goes s r id me.0 (lock_view me.0) _ 1 r.young at (seat_stays me.0 sits) (next ∙ ap (λ b. r.out ∷ either b 1 r.lock ∷ r.young ∷ []) (eq-eqb r.lock 0 zero)) r.bound refl refl refl refl refl refl (seat_stays me.0 sits) (r.met id me.0 at (seat_stays me.0 sits)) (λ _. r.alone id me.0 at sits)
             (λ t is. let k = r.store t is in (stores.takes first s.views r.lock r.young t k id me.0 (at, sits) (word_free k.world.lock k.up (sym k.lock_is ∙ zero))).1),
         tell (lock_view me.0) (
           (λ _. (refl, λ told. let t = trace_of s r id me.0 at (seat_stays me.0 sits) told in let k = r.store t.0 t.1 in (stores.takes first s.views r.lock r.young t.0 k id me.0 (at, sits) (word_free k.world.lock k.up (sym k.lock_is ∙ zero))).0)),
@@ -215,14 +218,14 @@ module _ (began : DiskSeen) (first : SeatView) where
         me.0,
         keeps,
         tt,
-        goes s r id me.0 me.0 _ r.lock r.young at (seat_stays me.0 sits) (same no) r.bound refl refl refl refl refl (r.met id me.0 at (seat_stays me.0 sits)) (λ _. r.alone id me.0 at sits) (λ t is. unseated first s.views r.lock r.young t id me.0 at (r.store t is)),
+        goes s r id me.0 me.0 _ r.lock r.young at (seat_stays me.0 sits) (same no) r.bound refl refl refl refl refl refl (seat_stays me.0 sits) (r.met id me.0 at (seat_stays me.0 sits)) (λ _. r.alone id me.0 at sits) (λ t is. unseated first s.views r.lock r.young t id me.0 at (r.store t is)),
         tell me.0 ((λ zero. absurd (no zero)), (λ _. refl), λ more. absurd (omega (arith, one, more))),
       ))
       (λ not_one. let above : 2 ≤ r.lock = above_one r.lock no not_one in (
         stuck_view (place_at r.lock) me.0,
         keeps,
         tt,
-        goes s r id me.0 (stuck_view (place_at r.lock) me.0) _ r.lock r.young at (seat_stays me.0 sits) (same no) r.bound refl refl refl refl refl (r.met id me.0 at (seat_stays me.0 sits)) (λ _. r.alone id me.0 at sits) (λ t is. stays r.lock above t (r.store t is)),
+        goes s r id me.0 (stuck_view (place_at r.lock) me.0) _ r.lock r.young at (seat_stays me.0 sits) (same no) r.bound refl refl refl refl refl refl (seat_stays me.0 sits) (r.met id me.0 at (seat_stays me.0 sits)) (λ _. r.alone id me.0 at sits) (λ t is. stays r.lock above t (r.store t is)),
         tell (stuck_view (place_at r.lock) me.0) (
           (λ zero. absurd (no zero)),
           (λ one. absurd (not_one one)),
@@ -244,7 +247,7 @@ module _ (began : DiskSeen) (first : SeatView) where
     outside_view me.0,
     keeps,
     tt,
-    goes s r id me.0 (outside_view me.0) _ 0 r.young at (seat_stays me.0 sits) (ap (λ ws. slice_set ws 1 0) r.words) r.bound refl refl refl refl refl (r.met id me.0 at (seat_stays me.0 sits)) (λ _. r.alone id me.0 at sits)
+    goes s r id me.0 (outside_view me.0) _ 0 r.young at (seat_stays me.0 sits) (ap (λ ws. slice_set ws 1 0) r.words) r.bound refl refl refl refl refl refl (seat_stays me.0 sits) (r.met id me.0 at (seat_stays me.0 sits)) (λ _. r.alone id me.0 at sits)
         (λ t is. (stores.gives first s.views r.lock r.young t (r.store t is) id me.0 (at, sits) (may (told_of s r id me.0 at (seat_stays me.0 sits) t is))).1),
     (refl, λ told. let t = trace_of s r id me.0 at (seat_stays me.0 sits) told in (stores.gives first s.views r.lock r.young t.0 (r.store t.0 t.1) id me.0 (at, sits) (may told)).0),
   )
@@ -254,7 +257,7 @@ module _ (began : DiskSeen) (first : SeatView) where
     outside_view me.0,
     keeps,
     tt,
-    goes s r id me.0 (outside_view me.0) _ n r.young at (seat_stays me.0 sits) (ap (λ ws. slice_set ws 1 n) r.words) r.bound refl refl refl refl refl (r.met id me.0 at (seat_stays me.0 sits)) (λ _. r.alone id me.0 at sits)
+    goes s r id me.0 (outside_view me.0) _ n r.young at (seat_stays me.0 sits) (ap (λ ws. slice_set ws 1 n) r.words) r.bound refl refl refl refl refl refl (seat_stays me.0 sits) (r.met id me.0 at (seat_stays me.0 sits)) (λ _. r.alone id me.0 at sits)
         (λ t is. subst (λ k. Store first (slice_set s.views id (outside_view me.0)) k r.young t) (sym is_n) (stores.sticks first s.views r.lock r.young t (r.store t is) id me.0 (at, sits) place (may (told_of s r id me.0 at (seat_stays me.0 sits) t is))).1),
     (refl, λ told. let t = trace_of s r id me.0 at (seat_stays me.0 sits) told in (stores.sticks first s.views r.lock r.young t.0 (r.store t.0 t.1) id me.0 (at, sits) place (may told)).0),
   )
@@ -264,7 +267,7 @@ module _ (began : DiskSeen) (first : SeatView) where
     reveal_in me.0.section r.disk.trace me.0,
     keeps,
     tt,
-    goes s r id me.0 (reveal_in me.0.section r.disk.trace me.0) _ r.lock rev at (seat_stays me.0 sits) (ap (λ ws. slice_set ws 2 rev) r.words) fits (hand_in me.0.section) (failures_at me.0.section) (benches_at me.0.section) (told_in me.0.section) (given_in me.0.section) (met_in me.0.section) (alone_in me.0.section) after,
+    goes s r id me.0 (reveal_in me.0.section r.disk.trace me.0) _ r.lock rev at (seat_stays me.0 sits) (ap (λ ws. slice_set ws 2 rev) r.words) fits (hand_in me.0.section) (failures_at me.0.section) (benches_at me.0.section) (told_in me.0.section) (given_in me.0.section) (own_in me.0.section) (seat_stays (reveal_in me.0.section r.disk.trace me.0) (sits_in me.0.section)) (met_in me.0.section) (alone_in me.0.section) after,
     ((λ i. (meets_as me.0.section i, me.1)), told_so, tells_it),
   )
     where
@@ -287,6 +290,10 @@ module _ (began : DiskSeen) (first : SeatView) where
       given_in : (o : Option Section) → (reveal_in o r.disk.trace me.0).given ≡ me.0.given
       given_in (Some (CurrentFirm x)) = refl
       given_in o = refl
+
+      own_in : (o : Option Section) → (reveal_in o r.disk.trace me.0).own ≡ me.0.own
+      own_in (Some (CurrentFirm x)) = refl
+      own_in o = refl
 
       sits_in : (o : Option Section) → IsSitting (reveal_in o r.disk.trace me.0)
       sits_in (Some (CurrentFirm x)) = sits
@@ -371,18 +378,28 @@ module _ (began : DiskSeen) (first : SeatView) where
               (λ (there : (j ≢ id) × (get_elem? s.views j ≡ some z)). r.alone j z there.1) (at_set s.views id j u z e);
           names = names_set first s.views id me.0 u at r.names (r.names id me.0 at);
           labels = r.labels;
+          owned = owned_set s.views id me.0 u at (seat_stays me.0 sits) began.trace r.disk.trace r.disk.trace refl (owns_still me.0.own me.0.own refl r.disk.trace) r.owned;
           store = λ t is. rehand first s.views r.lock r.young t id me.0 (Out r.disk) (at, sits) (r.store t is);
         },
-        ((λ _. (r.disk, refl, r.told id me.0 at (seat_stays me.0 sits), (λ all. sym (r.alone id me.0 at sits all)), later_less (failures_in s.views) me.0.failures (bench_failures_in s.views) me.0.bench_failures began r.disk (sum_of_one failed s.views id me.0 at) (sum_of_one bench_failed s.views id me.0 at) r.later, r.labels, λ t is. met t (r.store t is))), λ no. absurd (no (found ∙ hit))),
+        ((λ _. (r.disk, refl, r.told id me.0 at (seat_stays me.0 sits), (λ all. sym (r.alone id me.0 at sits all)), later_less (failures_in s.views) me.0.failures (bench_failures_in s.views) me.0.bench_failures began r.disk (sum_of_one failed s.views id me.0 at) (sum_of_one bench_failed s.views id me.0 at) r.later, r.labels, (λ all. own_all r.disk.trace refl all), λ t is. met t (r.store t is))), λ no. absurd (no (found ∙ hit))),
       ))
       (λ miss. (
         me.0,
         keeps,
         tt,
-        goes s r id me.0 me.0 _ r.lock r.young at (seat_stays me.0 sits) (next ∙ ap (λ b. either b 1 r.out ∷ r.lock ∷ r.young ∷ []) (ne_eqb r.out 0 miss)) r.bound refl refl refl refl refl (r.met id me.0 at (seat_stays me.0 sits)) (λ _. r.alone id me.0 at sits) (λ t is. unseated first s.views r.lock r.young t id me.0 at (r.store t is)),
+        goes s r id me.0 me.0 _ r.lock r.young at (seat_stays me.0 sits) (next ∙ ap (λ b. either b 1 r.out ∷ r.lock ∷ r.young ∷ []) (ne_eqb r.out 0 miss)) r.bound refl refl refl refl refl refl (seat_stays me.0 sits) (r.met id me.0 at (seat_stays me.0 sits)) (λ _. r.alone id me.0 at sits) (λ t is. unseated first s.views r.lock r.young t id me.0 at (r.store t is)),
         ((λ z. absurd (miss (sym found ∙ z))), λ _. refl),
       ))
     where
+      -- where no other sits, each label that came is one for which the seat answers
+      own_all : (o : Option Trace) → r.disk.trace ≡ o → me.0.kin.parts ≡ all_parts → OwnsAll me.0.own began.trace o
+      own_all None is all = none_owned me.0.own began.trace
+      own_all (Some t) is all = owned_alone s.views me.0 began.trace t
+          (λ j v e left.
+          let here : j ≡ id = only_one (branches s.views) (r.store t is).kin id (branch_of me.0) (map_there s.views id me.0 at) all j (branch_of v) (map_there s.views j v e) left in
+          some-injective v me.0 (sym e ∙ ap (λ k. get_elem? s.views k) here ∙ at))
+          (subst (λ o. AreOwnedOf s.views began.trace o) is r.owned)
+
       nobody : r.out ≡ 0 → (j : ℕ) (h : Hand) → HandIs r.out r.holder r.disk j h → HandIs 1 id r.disk j h
       nobody hit j Empty k = tt
       nobody hit j (Out d) k = absurd (omega (arith, hit, k.0))
@@ -475,9 +492,9 @@ module _ (began : DiskSeen) (first : SeatView) where
 
   -- the disk goes back to its slot, n calls of which have failed since it was taken, and k of benches that it took back, and the seat knows so much
   pub returned : (s : St) (r : Rule began first s) (id : ℕ) (me u : SeatView) (d : DiskSeen) (cs : List (ℕ × Option DiskSeen)) (was : DiskSeen) (n k : ℕ) → Sits s.views id me → 0 < length s.homes → cs ≡ (0, Some d) ∷ [] → me.hand ≡ Out was → IsLater n k was d
-      → u.hand ≡ Empty → u.failures ≡ me.failures + n → u.bench_failures ≡ me.bench_failures + k → u.told ≡ me.told → is_some u.met ≡ is_some d.trace → is_some d.trace ≡ is_some was.trace → u.kin ≡ me.kin → (me.kin.parts ≡ all_parts → u.met ≡ d.trace) → AreAbove first.given u.given → KeepsOthersOf first.since.packs first.given r.disk.trace d.trace → ((now : Trace) → d.trace ≡ Some now → Store first (slice_set s.views id u) r.lock r.young now)
+      → u.hand ≡ Empty → u.failures ≡ me.failures + n → u.bench_failures ≡ me.bench_failures + k → u.told ≡ me.told → is_some u.met ≡ is_some d.trace → is_some d.trace ≡ is_some was.trace → u.kin ≡ me.kin → (me.kin.parts ≡ all_parts → u.met ≡ d.trace) → AreAbove first.given u.given → KeepsOthersOf first.since.packs first.given r.disk.trace d.trace → OwnsOf me.own u.own r.disk.trace d.trace → ((now : Trace) → d.trace ≡ Some now → Store first (slice_set s.views id u) r.lock r.young now)
       → Rule began first record { words = slice_set s.words 0 0; homes = put_back s.homes cs; views = slice_set s.views id u }
-  returned s r id me u d cs was n k at room carried has later hand fails benches told met same kin alone names others store = record {
+  returned s r id me u d cs was n k at room carried has later hand fails benches told met same kin alone names others owns store = record {
     out = 0;
     lock = r.lock;
     young = r.young;
@@ -502,6 +519,7 @@ module _ (began : DiskSeen) (first : SeatView) where
         (λ (there : (j ≢ id) × (get_elem? s.views j ≡ some z)). alone_still j z there.0 there.1 sits all r.disk.trace refl) (at_set s.views id j u z e);
     names = names_set first s.views id me u at.0 r.names names;
     labels = keeps_then first.since.packs first.given began.trace r.disk.trace d.trace (sym is_told) r.labels others;
+    owned = owned_set s.views id me u at.0 (ap (λ (c : Kin). is_left c.stage) kin ∙ seat_stays me at.1) began.trace r.disk.trace d.trace (sym is_told) owns r.owned;
     store = store;
   }
     where
@@ -532,6 +550,6 @@ module _ (began : DiskSeen) (first : SeatView) where
         gives,
         tt,
         returned s r id me.0 u d me.1 was 0 0 (at, sits) (omega (arith, room, long)) carried has later refl (omega arith) (omega arith) refl (r.met id me.0 at (seat_stays me.0 sits) ∙ ap (λ o. is_some o) (sym stays)) (ap (λ o. is_some o) same) refl (λ all. r.alone id me.0 at sits all ∙ sym stays) (r.names id me.0 at) (subst (λ o. KeepsOthersOf first.since.packs first.given r.disk.trace o) (sym stays) (keeps_itself first.since.packs first.given r.disk.trace))
-            (λ t is. rehand first s.views r.lock r.young t id me.0 Empty (at, sits) (r.store t (sym stays ∙ is))),
+            (subst (λ o. OwnsOf me.0.own me.0.own r.disk.trace o) (sym stays) (owns_still me.0.own me.0.own refl r.disk.trace)) (λ t is. rehand first s.views r.lock r.young t id me.0 Empty (at, sits) (r.store t (sym stays ∙ is))),
         ap (λ (cs : List (ℕ × Option DiskSeen)). (u, rest cs)) carried,
       )

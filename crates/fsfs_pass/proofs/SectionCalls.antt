@@ -45,6 +45,7 @@ use Rattle.fsfs_pass.specs.SeatCalls.Tells.{CalledBy, PackUnmade, Unmade, called
 use Rattle.fsfs_pass.proofs.Doubting.{place_due, called_calm}
 use Rattle.fsfs_pass.proofs.FilesLast.{made_lasts, made_own}
 use Rattle.fsfs_pass.proofs.LabelsStay.{IsByNames, made_stay}
+use Rattle.fsfs_pass.proofs.OwnLabels.{KeepsNone, none_made, none_same}
 use Rattle.fsfs_pass.proofs.Going.{IsShort, StaysSure, after_more, Turn, gives_so}
 
 -- ---- how it ended
@@ -230,6 +231,13 @@ section_names packs given (real.Adopt name bytes) its = tt
 section_names packs given real.FirmNames its = tt
 section_names packs given change its = absurd its
 
+section_keeps_none : (change : real.NameChange) → IsSections change → KeepsNone change
+section_keeps_none (real.Put name bytes) its = tt
+section_keeps_none (real.Rename from to) its = tt
+section_keeps_none (real.Adopt name bytes) its = tt
+section_keeps_none real.FirmNames its = tt
+section_keeps_none change its = absurd its
+
 pub called_turn : (me : SeatView) (d : DiskSeen) (t : Option Trace) (place : DiskPlace) (change : real.NameChange) → IsDue (view_of me) place change → Made d.failed change t d.trace → Turn me d t (CalledBy d.failed (view_of me))
 called_turn me d t place change due made told old is young w store sees safe =
     let here : Made d.failed change (Some old) d.trace = subst (λ o. Made d.failed change o d.trace) is made in
@@ -325,13 +333,13 @@ pack_unmade_turn me d t place file bytes due same told old is young w store sees
 
 pub gives_called : (began : DiskSeen) (first : SeatView) (slots id : ℕ) (me : Sat) (d : DiskSeen) → IsSitting me.0 → IsShort d → (was : DiskSeen) (change : real.NameChange) → 0 < slots → me.1 ≡ (0, Some d) ∷ [] → me.0.hand ≡ Out was → IsLater (once d.failed) 0 was d → Made d.failed change was.trace d.trace → (me.0.told ≡ true → (place : DiskPlace) × IsDue (view_of me.0) place change)
     → Allows (Rule began first) slots id me 0 (λ _. 0) (λ _. called_back (step slots 0 0 0 none) me 0)
-gives_called began first slots id me d sits short was change room carries has later made due = gives_so (λ m u. CalledBy (failed_of (carried m.1)) (view_of m.0) u) began first slots id me d sits short was room carries has later (made_told d.failed change was.trace d.trace made)
+gives_called began first slots id me d sits short was change room carries has later made due = gives_so (λ m u. CalledBy (failed_of (carried m.1)) (view_of m.0) u) began first slots id me d sits short was room carries has later (made_told d.failed change was.trace d.trace made) (λ told. let x = due told in none_made d.failed change (section_keeps_none change (sections_due (view_of me.0) x.0 change x.1)) was.trace d.trace made)
     (λ told. let x = due told in called_turn me.0 d was.trace x.0 change x.1 made told)
 
 pub gives_unmade : (began : DiskSeen) (first : SeatView) (slots id : ℕ) (me : Sat) (d was : DiskSeen) → IsSitting me.0 → IsShort d → 0 < slots → me.1 ≡ (0, Some d) ∷ [] → me.0.hand ≡ Out was → IsLater (once d.failed) 0 was d → d.trace ≡ was.trace → (me.0.told ≡ true → NeedsFolder (view_of me.0)) → Allows (Rule began first) slots id me 0 (λ _. 0) (λ _. unmade_back (step slots 0 0 0 none) me 0)
-gives_unmade began first slots id me d was sits short room carries has later same due = gives_so (λ m u. Unmade (view_of m.0) u) began first slots id me d sits short was room carries has later (ap (λ o. is_some o) same) (λ told. unmade_turn me.0 d was.trace (due told) same told)
+gives_unmade began first slots id me d was sits short room carries has later same due = gives_so (λ m u. Unmade (view_of m.0) u) began first slots id me d sits short was room carries has later (ap (λ o. is_some o) same) (λ told. none_same was.trace d.trace same) (λ told. unmade_turn me.0 d was.trace (due told) same told)
 
 pub gives_pack_unmade : (began : DiskSeen) (first : SeatView) (slots id : ℕ) (me : Sat) (d was : DiskSeen) → IsSitting me.0 → IsShort d → 0 < slots → me.1 ≡ (0, Some d) ∷ [] → me.0.hand ≡ Out was → IsLater (once d.failed) 0 was d → d.trace ≡ was.trace → (me.0.told ≡ true → (place : DiskPlace) × (file : List ℕ) × (bytes : List ℕ) × IsDue (view_of me.0) place (real.Adopt file bytes))
     → Allows (Rule began first) slots id me 0 (λ _. 0) (λ _. pack_unmade_back (step slots 0 0 0 none) me 0)
-gives_pack_unmade began first slots id me d was sits short room carries has later same due = gives_so (λ m u. PackUnmade (view_of m.0) u) began first slots id me d sits short was room carries has later (ap (λ o. is_some o) same)
+gives_pack_unmade began first slots id me d was sits short room carries has later same due = gives_so (λ m u. PackUnmade (view_of m.0) u) began first slots id me d sits short was room carries has later (ap (λ o. is_some o) same) (λ told. none_same was.trace d.trace same)
     (λ told. let x = due told in pack_unmade_turn me.0 d was.trace x.0 x.1 x.2 x.3 same told)

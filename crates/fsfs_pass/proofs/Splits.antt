@@ -45,6 +45,7 @@ use Rattle.fsfs_pass.proofs.Accounts.{quiet_turn, causes_set, doubts_set}
 use Rattle.fsfs_pass.proofs.Others.{still_seen, reseated, at_less, there_at, none_past, left_apart, seated, replaced}
 use Rattle.fsfs_pass.proofs.Stores as stores
 use Rattle.fsfs_pass.proofs.Rules.{short_told, seat_stays, goes, trace_of}
+use Rattle.fsfs_pass.proofs.OwnLabels.{owns_still, owned_set, owned_longer}
 use Rattle.fsfs_base.proofs.ResultLemmas.{none_of}
 
 -- ---- lists with one more
@@ -268,6 +269,8 @@ module _ (began : DiskSeen) (first : SeatView) where
     alone = λ j z e. cases_of s.views id v (λ j z. IsSitting z → z.kin.parts ≡ all_parts → z.met ≡ r.disk.trace) j z e (λ still all. halved_alone all r.disk.trace refl) (λ old. r.alone j z old) (λ still. absurd cc);
     names = λ j z e. cases_of s.views id v (λ j z. AreAbove first.given z.given) j z e (r.names id v at) (λ old. r.names j z old) (r.names id v at);
     labels = r.labels;
+    owned = owned_longer (slice_set s.views id (halved_view v)) (split_pass v ∷ []) began.trace r.disk.trace
+        (owned_set s.views id v (halved_view v) at (seat_stays v sits) began.trace r.disk.trace r.disk.trace refl (owns_still v.own v.own refl r.disk.trace) r.owned);
     store = λ t is. split_goes first s.views r.lock r.young t (r.store t is) id v (at, sits) enough;
   }
     where
@@ -284,7 +287,7 @@ module _ (began : DiskSeen) (first : SeatView) where
     numbered_view id r.disk.trace me.0,
     keeps,
     tt,
-    goes began first s r id me.0 (numbered_view id r.disk.trace me.0) (slice_set s.words 0 (slice_index s.words 0)) r.lock r.young at stays (ap (λ ws. slice_set ws 0 (slice_index ws 0)) r.words) r.bound refl refl refl refl refl refl (λ _ _. refl) after,
+    goes began first s r id me.0 (numbered_view id r.disk.trace me.0) (slice_set s.words 0 (slice_index s.words 0)) r.lock r.young at stays (ap (λ ws. slice_set ws 0 (slice_index ws 0)) r.words) r.bound refl refl refl refl refl refl refl refl (λ _ _. refl) after,
     (id, refl, (λ told. let t = trace_of began first s r id me.0 at stays told in (placed t.0 (r.store t.0 t.1)).1), by_told me.0.told refl, tells_it),
   )
     where

@@ -1,9 +1,9 @@
 -- What a pass knows and tells, from one turn to the next.
 use Rattle.std.proofs.Common.{◌≡◌, ◌≤◌, ◌+◌, ◌-◌, ◌^◌, ℕ, List, [], ◌∷◌, Bool, true, false, inl, inr, refl, sym, ap, subst, ◌∙◌, length, arith, length-append}
-use Rattle.std.specs.Prelude.{Option, Some, None, IfSome, is_some, option_map, slice_get, if◌then◌else◌, Result, Ok, Err, OnOk, OnErr, IfErr, IsErrOf, MatchOption, min, unwrap_or}
+use Rattle.std.specs.Prelude.{Option, Some, None, IfSome, is_some, option_map, slice_get, if◌then◌else◌, Result, Ok, Err, OnOk, OnErr, IfErr, IsErrOf, MatchOption, min, unwrap_or, is_err}
 use Rattle.std.proofs.Math.Nat.{min-le_left}
 use Rattle.atomic_table.specs.Seated.{TableId}
-use Rattle.fsfs_disk.specs.Labels.{Label}
+use Rattle.fsfs_disk.specs.Labels.{Label, without_label}
 use Rattle.fsfs_disk.specs.Trace.{Trace, files_now}
 use Rattle.fsfs_disk.specs.Benches.{HasShortFiles}
 use Rattle.fsfs_disk.specs.declared.disk.ListFault.{ListFault}
@@ -16,6 +16,7 @@ use Rattle.fsfs_machine.specs.declared.machine.Section.TheVariants.{CurrentFirm}
 use Rattle.fsfs_machine.specs.Machine.{recorded}
 use Rattle.fsfs_turn.specs.Bytes.{AllShow}
 use Rattle.fsfs_turn.specs.Views.{View, Looked}
+use Rattle.fsfs_turn.specs.Labels.{MayOwn}
 use Rattle.fsfs_turn.specs.Mountings.{RoseBy}
 use Rattle.fsfs_turn.specs.Packing.{CanDrop}
 use Rattle.fsfs_turn.specs.Telling.{TellsSeen}
@@ -27,7 +28,7 @@ use Rattle.fsfs_pass.specs.declared.seats.seat_view.Stage.TheVariants.{New, Sitt
 use Rattle.fsfs_pass.specs.Seats.{view_of, look_view, reveal_view, reveal_in, IsSitting}
 use Rattle.fsfs_pass.specs.Met.{Ground, ground_of, known_last, seat_store}
 use Rattle.fsfs_pass.specs.Tells.{TellsIt}
-use Rattle.fsfs_pass.specs.SeatCalls.Tells.{IsBack, MayDrop, counting}
+use Rattle.fsfs_pass.specs.SeatCalls.Tells.{IsBack, MayDrop, counting, disowned, owning}
 use Rattle.fsfs_pass.specs.Passes.{Seating, is_sitting, sits_at, mounted_at, reach_by, pass_store, KnowsIt}
 use Rattle.fsfs_pass.specs.PassLemmas.{pass_tells}
 use Rattle.fsfs_base.proofs.ResultLemmas.{none_of}
@@ -130,9 +131,29 @@ pub mounted_still : (path : List ℕ) (table now : TableId) (old new : SeatView)
 mounted_still path table now old new same kin benches =
     ap {A = Seating} (λ s. record { mount = s; bench_faults = new.bench_failures }) (seated path table now old new same kin) ∙ ap (λ n. record { mount = sits_at path table old.kin; bench_faults = n }) benches
 
--- its count of benches tells nothing else
-pub count_keeps : (n : ℕ) (old new : SeatView) → Keeps (counting n old) new → Keeps old new
-count_keeps n old new k = record { told = k.told; layout = k.layout; met = k.met; low = k.low; kin = k.kin; short = k.short }
+-- its count of benches tells nothing else, nor do the labels for which it answers
+pub count_keeps : (n : ℕ) (ls : List Label) (old new : SeatView) → Keeps (counting n (owning ls old)) new → Keeps old new
+count_keeps n ls old new k = record { told = k.told; layout = k.layout; met = k.met; low = k.low; kin = k.kin; short = k.short }
+
+pub own_keeps : (ls : List Label) (old new : SeatView) → Keeps (owning ls old) new → Keeps old new
+own_keeps ls old new k = record { told = k.told; layout = k.layout; met = k.met; low = k.low; kin = k.kin; short = k.short }
+
+pub ok_always : {X E P : Type 0} (result : Result X E) → P → OnOk result P
+ok_always (Ok x) p = p
+ok_always (Err e) p = tt
+
+pub err_always : {X E P : Type 0} (result : Result X E) → P → OnErr result P
+err_always (Ok x) p = tt
+err_always (Err e) p = p
+
+-- the labels for which it answers, behind a call that was to drop one
+pub disowned_so : {E : Type 0} (result : Result Bool E) (l : Label) (old new : List Label) → new ≡ disowned (is_err result) l old → OnOk result (Some new ≡ option_map (without_label l) (Some old))
+disowned_so (Ok there) l old new is = ap (λ (ls : List Label). Some ls) is
+disowned_so (Err e) l old new is = tt
+
+pub own_left_so : {E : Type 0} (result : Result Bool E) (l : Label) (old new : List Label) → new ≡ disowned (is_err result) l old → OnErr result (MayOwn (without_label l) (Some old) (Some new))
+own_left_so (Ok there) l old new is = tt
+own_left_so (Err e) l old new is = inl (ap (λ (ls : List Label). Some ls) is)
 
 pub count_dropped : {B : Type 0} (faults : B → ℕ) (bench : Option B) (before now : ℕ) → now ≡ before + unwrap_or (option_map faults bench) 0 → MatchOption bench (now ≡ before) (λ b. RoseBy (faults b) before now)
 count_dropped faults None before now same = omega (arith, same)

@@ -3,6 +3,7 @@ pub mod Seats
 pub mod Kinship
 pub mod Causes
 pub mod OtherLabels
+pub mod OwnLabels
 pub mod Met
 pub mod Rule
 pub mod Tells

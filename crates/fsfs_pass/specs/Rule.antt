@@ -29,6 +29,7 @@ use Rattle.fsfs_pass.specs.Kinship.{branches, Kinship}
 use Rattle.fsfs_pass.specs.Causes.{Causes, Doubts}
 use Rattle.fsfs_pass.specs.Met.{HasMet}
 use Rattle.fsfs_pass.specs.OtherLabels.{AreAbove, KeepsOthersOf}
+use Rattle.fsfs_pass.specs.OwnLabels.{AreOwnedOf}
 
 -- seat j is the pass of that number; images are spoken of from the opening on, which the first seat's view tells
 pub record Seated (first : SeatView) (w : World) (now : Trace) (j : ℕ) (v : SeatView) : Type 0 where
@@ -135,4 +136,6 @@ pub record Rule (began : DiskSeen) (first : SeatView) (s : State (Option DiskSee
   -- the names that a seat knows to be given were given since the table began; and of labels all are as they were but those of such names
   pub names : (j : ℕ) (v : SeatView) → get_elem? s.views j ≡ some v → AreAbove first.given v.given
   pub labels : KeepsOthersOf first.since.packs first.given began.trace disk.trace
+  -- each that came since is one for which a pass answers
+  pub owned : AreOwnedOf s.views began.trace disk.trace
   pub store : (t : Trace) → disk.trace ≡ Some t → Store first s.views lock young t

@@ -63,9 +63,9 @@ abbrev pub is_left : Stage → Bool
 is_left Left = true
 is_left s = false
 
--- the first seat as the table begins, with this view but for the names: those that were given before are none of its own
+-- the first seat as the table begins, with this view but for the names: those that were given before are none of its own; nor are labels that are kept then
 abbrev pub nameless_view : SeatView → SeatView
-nameless_view v = record v { given = [] }
+nameless_view v = record v { given = []; own = [] }
 
 -- a seat sits there
 abbrev pub Sits : List SeatView → ℕ → SeatView → Type 0
@@ -79,7 +79,7 @@ halved_view v = record v { kin = record v.kin { parts = v.kin.parts - v.kin.part
 
 -- the pass that is split off: it has seen as much, and did nothing itself
 abbrev pub split_pass : SeatView → SeatView
-split_pass v = record v { pass = record v.pass { mine = []; faults = [] }; section = None; sure = false; left = None; hand = Empty; failures = 0; bench_failures = 0; kin = record { stage = New; parts = v.kin.parts / 2; joined = [] } }
+split_pass v = record v { pass = record v.pass { mine = []; faults = [] }; section = None; sure = false; left = None; hand = Empty; own = []; failures = 0; bench_failures = 0; kin = record { stage = New; parts = v.kin.parts / 2; joined = [] } }
 
 -- it was told its number, and has met this trace
 abbrev pub numbered_view : ℕ → Option Trace → SeatView → SeatView
@@ -116,6 +116,7 @@ joined_view met v z = record v {
   left = either_left v.left z.left;
   given = v.given ++ z.given;
   full = v.full || z.full;
+  own = v.own ++ z.own;
   met = met;
   failures = v.failures + z.failures;
   bench_failures = v.bench_failures + z.bench_failures;
@@ -154,6 +155,7 @@ left_view = record {
   firm = None;
   told = false;
   hand = Empty;
+  own = [];
   met = None;
   failures = 0;
   bench_failures = 0;

@@ -28,6 +28,7 @@ use Rattle.fsfs_pass.specs.declared.seats.seat_view.SeatView.{SeatView}
 use Rattle.fsfs_pass.specs.LockWords.{place_at}
 use Rattle.fsfs_pass.specs.Met.{seat_store}
 use Rattle.fsfs_pass.specs.OtherLabels.{KeepsOthersOf}
+use Rattle.fsfs_pass.specs.OwnLabels.{OwnsAll}
 use Rattle.fsfs_pass.specs.Kinship.{numbers_of, all_own}
 use Rattle.fsfs_pass.specs.Seats.{all_parts, view_of, look_view, lock_view, stuck_view, outside_view, reveal_view, reveal_in, numbered_view, as_before, settled_view}
 
@@ -111,9 +112,9 @@ pub record IsMet (v : SeatView) (t : Trace) : Type 0 where
 
 -- The disk was taken where it was there: that with which the table began, of which as many calls have failed as failed of the seat's, or more, and as many of its benches'.
 -- Of the labels that it kept then it keeps all, and no more, but for transactions whose names are above those that were given then, and for packs
--- where passes may pack.
+-- where passes may pack; and where no other sits, each that came is one for which the seat answers.
 abbrev pub taken : DiskSeen → Bool → List ℕ → At → Sat → ℕ → Sat → Type 0
-taken began packs names st m found m' = (found ≡ 0 → (d : DiskSeen) × (m' ≡ (record m.0 { hand = Out d }, (0, Some d) ∷ m.1)) × (m.0.told ≡ is_some d.trace) × (m.0.kin.parts ≡ all_parts → d.trace ≡ m.0.met) × IsLater m.0.failures m.0.bench_failures began d × KeepsOthersOf packs names began.trace d.trace × ((t : Trace) → d.trace ≡ Some t → IsMet m.0 t)) × (found ≢ 0 → m' ≡ m)
+taken began packs names st m found m' = (found ≡ 0 → (d : DiskSeen) × (m' ≡ (record m.0 { hand = Out d }, (0, Some d) ∷ m.1)) × (m.0.told ≡ is_some d.trace) × (m.0.kin.parts ≡ all_parts → d.trace ≡ m.0.met) × IsLater m.0.failures m.0.bench_failures began d × KeepsOthersOf packs names began.trace d.trace × (m.0.kin.parts ≡ all_parts → OwnsAll m.0.own began.trace d.trace) × ((t : Trace) → d.trace ≡ Some t → IsMet m.0 t)) × (found ≢ 0 → m' ≡ m)
 
 -- it went back as it was taken
 abbrev pub given_back : At → Sat → ℕ → Sat → Type 0

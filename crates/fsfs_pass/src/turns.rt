@@ -19,7 +19,7 @@ fn later_of(one: RevNum, other: RevNum) -> RevNum
 }
 
 impl<'a, R: Wait, D: Disk + Drop> Turns<R> for PassTurns<'a, D> {
-    ghost use Rattle.std.specs.Prelude.{◌≡◌, ℕ, true, None, IfOk, OnErr, MatchOption};
+    ghost use Rattle.std.specs.Prelude.{◌≡◌, ℕ, true, Some, None, IfOk, OnOk, OnErr, MatchOption, option_map};
     ghost use Rattle.fsfs_base.specs.Failures.{HasCause};
     ghost use Rattle.fsfs_disk.specs.Labels.{Txn as TxnLabel, Pack as PackLabel, label_of, without_label};
     ghost use Rattle.fsfs_machine.specs.declared.machine.Txn.{Txn};
@@ -28,7 +28,7 @@ impl<'a, R: Wait, D: Disk + Drop> Turns<R> for PassTurns<'a, D> {
     ghost use Rattle.fsfs_base.specs.declared.places.place.DiskPlace.TheVariants.{Remove};
     ghost use Rattle.fsfs_turn.specs.Packing.{CanDrop, DoneBeside};
     ghost use Rattle.fsfs_turn.specs.Views.{View, Answers, is_held};
-    ghost use Rattle.fsfs_turn.specs.Labels.{MayRelabel, Drops};
+    ghost use Rattle.fsfs_turn.specs.Labels.{MayRelabel, Drops, MayOwn};
     ghost use Rattle.fsfs_turn.specs.Learning.{MayPurge, Purged, SpentPurged};
     ghost use Rattle.fsfs_turn.specs.Mountings.{RoseBy};
     ghost use Rattle.fsfs_pass.specs.Met.{Ground, seat_labels};
@@ -51,6 +51,8 @@ impl<'a, R: Wait, D: Disk + Drop> Turns<R> for PassTurns<'a, D> {
     ghost store = { λ s. pass_store s.last s.seat.me.0 };
 
     ghost labels = { λ s. seat_labels s.seat.me.0 };
+
+    ghost own = { λ s. Some s.seat.me.0.own };
 
     ghost faults = { λ s. s.seat.me.0.failures };
 
@@ -196,6 +198,8 @@ impl<'a, R: Wait, D: Disk + Drop> Turns<R> for PassTurns<'a, D> {
         ensures duty { self.new.seat.me.0.told ≡ self.old.seat.me.0.told }
         ensures dropped { IfOk result (λ there. Drops self.old.seat.me.0.told (label_of label.now) there (seat_labels self.old.seat.me.0) (seat_labels self.new.seat.me.0)) }
         ensures left { OnErr result (MayRelabel self.old.seat.me.0.told (without_label (label_of label.now)) (seat_labels self.old.seat.me.0) (seat_labels self.new.seat.me.0)) }
+        ensures disowned { OnOk result (Some self.new.seat.me.0.own ≡ option_map (without_label (label_of label.now)) (Some self.old.seat.me.0.own)) }
+        ensures own_left { OnErr result (MayOwn (without_label (label_of label.now)) (Some self.old.seat.me.0.own) (Some self.new.seat.me.0.own)) }
         ensures benches { MatchOption bench (self.new.seat.me.0.bench_failures ≡ self.old.seat.me.0.bench_failures) (λ b. RoseBy (D.Bench.faults b) self.old.seat.me.0.bench_failures self.new.seat.me.0.bench_failures) }
         ensures cause { HasCause self.old.seat.me.0.failures self.new.seat.me.0.failures result }
     {

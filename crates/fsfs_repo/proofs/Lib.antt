@@ -10,7 +10,6 @@ mod BenchFaults
 pub mod OwnedRepoShown
 mod Readers
 pub mod Crashes
-mod OwnedRepoUnlisted
 mod Leaving
 mod Opened
 pub use Rattle.fsfs_begin.proofs.Benching

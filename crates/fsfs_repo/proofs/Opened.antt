@@ -38,10 +38,10 @@ if_ok_map P Q (Err e) f p = tt
 
 -- where the disk tells, the seat's view of what is known
 abbrev seat_of : ℕ → Trace → View → SeatView
-seat_of low t v = record { layout = v.layout; low = low; since = v.since; opened = v.opened; number = v.number; pass = v.pass; seen = v.seen; section = v.section; sure = false; left = v.left; given = v.given; full = v.full; firm = v.firm; told = true; hand = Empty; met = Some t; failures = 0; bench_failures = 0; kin = alone }
+seat_of low t v = record { layout = v.layout; low = low; since = v.since; opened = v.opened; number = v.number; pass = v.pass; seen = v.seen; section = v.section; sure = false; left = v.left; given = v.given; full = v.full; firm = v.firm; told = true; hand = Empty; own = []; met = Some t; failures = 0; bench_failures = 0; kin = alone }
 
 abbrev untold : Bool → Layout → ℕ → SeatView
-untold packs layout low = record { layout = layout; low = low; since = record { operations = 0; files = empty; packs = packs }; opened = 0; number = 0; pass = first_pass 0 0; seen = []; section = None; sure = false; left = None; given = []; full = false; firm = None; told = false; hand = Empty; met = None; failures = 0; bench_failures = 0; kin = alone }
+untold packs layout low = record { layout = layout; low = low; since = record { operations = 0; files = empty; packs = packs }; opened = 0; number = 0; pass = first_pass 0 0; seen = []; section = None; sure = false; left = None; given = []; full = false; firm = None; told = false; hand = Empty; own = []; met = None; failures = 0; bench_failures = 0; kin = alone }
 
 -- who isn't sure knows no more
 unsure : (layout : Layout) (low young : ℕ) (t : Trace) (v : View) → Knows layout low young None (Some t) v → Knows layout low young None (Some t) (record v { sure = false })

@@ -5,5 +5,4 @@ pub mod Listings
 pub mod Commits
 pub mod Limits
 pub mod Fates
-pub mod Labels
 pub mod Standings

@@ -1,5 +1,5 @@
 // The top call.
-ghost use Rattle.std.specs.Prelude.{◌≡◌, ◌≢◌, ◌⊎◌, ◌≤◌, ℕ, List, map, string_bytes, true, false, Option, Some, Result, OnOk, option_map};
+ghost use Rattle.std.specs.Prelude.{◌≡◌, ◌≢◌, ◌⊎◌, ◌≤◌, ℕ, List, map, string_bytes, true, Option, Some, Result, OnOk, option_map};
 ghost use Rattle.fsfs_base.specs.Failures.{Rose};
 ghost use Rattle.fsfs_tree.specs.Revisions.{Revision};
 ghost use Rattle.fsfs_disk.specs.Trace.{Trace, files_now};
@@ -288,8 +288,9 @@ where
     ensures jobs { tool ≡ Jobs → (end : JobsEnd) × (result ≡ status_at end) × TellsEnd Jobs (sink_scene E.Sink err.old) (sink_scene E.Sink err.new) end
         × DidJobs (map string_bytes words.now) known (C.next clock.old) (scene H.Host O.Sink host.old out.old (source_scene I.Source input.old)) (scene H.Host O.Sink host.new out.new (source_scene I.Source input.new)) end }
 
-    // Whatever the disks hold, a run of svnjobs by one worker, without packs, leaves no transaction listed that was not before it, unless a call of the disk failed.
-    ensures listed { tool ≡ Jobs → ((repos : List ℕ) (run : JobRun) → Asks tool (map string_bytes words.now) repos (RunJobs run) → (run.workers ≡ 1) × (run.pack ≡ false))
+    // A run of svnjobs leaves no transaction listed that was not before it, unless a call of the disk failed: of one worker whatever the disks hold, and of two
+    // where the files are known to stand for a history. So does one with packs.
+    ensures listed { tool ≡ Jobs → ((repos : List ℕ) (run : JobRun) → Asks tool (map string_bytes words.now) repos (RunJobs run) → (run.workers ≡ 1) ⊎ (known ≡ true))
         → (path : List ℕ) → ListsNoOther (H.disk_at host.old path) (H.disk_at host.new path) ⊎ Rose (H.disk_faults host.old) (H.disk_faults host.new) }
 
     ensures unread { tool ≢ Jobs → I.remaining input.new ≡ I.remaining input.old }

@@ -14,26 +14,25 @@ use Rattle.fsfs_turn.specs.Telling.{TellsSeen}
 use Rattle.fsfs_turn.proofs.Standings.{there_below}
 use Rattle.fsfs_turn.specs.Views.{View}
 use Rattle.fsfs_turn.specs.Courses.{ReadOnly}
-use Rattle.fsfs_turn.specs.Labels.{KeepsLabels}
 use Rattle.fsfs_turn.specs.OwnedLemmas.{reads_nothing}
 use Rattle.fsfs_turn.proofs.Reading.{reads_on}
 use Rattle.fsfs_turn.specs.GoesOn.{GoesOn}
 use Rattle.fsfs_turn.specs.Seen.{TellsUpTo, up_to}
 use Rattle.fsfs_turn.proofs.SeenLemmas.{below_or_not}
 
-module _ {T P : Type 0} (knows : T → View → Type 0) (mounting : T → P) (bound : T → Bool) (labels : T → Option (List Label)) where
+module _ {T P : Type 0} (knows : T → View → Type 0) (mounting : T → P) (bound : T → Bool) (own : T → Option (List Label)) where
   -- before the first read
-  pub begins : (first now : T) → first ≡ now → ((v : View) → knows now v → AllShow v.seen) → GoesOn knows mounting bound labels first now
-  begins first now same shown = subst (λ z. GoesOn knows mounting bound labels z now) (sym same) (record {
+  pub begins : (first now : T) → first ≡ now → ((v : View) → knows now v → AllShow v.seen) → GoesOn knows mounting bound own first now
+  begins first now same shown = subst (λ z. GoesOn knows mounting bound own z now) (sym same) (record {
     known = λ v known. (v, known, reads_nothing v (shown v known));
     mounted = refl;
     duty = refl;
-    listed = λ free. refl;
+    listed = refl;
   })
 
   -- one more
-  pub goes_on : (first old now : T) → GoesOn knows mounting bound labels first old → ((v : View) → knows old v → (u : View) × knows now u × ReadOnly v u) → mounting now ≡ mounting old → bound now ≡ bound old → KeepsLabels (bound old) (labels old) (labels now)
-      → GoesOn knows mounting bound labels first now
+  pub goes_on : (first old now : T) → GoesOn knows mounting bound own first old → ((v : View) → knows old v → (u : View) × knows now u × ReadOnly v u) → mounting now ≡ mounting old → bound now ≡ bound old → own now ≡ own old
+      → GoesOn knows mounting bound own first now
   goes_on first old now so_far onward mounted duty listed = record {
     known = λ v known.
         let m = so_far.known v known in
@@ -41,12 +40,12 @@ module _ {T P : Type 0} (knows : T → View → Type 0) (mounting : T → P) (bo
         (u.0, u.1, reads_on v m.0 u.0 m.2 u.2);
     mounted = mounted ∙ so_far.mounted;
     duty = duty ∙ so_far.duty;
-    listed = λ free. listed (so_far.duty ∙ free) ∙ so_far.listed free;
+    listed = listed ∙ so_far.listed;
   }
 
   -- what a book tells to be below it at the end is what was there at the beginning
-  pub going_from : {L : Type 0} (first now : T) (below : T × L) {lasting : L} → below ≡ (first, lasting) → GoesOn knows mounting bound labels below.0 now → GoesOn knows mounting bound labels first now
-  going_from first now below same going = subst (λ z. GoesOn knows mounting bound labels z now) (ap (λ p. p.0) same) going
+  pub going_from : {L : Type 0} (first now : T) (below : T × L) {lasting : L} → below ≡ (first, lasting) → GoesOn knows mounting bound own below.0 now → GoesOn knows mounting bound own first now
+  going_from first now below same going = subst (λ z. GoesOn knows mounting bound own z now) (ap (λ p. p.0) same) going
 
 -- ---- a store that is read up to a revision
 

@@ -5,7 +5,6 @@ use Rattle.fsfs_base.specs.Files.{Files}
 use Rattle.fsfs_disk.specs.Labels.{Label}
 use Rattle.fsfs_disk.specs.Trace.{Trace, labels_now, Performs, PerformsIfThere, FailsAt, FailsToPut, FailsToAdopt}
 use Rattle.fsfs_disk.specs.Trace as real
-use Rattle.fsfs_turn.specs.Labels.{KeepsLabels}
 use Rattle.fsfs_turn.proofs.Knowing.{tried_labels}
 
 -- it is a change of names
@@ -16,24 +15,24 @@ done_labels : (change : real.NameChange) → IsOfNames change → (old new : Opt
 done_labels change names None new done = ap (λ o. option_map labels_now o) done
 done_labels change names (Some t) new done = ap (λ o. option_map labels_now o) done ∙ ap (λ (ls : List Label). Some ls) (names (labels_now t))
 
-pub keeps_at : {X E : Type 0} (change : real.NameChange) → IsOfNames change → (old new : Option Trace) (result : Result X E) → OnOk result (Performs change old new) → OnErr result (FailsAt change old new) → KeepsLabels false (option_map labels_now old) (option_map labels_now new)
-keeps_at change names old new (Ok x) ok err = λ free. done_labels change names old new ok
-keeps_at change names old new (Err e) ok err = λ free. ⊎_elim (λ same. ap (λ o. option_map labels_now o) same)
+pub keeps_at : {X E : Type 0} (change : real.NameChange) → IsOfNames change → (old new : Option Trace) (result : Result X E) → OnOk result (Performs change old new) → OnErr result (FailsAt change old new) → option_map labels_now new ≡ option_map labels_now old
+keeps_at change names old new (Ok x) ok err = done_labels change names old new ok
+keeps_at change names old new (Err e) ok err = ⊎_elim (λ same. ap (λ o. option_map labels_now o) same)
     (λ more. ⊎_elim (λ tried. tried_labels change old new tried) (λ done. done_labels change names old new done) more) err
 
-pub keeps_at_put : {X E : Type 0} (name bytes : List ℕ) (old new : Option Trace) (result : Result X E) → OnOk result (Performs (real.Put name bytes) old new) → OnErr result (FailsToPut name bytes old new) → KeepsLabels false (option_map labels_now old) (option_map labels_now new)
-keeps_at_put name bytes old new (Ok x) ok err = λ free. done_labels (real.Put name bytes) (λ ls. refl) old new ok
-keeps_at_put name bytes old new (Err e) ok err = λ free. ⊎_elim (λ same. ap (λ o. option_map labels_now o) same)
+pub keeps_at_put : {X E : Type 0} (name bytes : List ℕ) (old new : Option Trace) (result : Result X E) → OnOk result (Performs (real.Put name bytes) old new) → OnErr result (FailsToPut name bytes old new) → option_map labels_now new ≡ option_map labels_now old
+keeps_at_put name bytes old new (Ok x) ok err = done_labels (real.Put name bytes) (λ ls. refl) old new ok
+keeps_at_put name bytes old new (Err e) ok err = ⊎_elim (λ same. ap (λ o. option_map labels_now o) same)
     (λ more. ⊎_elim (λ tried. tried_labels (real.Put name bytes) old new tried) (λ torn. done_labels (real.Put name torn.0) (λ ls. refl) old new torn.1) more) err
 
 pub keeps_at_adoption : {X E : Type 0} (change : real.NameChange) → IsOfNames change → (old new : Option Trace) (without : Files → Files) (held left : Option Files) (result : Result X E)
-    → OnOk result (Performs change old new) → OnErr result (FailsToAdopt change old new without held left) → KeepsLabels false (option_map labels_now old) (option_map labels_now new)
-keeps_at_adoption change names old new without held left (Ok x) ok err = λ free. done_labels change names old new ok
-keeps_at_adoption change names old new without held left (Err e) ok err = λ free.
+    → OnOk result (Performs change old new) → OnErr result (FailsToAdopt change old new without held left) → option_map labels_now new ≡ option_map labels_now old
+keeps_at_adoption change names old new without held left (Ok x) ok err = done_labels change names old new ok
+keeps_at_adoption change names old new without held left (Err e) ok err =
     ⊎_elim (λ stays. ⊎_elim (λ same. ap (λ o. option_map labels_now o) same) (λ tried. tried_labels change old new tried) stays.0) (λ gone. done_labels change names old new gone.0) err
 
-pub keeps_if_there : {E : Type 0} (change : real.NameChange) → IsOfNames change → (old new : Option Trace) (result : Result Bool E) → IfOk result (λ there. PerformsIfThere there change old new) → OnErr result (FailsAt change old new) → KeepsLabels false (option_map labels_now old) (option_map labels_now new)
-keeps_if_there change names old new (Ok true) ok err = λ free. done_labels change names old new ok
-keeps_if_there change names old new (Ok false) ok err = λ free. ap (λ o. option_map labels_now o) ok
-keeps_if_there change names old new (Err e) ok err = λ free. ⊎_elim (λ same. ap (λ o. option_map labels_now o) same)
+pub keeps_if_there : {E : Type 0} (change : real.NameChange) → IsOfNames change → (old new : Option Trace) (result : Result Bool E) → IfOk result (λ there. PerformsIfThere there change old new) → OnErr result (FailsAt change old new) → option_map labels_now new ≡ option_map labels_now old
+keeps_if_there change names old new (Ok true) ok err = done_labels change names old new ok
+keeps_if_there change names old new (Ok false) ok err = ap (λ o. option_map labels_now o) ok
+keeps_if_there change names old new (Err e) ok err = ⊎_elim (λ same. ap (λ o. option_map labels_now o) same)
     (λ more. ⊎_elim (λ tried. tried_labels change old new tried) (λ done. done_labels change names old new done) more) err

@@ -61,7 +61,7 @@ impl<R, D: Disk> Turns<R> for Owned<D> {
     ghost use Rattle.fsfs_turn.specs.Telling.{OwnedState, state_of, owned_view};
     ghost use Rattle.fsfs_turn.specs.OwnedLemmas.{owned_tells, owned_benches_tell, never_bound};
     ghost use Rattle.fsfs_fetch.specs.OwnedShort.{owned_short};
-    ghost use Rattle.std.specs.Prelude.{ℕ, List, true, false, IfOk, OnErr, MatchOption};
+    ghost use Rattle.std.specs.Prelude.{ℕ, List, true, false, IfOk, OnOk, OnErr, MatchOption};
     ghost use Rattle.fsfs_base.specs.Failures.{HasCause};
     ghost use Rattle.fsfs_disk.specs.Labels.{Txn as TxnLabel, Pack as PackLabel, label_of, without_label};
     ghost use Rattle.fsfs_base.specs.declared.places.place.DiskPlace.TheVariants.{Remove};
@@ -70,7 +70,7 @@ impl<R, D: Disk> Turns<R> for Owned<D> {
     ghost use Rattle.fsfs_machine.specs.Kept.{IsIn};
     ghost use Rattle.fsfs_turn.specs.Views.{Answers, is_held};
     ghost use Rattle.fsfs_turn.specs.Packing.{DoneBeside};
-    ghost use Rattle.fsfs_turn.specs.Labels.{MayRelabel, Drops};
+    ghost use Rattle.fsfs_turn.specs.Labels.{MayRelabel, Drops, MayOwn};
     ghost use Rattle.fsfs_turn.specs.Learning.{MayPurge, Purged, SpentPurged};
     ghost use Rattle.fsfs_turn.specs.Mountings.{RoseBy};
 
@@ -89,6 +89,8 @@ impl<R, D: Disk> Turns<R> for Owned<D> {
     ghost store = { λ s. owned_view (state_of s.layout s.floor s.young s.stuck (D.trace s.disk) (D.mount_path s.disk) (D.bench_faults s.disk)) };
 
     ghost labels = { λ s. option_map labels_now (D.trace s.disk) };
+
+    ghost own = { λ s. option_map labels_now (D.trace s.disk) };
 
     ghost faults = { λ s. D.faults s.disk };
 
@@ -227,6 +229,8 @@ impl<R, D: Disk> Turns<R> for Owned<D> {
         ensures duty { false ≡ false }
         ensures dropped { IfOk result (λ there. Drops false (label_of label.now) there (option_map labels_now (D.trace self.old.disk)) (option_map labels_now (D.trace self.new.disk))) }
         ensures left { OnErr result (MayRelabel false (without_label (label_of label.now)) (option_map labels_now (D.trace self.old.disk)) (option_map labels_now (D.trace self.new.disk))) }
+        ensures disowned { OnOk result (option_map labels_now (D.trace self.new.disk) ≡ option_map (without_label (label_of label.now)) (option_map labels_now (D.trace self.old.disk))) }
+        ensures own_left { OnErr result (MayOwn (without_label (label_of label.now)) (option_map labels_now (D.trace self.old.disk)) (option_map labels_now (D.trace self.new.disk))) }
         ensures benches { MatchOption bench (D.bench_faults self.new.disk ≡ D.bench_faults self.old.disk) (λ b. RoseBy (D.Bench.faults b) (D.bench_faults self.old.disk) (D.bench_faults self.new.disk)) }
         ensures cause { HasCause (D.faults self.old.disk) (D.faults self.new.disk) result }
     {
@@ -248,6 +252,8 @@ impl<R, D: Disk> LoneTurns<R> for Owned<D> {
     ghost use Rattle.fsfs_turn.specs.OwnedLemmas.{known_still, files_same, labels_same, mounting_same};
 
     ghost free = { λ s. refl };
+
+    ghost answers_for_all = { λ s. refl };
 
     ghost still = { λ a b v same known. known_still (state_of a.layout a.floor a.young a.stuck (D.trace a.disk) (D.mount_path a.disk) (D.bench_faults a.disk)) (state_of b.layout b.floor b.young b.stuck (D.trace b.disk) (D.mount_path b.disk) (D.bench_faults b.disk)) v same known };
 

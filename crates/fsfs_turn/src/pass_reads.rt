@@ -43,7 +43,7 @@ impl<'a, R, T: Turns<R>> Model for PassReads<'a, R, T> {
 
     ghost view = { λ a. (a.turns, a.first.value, a.youngest) };
 
-    ghost invariant = { λ a. IsKnown (T.store a.turns).reach a.youngest × GoesOn T.knows T.mounting T.bound T.labels a.first.value a.turns };
+    ghost invariant = { λ a. IsKnown (T.store a.turns).reach a.youngest × GoesOn T.knows T.mounting T.bound T.own a.first.value a.turns };
 }
 
 impl<R, T: Turns<R>> Reads for PassReads<'_, R, T> {
@@ -115,7 +115,7 @@ pub fn over_pass<'a, R, T: Turns<R>>(
 
 /// The turns again. What the pass knows now comes of what it knew at the beginning by reading alone.
 pub fn pass_of<'a, R, T: Turns<R>>(book: Direct<PassReads<'a, R, T>>) -> T
-    ensures goes_on { GoesOn T.knows T.mounting T.bound T.labels (⟦<Direct<PassReads<'a, R, T>> as Book>⟧.told book.entry).below.0 result }
+    ensures goes_on { GoesOn T.knows T.mounting T.bound T.own (⟦<Direct<PassReads<'a, R, T>> as Book>⟧.told book.entry).below.0 result }
     ensures below { (T.store result).below ≡ (⟦<Direct<PassReads<'a, R, T>> as Book>⟧.told book.entry).below.1 }
     ensures faults { T.faults result ≡ ⟦<Direct<PassReads<'a, R, T>> as Book>⟧.faults book.entry }
 {

@@ -26,7 +26,7 @@ ghost use Rattle.fsfs_fetch.specs.Views.{View as StoreView, Later, IsYoungest, I
 ghost use Rattle.fsfs_turn.specs.Past.{IsWhole};
 ghost use Rattle.fsfs_turn.specs.Courses.{ReadOnly};
 ghost use Rattle.fsfs_turn.specs.Telling.{TellsSeen};
-ghost use Rattle.fsfs_turn.specs.Labels.{KeepsLabels, Relabels, MayRelabel, Drops};
+ghost use Rattle.fsfs_turn.specs.Labels.{Relabels, MayRelabel, Drops, MayOwn};
 ghost use Rattle.fsfs_turn.specs.Adoptions.{adoption, NeedsFolder};
 ghost use Rattle.fsfs_turn.specs.Mountings.{Mounting, RoseBy};
 ghost use Rattle.fsfs_turn.specs.Learning.{PropsRead, FloorRead, ReadsCounter, Listed, MayMake, BenchMade, MayPurge, Purged, SpentPurged};
@@ -69,6 +69,10 @@ pub trait Turns<R> {
     /// The labels that are kept, where the disk tells, as the last call met them.
     ghost labels: { Self → Option (List KeptLabel) };
 
+    /// The labels that it answers for. Where nobody else has turns these are the labels that are kept; of several passes each answers for
+    /// those that it made and hasn't dropped. Between two calls they stay, whatever others do.
+    ghost own: { Self → Option (List KeptLabel) };
+
     /// How often its turns have failed. The count stops at the last number of a u64.
     ghost faults: { Self → ℕ };
 
@@ -91,7 +95,7 @@ pub trait Turns<R> {
     fn look(&mut self) -> RevNum
         ensures mounted { mounting self.new ≡ mounting self.old }
         ensures duty { bound self.new ≡ bound self.old }
-        ensures listed { KeepsLabels (bound self.old) (labels self.old) (labels self.new) }
+        ensures listed { own self.new ≡ own self.old }
         ensures youngest { IsYoungest (store self.new).reach result }
         ensures there { IsKnown (store self.new).reach result }
         ensures later { Later (store self.old) (store self.new) }
@@ -102,7 +106,7 @@ pub trait Turns<R> {
     fn take_lock(&mut self, rt: &R) -> Result<(), DiskPlace>
         ensures mounted { mounting self.new ≡ mounting self.old }
         ensures duty { bound self.new ≡ bound self.old }
-        ensures listed { KeepsLabels (bound self.old) (labels self.old) (labels self.new) }
+        ensures listed { own self.new ≡ own self.old }
         ensures same { (store self.new).below ≡ (store self.old).below }
         ensures ok { (v : View) → knows self.old v → v.section ≡ None → OnOk result ((u : View) × knows self.new u × LockTaken v u) }
         ensures stuck { (v : View) → knows self.old v → v.section ≡ None → IfErr result (λ place. (u : View) × knows self.new u × FoundStuck place v u) }
@@ -113,7 +117,7 @@ pub trait Turns<R> {
         requires due { bound self.old ≡ true → (v : View) × knows self.old v × MayGive v }
         ensures mounted { mounting self.new ≡ mounting self.old }
         ensures duty { bound self.new ≡ bound self.old }
-        ensures listed { KeepsLabels (bound self.old) (labels self.old) (labels self.new) }
+        ensures listed { own self.new ≡ own self.old }
         ensures same { (store self.new).below ≡ (store self.old).below }
         ensures turned { (v : View) → knows self.old v → MayGive v → (u : View) × knows self.new u × LockGiven (GiveLock v.number) v u }
         ensures faults { faults self.new ≡ faults self.old };
@@ -123,7 +127,7 @@ pub trait Turns<R> {
         requires due { bound self.old ≡ true → (v : View) × knows self.old v × MustStick place v }
         ensures mounted { mounting self.new ≡ mounting self.old }
         ensures duty { bound self.new ≡ bound self.old }
-        ensures listed { KeepsLabels (bound self.old) (labels self.old) (labels self.new) }
+        ensures listed { own self.new ≡ own self.old }
         ensures turned { (v : View) → knows self.old v → MustStick place v → (u : View) × knows self.new u × LockGiven (StickLock v.number) v u }
         ensures faults { faults self.new ≡ faults self.old };
 
@@ -132,7 +136,7 @@ pub trait Turns<R> {
         requires due { bound self.old ≡ true → (v : View) × (x : Coming) × knows self.old v × (v.section ≡ Some (CurrentFirm x)) × (rev ≡ length v.seen) }
         ensures mounted { mounting self.new ≡ mounting self.old }
         ensures duty { bound self.new ≡ bound self.old }
-        ensures listed { KeepsLabels (bound self.old) (labels self.old) (labels self.new) }
+        ensures listed { own self.new ≡ own self.old }
         ensures turned { (v : View) (x : Coming) → knows self.old v → v.section ≡ Some (CurrentFirm x) → rev ≡ length v.seen → (u : View) × knows self.new u × Revealed x v u }
         ensures faults { faults self.new ≡ faults self.old };
 
@@ -149,7 +153,7 @@ pub trait Turns<R> {
             × (name.now ≡ rev_name v (length v.seen)) × (about.now.value ≡ Some (adoption txn properties next)) }
         ensures mounted { mounting self.new ≡ mounting self.old }
         ensures duty { bound self.new ≡ bound self.old }
-        ensures listed { KeepsLabels (bound self.old) (labels self.old) (labels self.new) }
+        ensures listed { own self.new ≡ own self.old }
         ensures turned { (v : View) (txn : Txn) (properties : List (List ℕ × List ℕ)) (next : Revision) → knows self.old v → MayAdopt v txn properties next bytes.now
             → name.now ≡ rev_name v (length v.seen) → (bound self.old ≡ true → about.now.value ≡ Some (adoption txn properties next))
             → (u : View) × (went : Went) × knows self.new u × Answers result went × Adopted txn properties next bytes.now went v u }
@@ -160,7 +164,7 @@ pub trait Turns<R> {
         requires due { bound self.old ≡ true → (v : View) × (place : SpecPlace) × knows self.old v × IsDue v place (Put name.now bytes.now) }
         ensures mounted { mounting self.new ≡ mounting self.old }
         ensures duty { bound self.new ≡ bound self.old }
-        ensures listed { KeepsLabels (bound self.old) (labels self.old) (labels self.new) }
+        ensures listed { own self.new ≡ own self.old }
         ensures turned { (v : View) (place : SpecPlace) → knows self.old v → IsDue v place (Put name.now bytes.now)
             → (u : View) × (went : Went) × knows self.new u × Answers result went × Called place went v u }
         ensures used { OnOk result (in_use self.new name.now) }
@@ -172,7 +176,7 @@ pub trait Turns<R> {
         requires due { bound self.old ≡ true → (v : View) × (place : SpecPlace) × knows self.old v × IsDue v place (Rename from.now to.now) }
         ensures mounted { mounting self.new ≡ mounting self.old }
         ensures duty { bound self.new ≡ bound self.old }
-        ensures listed { KeepsLabels (bound self.old) (labels self.old) (labels self.new) }
+        ensures listed { own self.new ≡ own self.old }
         ensures turned { (v : View) (place : SpecPlace) → knows self.old v → IsDue v place (Rename from.now to.now)
             → (u : View) × (went : Went) × knows self.new u × Answers result went × Called place went v u }
         ensures cause { HasCause (faults self.old) (faults self.new) result };
@@ -182,7 +186,7 @@ pub trait Turns<R> {
         requires due { bound self.old ≡ true → (v : View) × (place : SpecPlace) × knows self.old v × IsDue v place FirmNames }
         ensures mounted { mounting self.new ≡ mounting self.old }
         ensures duty { bound self.new ≡ bound self.old }
-        ensures listed { KeepsLabels (bound self.old) (labels self.old) (labels self.new) }
+        ensures listed { own self.new ≡ own self.old }
         ensures turned { (v : View) (place : SpecPlace) → knows self.old v → IsDue v place FirmNames
             → (u : View) × (went : Went) × knows self.new u × Answers result went × Called place went v u }
         ensures cause { HasCause (faults self.old) (faults self.new) result };
@@ -201,7 +205,7 @@ pub trait Turns<R> {
             × (to.now ≡ rev_name v (length v.seen)) × (about.now.value ≡ Some (adoption txn properties next)) }
         ensures mounted { mounting self.new ≡ mounting self.old }
         ensures duty { bound self.new ≡ bound self.old }
-        ensures listed { KeepsLabels (bound self.old) (labels self.old) (labels self.new) }
+        ensures listed { own self.new ≡ own self.old }
         ensures turned { (v : View) (txn : Txn) (properties : List (List ℕ × List ℕ)) (next : Revision) → knows self.old v → MayAdopt v txn properties next (bytes_on (Self.Bench.contents bench.old) file.now)
             → to.now ≡ rev_name v (length v.seen) → (bound self.old ≡ true → about.now.value ≡ Some (adoption txn properties next))
             → (u : View) × (went : Went) × knows self.new u × Answers result went × Adopted txn properties next (bytes_on (Self.Bench.contents bench.old) file.now) went v u }
@@ -223,7 +227,7 @@ pub trait Turns<R> {
         requires due { bound self.old ≡ true → (v : View) × (place : SpecPlace) × knows self.old v × IsDue v place (Adopt to.now (bytes_on (Self.Bench.contents bench.old) file.now)) }
         ensures mounted { mounting self.new ≡ mounting self.old }
         ensures duty { bound self.new ≡ bound self.old }
-        ensures listed { KeepsLabels (bound self.old) (labels self.old) (labels self.new) }
+        ensures listed { own self.new ≡ own self.old }
         ensures turned { (v : View) (place : SpecPlace) → knows self.old v → IsDue v place (Adopt to.now (bytes_on (Self.Bench.contents bench.old) file.now))
             → (u : View) × (went : Went) × knows self.new u × Answers result went × Called place went v u }
         ensures gone { OnOk result (Self.Bench.contents bench.new ≡ option_map (removed file.now) (Self.Bench.contents bench.old)) }
@@ -237,7 +241,7 @@ pub trait Turns<R> {
         requires due { bound self.old ≡ true → (v : View) × (r : ℕ) × knows self.old v × MayRemove v r × (name.now ≡ rev_name v r) }
         ensures mounted { mounting self.new ≡ mounting self.old }
         ensures duty { bound self.new ≡ bound self.old }
-        ensures listed { KeepsLabels (bound self.old) (labels self.old) (labels self.new) }
+        ensures listed { own self.new ≡ own self.old }
         ensures turned { (v : View) (r : ℕ) → knows self.old v → MayRemove v r → name.now ≡ rev_name v r → (u : View) × (went : Went) × knows self.new u × Answers result went × Removal result r went v u }
         ensures cause { HasCause (faults self.old) (faults self.new) result };
 
@@ -246,7 +250,7 @@ pub trait Turns<R> {
         requires due { bound self.old ≡ true → (v : View) × knows self.old v × (v.section ≡ Some Packed) }
         ensures mounted { mounting self.new ≡ mounting self.old }
         ensures duty { bound self.new ≡ bound self.old }
-        ensures listed { KeepsLabels (bound self.old) (labels self.old) (labels self.new) }
+        ensures listed { own self.new ≡ own self.old }
         ensures turned { (v : View) → knows self.old v → v.section ≡ Some Packed → (u : View) × (went : Went) × knows self.new u × Answers result went × DoneBeside Remove went v u }
         ensures cause { HasCause (faults self.old) (faults self.new) result };
 
@@ -261,7 +265,7 @@ pub trait Turns<R> {
     ) -> Result<Option<usize>, Failed>
         ensures mounted { mounting self.new ≡ mounting self.old }
         ensures duty { bound self.new ≡ bound self.old }
-        ensures listed { KeepsLabels (bound self.old) (labels self.old) (labels self.new) }
+        ensures listed { own self.new ≡ own self.old }
         ensures within { IfOk result (λ found. IfSome found (λ n. n ≤ length buffer.new)) }
         ensures bytes { IfSome (store self.new).files (λ m. IfOk result (IsRead (get m name.now) offset buffer.old buffer.new)) }
         ensures later { Later (store self.old) (store self.new) }
@@ -278,7 +282,7 @@ pub trait Turns<R> {
         requires due { bound self.old ≡ true → (v : View) × knows self.old v × (v.section ≡ Some Begun) × (base ≤ v.pass.least) }
         ensures mounted { mounting self.new ≡ mounting self.old }
         ensures duty { bound self.new ≡ bound self.old }
-        ensures listed { KeepsLabels (bound self.old) (labels self.old) (labels self.new) }
+        ensures listed { own self.new ≡ own self.old }
         ensures within { IfOk result (λ found. IfSome found (λ n. n ≤ length buffer.new)) }
         ensures bytes { IfSome (store self.new).files (λ m. IfOk result (IsRead (get m (only_name TxnCurrent)) 0 buffer.old buffer.new)) }
         ensures later { Later (store self.old) (store self.new) }
@@ -290,7 +294,7 @@ pub trait Turns<R> {
     fn size(&mut self, rt: &R, name: &Name) -> Result<Option<u64>, Failed>
         ensures mounted { mounting self.new ≡ mounting self.old }
         ensures duty { bound self.new ≡ bound self.old }
-        ensures listed { KeepsLabels (bound self.old) (labels self.old) (labels self.new) }
+        ensures listed { own self.new ≡ own self.old }
         ensures length { IfSome (store self.new).files (λ m. IfOk result (IsSize (get m name.now))) }
         ensures later { Later (store self.old) (store self.new) }
         ensures onward { (v : View) → knows self.old v → (u : View) × knows self.new u × ReadOnly v u }
@@ -304,7 +308,7 @@ pub trait Turns<R> {
         ensures ok { (v : View) → knows self.old v → OnOk result ((ls : List KeptLabel) × (labels self.new ≡ Some ls) × (u : View) × knows self.new u × Listed ls Fine v u) }
         ensures failed { (v : View) → knows self.old v → IsErrOf result ListFault.Failed → (ls : List KeptLabel) × (labels self.new ≡ Some ls) × (u : View) × knows self.new u × Listed ls Before v u }
         ensures memory { (v : View) → knows self.old v → IsErrOf result ListFault.Memory → knows self.new v }
-        ensures same { KeepsLabels (bound self.old) (labels self.old) (labels self.new) }
+        ensures same { own self.new ≡ own self.old }
         ensures later { faults self.old ≤ faults self.new }
         ensures kept { OnOk result (faults self.new ≡ faults self.old) }
         ensures rose { IsErrOf result ListFault.Failed → Rose (faults self.old) (faults self.new) }
@@ -321,6 +325,8 @@ pub trait Turns<R> {
         ensures beside { (v : View) (k : ℕ) → knows self.old v → MayBenchPack v k → label_of label.now ≡ PackLabel k → (u : View) × (went : Went) × knows self.new u × Answers result went × DoneBeside MakeBench went v u }
         ensures kept { OnOk result (Relabels (bound self.old) (with_label (label_of label.now)) (labels self.old) (labels self.new)) }
         ensures left { OnErr result (MayRelabel (bound self.old) (with_label (label_of label.now)) (labels self.old) (labels self.new)) }
+        ensures owned { OnOk result (own self.new ≡ option_map (with_label (label_of label.now)) (own self.old)) }
+        ensures own_left { OnErr result (MayOwn (with_label (label_of label.now)) (own self.old) (own self.new)) }
         ensures empty { IfOk result (λ bench. Self.Bench.contents bench ≡ option_map (λ _. empty) (labels self.new)) }
         ensures new { IfOk result (λ bench. Self.Bench.faults bench ≡ 0) }
         ensures cause { HasCause (faults self.old) (faults self.new) result };
@@ -343,6 +349,8 @@ pub trait Turns<R> {
         ensures beside { (v : View) (k : ℕ) → knows self.old v → is_held v.section ≡ true → label_of label.now ≡ PackLabel k → (u : View) × (went : Went) × knows self.new u × Answers result went × DoneBeside Remove went v u }
         ensures dropped { IfOk result (λ there. Drops (bound self.old) (label_of label.now) there (labels self.old) (labels self.new)) }
         ensures left { OnErr result (MayRelabel (bound self.old) (without_label (label_of label.now)) (labels self.old) (labels self.new)) }
+        ensures disowned { OnOk result (own self.new ≡ option_map (without_label (label_of label.now)) (own self.old)) }
+        ensures own_left { OnErr result (MayOwn (without_label (label_of label.now)) (own self.old) (own self.new)) }
         ensures benches { MatchOption bench ((mounting self.new).bench_faults ≡ (mounting self.old).bench_faults) (λ b. RoseBy (Self.Bench.faults b) (mounting self.old).bench_faults (mounting self.new).bench_faults) }
         ensures cause { HasCause (faults self.old) (faults self.new) result };
 
@@ -351,7 +359,7 @@ pub trait Turns<R> {
         requires due { bound self.old ≡ true → (v : View) × knows self.old v × NeedsFolder v }
         ensures mounted { mounting self.new ≡ mounting self.old }
         ensures duty { bound self.new ≡ bound self.old }
-        ensures listed { KeepsLabels (bound self.old) (labels self.old) (labels self.new) }
+        ensures listed { own self.new ≡ own self.old }
         ensures done { (v : View) → knows self.old v → OnOk result (knows self.new v) }
         ensures failed { (v : View) (place : SpecPlace) (file bytes : List ℕ) → knows self.old v → IsDue v place (Put file bytes) → OnErr result ((u : View) × knows self.new u × Called place Before v u) }
         ensures failed_first { (v : View) (txn : Txn) (properties : List (List ℕ × List ℕ)) (next : Revision) (bytes : List ℕ) → knows self.old v → MayAdopt v txn properties next bytes
@@ -363,7 +371,7 @@ pub trait Turns<R> {
         requires due { bound self.old ≡ true → (v : View) × (place : SpecPlace) × (file : List ℕ) × (bytes : List ℕ) × knows self.old v × IsDue v place (Adopt file bytes) }
         ensures mounted { mounting self.new ≡ mounting self.old }
         ensures duty { bound self.new ≡ bound self.old }
-        ensures listed { KeepsLabels (bound self.old) (labels self.old) (labels self.new) }
+        ensures listed { own self.new ≡ own self.old }
         ensures done { (v : View) → knows self.old v → OnOk result (knows self.new v) }
         ensures failed { (v : View) (place : SpecPlace) (file bytes : List ℕ) → knows self.old v → IsDue v place (Adopt file bytes) → OnErr result ((u : View) × knows self.new u × Called place Before v u) }
         ensures cause { HasCause (faults self.old) (faults self.new) result };
@@ -385,6 +393,9 @@ pub trait Turns<R> {
 pub trait LoneTurns<R>: Turns<R> {
     /// Nobody else rests on what it does.
     ghost free: { (turns : Self) → Self.bound turns ≡ false };
+
+    /// It answers for all labels.
+    ghost answers_for_all: { (turns : Self) → Self.own turns ≡ Self.labels turns };
 
     /// What it knows is of what no reading changes.
     ghost still: { (old new : Self) (v : View) → (Self.store new).below ≡ (Self.store old).below → Self.knows old v → Self.knows new v };

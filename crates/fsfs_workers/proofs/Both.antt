@@ -2,12 +2,14 @@
 use Rattle.std.proofs.Common.{◌≡◌, ◌⊎◌, ◌<◌, ◌≤◌, ◌+◌, ◌-◌, ◌/◌, ℕ, zero, suc, List, [], ◌∷◌, ◌++◌, ◌||◌, length, Bool, true, false, cond, inl, inr, ⊎_elim, ap, sym, subst, refl, ◌∙◌, append_assoc, arith}
 use Rattle.std.specs.Prelude.{Option, Some, None, is_some, slice_get}
 use Rattle.fsfs_disk.specs.Trace.{Trace}
+use Rattle.fsfs_base.specs.Failures.{Rose}
 use Rattle.fsfs_base.specs.declared.places.place.DiskPlace.{DiskPlace}
 use Rattle.fsfs_tree.specs.Revisions.{Revision}
 use Rattle.fsfs_machine.specs.declared.machine.Coming.{Coming}
 use Rattle.fsfs_machine.specs.declared.machine.Recorded.{Recorded}
 use Rattle.fsfs_machine.specs.Machine.{either_place, revisions}
 use Rattle.fsfs_turn.specs.Alone.{BringsNoDoubt, are_harmless, leaves_stuck}
+use Rattle.fsfs_turn.specs.Labels.{IsTidy}
 use Rattle.fsfs_turn.specs.Views.{View, Begins}
 use Rattle.fsfs_pass.specs.declared.seats.seat_view.Kin.{Kin}
 use Rattle.fsfs_pass.specs.declared.seats.seat_view.SeatView.{SeatView}
@@ -29,6 +31,7 @@ use Rattle.fsfs_workers.proofs.Counting.{faults_in_turn, benches_in_turn}
 use Rattle.fsfs_workers.proofs.InTurnLemmas.{first_share, second_share, shares_are_dealt, shares_are_all, length_in_turn}
 use Rattle.fsfs_job_run.proofs.Full.{then_true}
 use Rattle.fsfs_workers.proofs.Shares.{either_full, share_is_calm, none_stuck}
+use Rattle.fsfs_workers.proofs.Tidied.{tidy_joined}
 
 -- ---- what its jobs leave
 
@@ -172,6 +175,9 @@ module _ (moment : ℕ) (js : List Job) (firsts seconds answers : List JobAnswer
       let sum : u.bench_failures ≡ one.bench_failures + two.bench_failures = ap (λ (z : SeatView). z.bench_failures) u_is in
       omega (arith, a.benches, b.benches, told, before, none, sum)
 
+  both_tidy : IsTidy (Rose v.failures u.failures) (Some v.own) (Some u.own)
+  both_tidy = tidy_joined (disk_faults_in firsts) n v half new one two u half_is new_is u_is a.cause a.tidy b.tidy
+
   same_parts : u.kin.parts ≡ v.kin.parts
   same_parts =
       let x : one.kin.parts ≡ v.kin.parts - v.kin.parts / 2 = ap (λ (k : Kin). k.parts) first_kin in
@@ -189,4 +195,4 @@ module _ (moment : ℕ) (js : List Job) (firsts seconds answers : List JobAnswer
   }
 
   pub both_have : (v.told ≡ true → Begins u.seen one.seen × Begins u.seen two.seen) → HaveWorked moment 2 None js answers v u
-  both_have seen = record { did = λ told. both_did told (seen told).0 (seen told).1; each = each_told; cause = both_rose; benches = both_benches; rests = at_rest; parts = same_parts; duty = same_duty }
+  both_have seen = record { did = λ told. both_did told (seen told).0 (seen told).1; each = each_told; cause = both_rose; benches = both_benches; tidy = both_tidy; rests = at_rest; parts = same_parts; duty = same_duty }

@@ -1,5 +1,5 @@
 -- What a run comes to, by its end.
-use Rattle.std.proofs.Common.{◌≡◌, ◌≤◌, ℕ, List, length, Bool, true, false, refl, sym, subst, arith}
+use Rattle.std.proofs.Common.{◌≡◌, ◌⊎◌, ◌≤◌, ℕ, List, length, Bool, true, false, refl, sym, subst, arith}
 use Rattle.std.specs.Prelude.{Option, None, is_some, option_map, Result, Ok, Err, MatchResult}
 use Rattle.fsfs_base.specs.Failures.{Rose}
 use Rattle.fsfs_base.specs.declared.small_fault.SmallFile.TheVariants.{Current}
@@ -21,7 +21,7 @@ use Rattle.fsfs_job_run.specs.Openings.{OpensAs}
 use Rattle.fsfs_job_run.proofs.Unopened.{does_not_open}
 use Rattle.fsfs_job_run.specs.Runs.{RunScene, run_scene, PrintsRun}
 use Rattle.fsfs_job_run.specs.declared.running.JobsDone.{JobsDone}
-use Rattle.fsfs_workers.specs.ByWorkers.{KeepsEarlier, RanBesideOver, RunsBeside, NotOpened, NotRead, NoRoom, Done, Lost, RunsByWorkers}
+use Rattle.fsfs_workers.specs.ByWorkers.{KeepsEarlier, KeepsNoOther, RanBesideOver, RunsBeside, NotOpened, NotRead, NoRoom, Done, Lost, RunsByWorkers}
 use Rattle.fsfs_workers.specs.Works.{Works}
 
 -- a count that rose by so many since later on rose by as many since before
@@ -43,8 +43,8 @@ module _ (moment workers : ℕ) (packs : Option Bool) (before after : ℕ) (benc
   unroomed o js opens read firm = λ old new count now. NoRoom o js opens read (record { disk = firm; output = refl; output_faults = refl })
 
   pub worked : (o : Opened) (js : List Job) (done : JobsDone) → OpensAs told o → ReadsScript remaining (Ok js) → EndsSource remaining rest → length done.answers.items ≡ length js → RoseBy (disk_faults_in done.answers.items) before after → benches (bench_faults_in done.answers.items)
-      → KeepsEarlier o.next_txn.number (is_some packs) (option_map labels_now told) (option_map labels_now left) → RanBesideOver moment workers packs js done.answers.items done.youngest told left → Works moment workers true packs before after benches told left remaining rest faults more (Ok done)
-  worked o js done opens read ends each rose failed kept over = λ old new count now ended printed. Done o js done.answers.items done.youngest ended opens read ends each rose failed kept over printed
+      → KeepsEarlier o.next_txn.number (is_some packs) (option_map labels_now told) (option_map labels_now left) → KeepsNoOther (option_map labels_now told) (option_map labels_now left) ⊎ Rose before after → RanBesideOver moment workers packs js done.answers.items done.youngest told left → Works moment workers true packs before after benches told left remaining rest faults more (Ok done)
+  worked o js done opens read ends each rose failed kept tidy over = λ old new count now ended printed. Done o js done.answers.items done.youngest ended opens read ends each rose failed kept tidy over printed
 
   pub lost : Works moment workers false packs before after benches told left remaining rest faults more (Err (Repository (Small (record { file = Current; at = 0 }))))
   lost = λ old new count now. Lost refl refl refl
@@ -55,7 +55,7 @@ forget : (moment workers : ℕ) (packs : Option Bool) (before after : ℕ) (benc
 forget moment workers packs before after benches a b _ (NotOpened why because unopened untouched unread) = NotOpened why because unopened untouched unread
 forget moment workers packs before after benches a b _ (NotRead o error opens read rose untouched) = NotRead o error opens read rose untouched
 forget moment workers packs before after benches a b _ (NoRoom o js opens read untouched) = NoRoom o js opens read untouched
-forget moment workers packs before after benches a b _ (Done o js answers youngest ended opens read ends each rose failed kept over printed) = Done o js answers youngest ended opens read ends each rose failed kept over printed
+forget moment workers packs before after benches a b _ (Done o js answers youngest ended opens read ends each rose failed kept tidy over printed) = Done o js answers youngest ended opens read ends each rose failed kept tidy over printed
 forget moment workers packs before after benches a b _ (Lost unknown written failed) = absurd cc
 
 pub unknown : (moment workers : ℕ) (packs : Option Bool) (before after : ℕ) (benches : ℕ → Type 0) (told left : Option Trace) (remaining rest : Option (List ℕ)) (faults more : ℕ) (done : Result JobsDone Fault) → Works moment workers true packs before after benches None None remaining rest faults more done

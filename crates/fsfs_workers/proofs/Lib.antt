@@ -26,6 +26,7 @@ pub mod Ran
 pub mod Serially
 mod Begun
 mod Ends
+mod Tidied
 pub use Rattle.fsfs_job_run.proofs.ListedLemmas
 pub use Rattle.fsfs_job_run.proofs.Unopened
 pub use Rattle.fsfs_job_run.proofs.RunLemmas

@@ -57,6 +57,7 @@ module _ (moment : ℕ) (js : List Job) (answers : List JobAnswer) (v u : SeatVi
     each = a.each ∙ ap (λ (l : List Job). length l) (one_share js);
     cause = a.cause;
     benches = a.benches;
+    tidy = a.tidy;
     rests = a.rests;
     parts = ap (λ (k : Kin). k.parts) a.kin;
     duty = a.duty;

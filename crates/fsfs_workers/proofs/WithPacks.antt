@@ -26,6 +26,7 @@ use Rattle.fsfs_workers.specs.PackCalls.{HasPacked, PackCalls, PackedOften, one_
 use Rattle.fsfs_workers.specs.declared.packs.Packs.{Packs}
 use Rattle.fsfs_workers.proofs.Both.{both_harmless, knows_less, own_in_both}
 use Rattle.fsfs_workers.proofs.PackOften.{Passes, calls_pass, packed_weaker}
+use Rattle.fsfs_workers.proofs.Tidied.{tidy_joined}
 
 is_free : (sticks : Bool) → LeavesFree (Some sticks) → sticks ≡ false
 is_free false free = refl
@@ -122,6 +123,7 @@ module _ (moment workers times : ℕ) (packs : Packs) (js : List Job) (answers :
     each = a.each;
     cause = rose;
     benches = benches_rose;
+    tidy = tidy_joined (disk_faults_in answers) n v half new one two u half_is new_is u_is a.cause a.tidy b.tidy;
     rests = record {
       sitting = ap (λ (z : SeatView). z.kin.stage) u_is;
       outside = λ told. ap (λ (z : SeatView). z.section) u_is ∙ a.rests.outside (sym (ap (λ (z : SeatView). z.told) u_is) ∙ told);

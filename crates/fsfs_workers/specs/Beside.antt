@@ -1,10 +1,12 @@
 -- What workers do beside each other, over what the passes know.
 use Rattle.std.specs.Prelude.{◌≡◌, ◌⊎◌, ◌<◌, ◌≤◌, ◌+◌, ◌-◌, ◌++◌, [], ℕ, zero, suc, List, length, Bool, true, Option, Some, None}
+use Rattle.fsfs_base.specs.Failures.{Rose}
 use Rattle.fsfs_machine.specs.declared.machine.Coming.{Coming}
 use Rattle.fsfs_machine.specs.declared.machine.Recorded.{Recorded}
 use Rattle.fsfs_machine.specs.Kept.{IsIn}
 use Rattle.fsfs_machine.specs.Machine.{revisions}
 use Rattle.fsfs_turn.specs.Alone.{are_harmless}
+use Rattle.fsfs_turn.specs.Labels.{IsTidy}
 use Rattle.fsfs_turn.specs.Views.{Begins}
 use Rattle.fsfs_pass.specs.declared.seats.seat_view.SeatView.{SeatView}
 use Rattle.fsfs_pass.specs.Kinship.{own_in}
@@ -57,6 +59,8 @@ pub record HaveWorked (moment workers : ℕ) (packs : Option Bool) (js : List Jo
   -- whatever the disk tells: as many turns failed as lines tell of, and as many calls of benches
   pub cause : RoseBy (disk_faults_in answers) v.failures u.failures
   pub benches : RoseBy (bench_faults_in answers) v.bench_failures u.bench_failures
+  -- of the labels for which the passes answer none came, unless one of their calls of the disk failed
+  pub tidy : IsTidy (Rose v.failures u.failures) (Some v.own) (Some u.own)
   pub rests : IsAtRest u
   -- no part of the right to know that no other sits is lost
   pub parts : u.kin.parts ≡ v.kin.parts

@@ -1,10 +1,10 @@
 -- What a run of a script by several workers does to a disk, its input and its output.
-use Rattle.std.specs.Prelude.{◌≡◌, ◌≤◌, ◌+◌, ℕ, List, length, Bool, true, false, Option, Some, None, is_some, IfSome, Result, Ok, Err}
+use Rattle.std.specs.Prelude.{◌≡◌, ◌⊎◌, ◌≤◌, ◌+◌, ℕ, List, length, Bool, true, false, Option, Some, None, is_some, IfSome, Result, Ok, Err}
 use Rattle.fsfs_base.specs.Failures.{Rose}
 use Rattle.fsfs_base.specs.declared.small_fault.SmallFile.TheVariants.{Current}
 use Rattle.fsfs_tree.specs.Dated.{last_of}
 use Rattle.fsfs_tree.specs.Revisions.{Revision}
-use Rattle.fsfs_disk.specs.Labels.{Label, Txn as TxnLabel, Pack as PackLabel, HotCopy, has_label}
+use Rattle.fsfs_disk.specs.Labels.{Label, Txn as TxnLabel, Pack as PackLabel, HotCopy, AreLeft, has_label}
 use Rattle.fsfs_disk.specs.Trace.{Trace, files_now}
 use Rattle.fsfs_layout.specs.declared.opened.Opened.{Opened}
 use Rattle.fsfs_stands.specs.Files.{StandsFor}
@@ -80,6 +80,10 @@ IsFrom least packs HotCopy = ⊥
 abbrev pub KeepsEarlier : ℕ → Bool → Option (List Label) → Option (List Label) → Type 0
 KeepsEarlier least packs old new = IfSome old (λ a. IfSome new (λ b. (l : Label) → (IsFrom least packs l → ⊥) → has_label l b ≡ has_label l a))
 
+-- no label is kept that was not
+abbrev pub KeepsNoOther : Option (List Label) → Option (List Label) → Type 0
+KeepsNoOther old new = IfSome old (λ a. IfSome new (λ b. AreLeft a b))
+
 -- A run by its status or its fault, over what is told of the disk: as of one worker, but for what is told of the jobs. The repository is opened first. Where
 -- `packs` is Some, one more pass packed beside the jobs.
 pub data RunsBeside (moment workers : ℕ) (known : Bool) (packs : Option Bool) (before after : ℕ) (benches : ℕ → Type 0) (a b : RunScene) : Result ℕ Fault → Type 0 where
@@ -91,9 +95,10 @@ pub data RunsBeside (moment workers : ℕ) (known : Bool) (packs : Option Bool) 
   NoRoom : (o : Opened) (js : List Job) → OpensAs a.trace o → ReadsScript a.remaining (Ok js) → IsUntouched a b → RunsBeside moment workers known packs before after benches a b (Err Memory)
   -- It was opened, the input was read to its end, and its jobs were done; all workers had ended before the first line was printed. As many calls
   -- of the disk failed as lines tell of, and as many of benches. Whatever failed, of the transactions that were listed those stay so whose number is less
-  -- than the one that stood in `txn-current` as the run began, and of such numbers no other comes. Of faults of a pack no line tells.
+  -- than the one that stood in `txn-current` as the run began, and of such numbers no other comes. And no label at all comes,
+  -- unless a call of the disk failed. Of faults of a pack no line tells.
   Done : (o : Opened) (js : List Job) (answers : List JobAnswer) (youngest : ℕ) (result : Result ℕ Fault) → OpensAs a.trace o → ReadsScript a.remaining (Ok js) → EndsSource a.remaining b.remaining → length answers ≡ length js
-      → RoseBy (disk_faults_in answers) before after → benches (bench_faults_in answers) → KeepsEarlier o.next_txn.number (is_some packs) (labels_in a) (labels_in b) → RanBesideOver moment workers packs js answers youngest a.trace b.trace → PrintsRun answers youngest a.written b.written a.write_faults b.write_faults result
+      → RoseBy (disk_faults_in answers) before after → benches (bench_faults_in answers) → KeepsEarlier o.next_txn.number (is_some packs) (labels_in a) (labels_in b) → KeepsNoOther (labels_in a) (labels_in b) ⊎ Rose before after → RanBesideOver moment workers packs js answers youngest a.trace b.trace → PrintsRun answers youngest a.written b.written a.write_faults b.write_faults result
       → RunsBeside moment workers known packs before after benches a b result
   -- A file was gone as it was to get its name, and no line is printed. It is so only where the files weren't known.
   Lost : known ≡ false → b.written ≡ a.written → b.write_faults ≡ a.write_faults → RunsBeside moment workers known packs before after benches a b (Err (Repository (Small (record { file = Current; at = 0 }))))

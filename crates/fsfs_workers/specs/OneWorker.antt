@@ -1,5 +1,7 @@
 -- What a worker does.
-use Rattle.std.specs.Prelude.{◌≡◌, ℕ, List, length, true}
+use Rattle.std.specs.Prelude.{◌≡◌, ℕ, List, length, true, Some}
+use Rattle.fsfs_base.specs.Failures.{Rose}
+use Rattle.fsfs_turn.specs.Labels.{IsTidy}
 use Rattle.fsfs_pass.specs.declared.seats.seat_view.SeatView.{SeatView}
 use Rattle.fsfs_pass.specs.Seats.{view_of}
 use Rattle.fsfs_script.specs.declared.job_lines.job.Job.{Job}
@@ -18,6 +20,8 @@ pub record HasWorked (moment : ℕ) (js : List Job) (answers : List JobAnswer) (
   pub cause : RoseBy (disk_faults_in answers) v.failures u.failures
   -- and as many calls of benches
   pub benches : RoseBy (bench_faults_in answers) v.bench_failures u.bench_failures
+  -- of the labels for which the pass answers none came, unless one of its calls of the disk failed
+  pub tidy : IsTidy (Rose v.failures u.failures) (Some v.own) (Some u.own)
   pub rests : IsAtRest u
   pub kin : u.kin ≡ v.kin
   pub duty : u.told ≡ v.told

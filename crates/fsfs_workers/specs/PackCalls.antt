@@ -1,6 +1,7 @@
 -- What calls of `pack` come to, one behind another.
 use Rattle.std.specs.Prelude.{◌≡◌, ◌+◌, ◌-◌, ◌^◌, ◌||◌, ℕ, List, [], ◌∷◌, ◌++◌, length, min, Bool, true, false, Option, Some, None, IfSome, Result, Ok, Err}
 use Rattle.fsfs_base.specs.Failures.{Rose}
+use Rattle.fsfs_turn.specs.Labels.{IsTidy}
 use Rattle.fsfs_turn.specs.Views.{View}
 use Rattle.fsfs_pack.specs.Causes.{IfBench, IfDisk}
 use Rattle.fsfs_pack.specs.Packs.{Packing, Renamed, Says, sticks_at}
@@ -80,6 +81,8 @@ pub record HasPacked (times : ℕ) (packs : Packs) (v u : SeatView) : Type 0 whe
   pub packed : PackedOften times packs (Rose v.failures u.failures) (Rose v.bench_failures u.bench_failures)
   -- where the disk tells: what its pass knows then
   pub did : v.told ≡ true → PackCalls packed.calls (view_of v) (view_of u)
+  -- of the labels for which the pass answers none came, unless one of its calls of the disk failed
+  pub tidy : IsTidy (Rose v.failures u.failures) (Some v.own) (Some u.own)
   pub rests : IsAtRest u
   pub kin : u.kin ≡ v.kin
   pub duty : u.told ≡ v.told

@@ -1,6 +1,7 @@
 //! A pass that packs, beside those that do jobs.
 ghost use Rattle.std.specs.Prelude.{◌≡◌, ◌≤◌, ◌||◌, ◌+◌, ◌-◌, ◌^◌, min, [], true, None, Err, is_some};
 ghost use Rattle.fsfs_base.specs.Failures.{Rose};
+ghost use Rattle.fsfs_turn.specs.Labels.{IsTidy};
 ghost use Rattle.fsfs_turn.specs.Mountings.{RoseBy};
 ghost use Rattle.fsfs_turn.specs.Views.{View};
 ghost use Rattle.fsfs_workers.specs.PackCalls.{HasPacked, KnowsPacked, PackedOften, fault_in, first_of, sticks};
@@ -82,6 +83,8 @@ pub(crate) fn pack_often<R, T: Turns<R>, G: Gate>(
     ensures packed { (p : PackedOften times result.1 (Rose (T.faults turns) (T.faults result.0)) (Rose (T.mounting turns).bench_faults (T.mounting result.0).bench_faults)) × KnowsPacked (T.knows turns) (T.knows result.0) p.calls }
     ensures duty { T.bound result.0 ≡ T.bound turns }
     ensures mounted { (T.mounting result.0).mount ≡ (T.mounting turns).mount }
+    // Of the labels for which the pass answers none came, unless a call of the disk failed.
+    ensures tidy { IsTidy (Rose (T.faults turns) (T.faults result.0)) (T.own turns) (T.own result.0) }
     ensures later { T.faults turns ≤ T.faults result.0 }
     ensures benches { RoseBy 0 (T.mounting turns).bench_faults (T.mounting result.0).bench_faults }
 {

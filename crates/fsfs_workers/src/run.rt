@@ -1,6 +1,7 @@
 //! A run of two workers over a repository.
-ghost use Rattle.std.specs.Prelude.{◌≡◌, ◌≤◌, [], length, true, Some, None, is_some, IfOk, OnErr, IsTrue};
-ghost use Rattle.fsfs_disk.specs.Trace.{Trace};
+ghost use Rattle.std.specs.Prelude.{◌≡◌, ◌⊎◌, ◌≤◌, [], length, true, Some, None, is_some, option_map, IfOk, OnErr, IsTrue};
+ghost use Rattle.fsfs_base.specs.Failures.{Rose};
+ghost use Rattle.fsfs_disk.specs.Trace.{Trace, labels_now};
 ghost use Rattle.fsfs_machine.specs.Machine.{revisions};
 ghost use Rattle.fsfs_pass.specs.OtherLabels.{KeepsOthersOf};
 ghost use Rattle.fsfs_pass.specs.Seats.{alone};
@@ -8,7 +9,7 @@ ghost use Rattle.fsfs_job_run.specs.Known.{HoldBytes};
 ghost use Rattle.fsfs_job_run.specs.Workers.Lines.{disk_faults_in, RoseBy};
 ghost use Rattle.fsfs_job_run.specs.Serial.Jobs.{bench_faults_in};
 ghost use Rattle.fsfs_workers.specs.Ready.{IsReady};
-ghost use Rattle.fsfs_workers.specs.ByWorkers.{RanBeside};
+ghost use Rattle.fsfs_workers.specs.ByWorkers.{KeepsNoOther, RanBeside};
 
 use crate::two_workers::do_beside;
 use fsfs_base::Gate;
@@ -42,12 +43,14 @@ where
     requires seen { seat.me.0.told ≡ true → (seat.me.0.opened ≡ length seat.me.0.seen) × (seat.me.0.pass.mine ≡ []) × (seat.me.0.pass.faults ≡ []) × HoldBytes seat.me.0.since.files seat.me.0.seen × (seat.me.0.left ≡ None) }
     // The table began with that disk.
     requires began { (repo.board.shared.key.value.disk.mount_path ≡ D.mount_path repo.first.value) × (repo.board.shared.key.value.disk.faults ≡ D.faults repo.first.value) × (repo.board.shared.key.value.disk.bench_faults ≡ D.bench_faults repo.first.value) }
-    requires fresh { (seat.me.0.met ≡ D.trace repo.first.value) × (seat.me.0.failures ≡ 0) × (seat.me.0.bench_failures ≡ 0) }
+    requires fresh { (seat.me.0.met ≡ D.trace repo.first.value) × (seat.me.0.failures ≡ 0) × (seat.me.0.bench_failures ≡ 0) × (seat.me.0.own ≡ []) }
     ensures ran { (t : Trace) → D.trace result.0 ≡ Some t → IfOk result.1 (λ done. RanBeside micros seat.me.0.since 2 None jobs.now done.answers.items done.youngest (revisions seat.me.0.seen) (Some t)) }
     ensures told { is_some (D.trace result.0) ≡ seat.me.0.told }
     // Of the labels that were kept as the table began all are, and no more, but for transactions whose names are above those that were given then, and for
     // packs where passes may pack.
     ensures labels { KeepsOthersOf repo.board.shared.key.value.seat.since.packs repo.board.shared.key.value.seat.given repo.board.shared.key.value.disk.trace (D.trace result.0) }
+    // And of those that are kept then each was kept as the table began, unless a call of the disk failed.
+    ensures tidy { KeepsNoOther (option_map labels_now repo.board.shared.key.value.disk.trace) (option_map labels_now (D.trace result.0)) ⊎ Rose (D.faults repo.first.value) (D.faults result.0) }
     ensures each { IfOk result.1 (λ done. length done.answers.items ≡ length jobs.now) }
     ensures laid { IfOk result.1 (λ done. (done.layout ≡ repo.layout) × (done.floor ≡ repo.floor)) }
     ensures none { OnErr result.1 (D.trace result.0 ≡ D.trace repo.first.value) }

@@ -1,6 +1,8 @@
 //! The jobs of one worker.
 ghost use Rattle.std.specs.Prelude.{◌≡◌, ◌+◌, ◌<◌, ◌≤◌, [], length, true, false, None};
 ghost use Rattle.std.specs.Vec.{vec_capacity};
+ghost use Rattle.fsfs_base.specs.Failures.{Rose};
+ghost use Rattle.fsfs_turn.specs.Labels.{IsTidy};
 ghost use Rattle.fsfs_turn.specs.Views.{View};
 ghost use Rattle.fsfs_job_run.specs.Workers.Lines.{dealt, disk_faults_in, RoseBy};
 ghost use Rattle.fsfs_job_run.specs.Workers.Passes.{WorkedSo};
@@ -65,6 +67,8 @@ pub(crate) fn do_share<R, T: Turns<R>, G: Gate>(
     ensures benches { RoseBy (bench_faults_in result.1.items) (T.mounting turns).bench_faults (T.mounting result.0).bench_faults }
     ensures duty { T.bound result.0 ≡ T.bound turns }
     ensures mounted { (T.mounting result.0).mount ≡ (T.mounting turns).mount }
+    // Of the labels for which the pass answers none came, unless a call of the disk failed.
+    ensures tidy { IsTidy (Rose (T.faults turns) (T.faults result.0)) (T.own turns) (T.own result.0) }
     ensures later { T.faults turns ≤ T.faults result.0 }
 {
     let mut number: u64 = 0;

@@ -7,7 +7,6 @@ ghost use Rattle.fsfs_machine.specs.declared.machine.Txn.{Txn as SpecTxn};
 ghost use Rattle.fsfs_fetch.specs.Views.{IsKnown};
 ghost use Rattle.fsfs_turn.specs.Views.{View};
 ghost use Rattle.fsfs_turn.specs.Courses.{ReadOnly};
-ghost use Rattle.fsfs_turn.specs.Labels.{KeepsLabels};
 ghost use Rattle.fsfs_commit.specs.Works.{LandedOn};
 ghost use Rattle.fsfs_commit.specs.Transaction.Meaning.{IsTxnOf, Means, IsYoungestOf, IsTextBehind, HoldsBehind};
 ghost use Rattle.fsfs_commit.specs.Transaction.Findings.{Finds, FindsEnded, SpentByBench, Blames};
@@ -55,7 +54,7 @@ impl<B: Bench> OpenTxn<B> {
         ensures blamed { SpentByBench (B.faults self.old.txn.own.bench) self.old.txn.spent → IfErr result.1 (Blames (B.faults self.new.txn.own.bench) self.new.txn.spent) }
         ensures mounted { T.mounting result.0 ≡ T.mounting turns }
         ensures duty { T.bound result.0 ≡ T.bound turns }
-        ensures listed { KeepsLabels (T.bound turns) (T.labels turns) (T.labels result.0) }
+        ensures listed { T.own result.0 ≡ T.own turns }
         ensures name { ⟦<HeldNodes<B> as Own>⟧.txn self.new.txn.own ≡ ⟦<HeldNodes<B> as Own>⟧.txn self.old.txn.own }
         ensures later { T.faults turns ≤ T.faults result.0 }
         ensures cause { IfErr result.1 (λ why. IsDiskFault why → Rose (T.faults turns) (T.faults result.0)) }
@@ -95,7 +94,7 @@ impl<B: Bench> OpenTxn<B> {
         ensures blamed { SpentByBench (B.faults self.old.txn.own.bench) self.old.txn.spent → IfErr result.1 (Blames (B.faults self.new.txn.own.bench) self.new.txn.spent) }
         ensures mounted { T.mounting result.0 ≡ T.mounting turns }
         ensures duty { T.bound result.0 ≡ T.bound turns }
-        ensures listed { KeepsLabels (T.bound turns) (T.labels turns) (T.labels result.0) }
+        ensures listed { T.own result.0 ≡ T.own turns }
         ensures name { ⟦<HeldNodes<B> as Own>⟧.txn self.new.txn.own ≡ ⟦<HeldNodes<B> as Own>⟧.txn self.old.txn.own }
         ensures later { T.faults turns ≤ T.faults result.0 }
         ensures cause { IfErr result.1 (λ why. IsDiskFault why → Rose (T.faults turns) (T.faults result.0)) }

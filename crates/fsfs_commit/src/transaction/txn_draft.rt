@@ -11,7 +11,6 @@ ghost use Rattle.fsfs_machine.specs.declared.machine.Recorded.{Recorded};
 ghost use Rattle.fsfs_machine.specs.declared.machine.Txn.{Txn as SpecTxn};
 ghost use Rattle.fsfs_fetch.specs.Views.{IsKnown};
 ghost use Rattle.fsfs_turn.specs.Courses.{ReadOnly};
-ghost use Rattle.fsfs_turn.specs.Labels.{KeepsLabels};
 ghost use Rattle.fsfs_turn.specs.Views.{View, Begins};
 ghost use Rattle.fsfs_commit.specs.Works.{LandedOn};
 ghost use Rattle.fsfs_commit.specs.Transaction.Pinned.{IsPinned};
@@ -225,7 +224,7 @@ fn merge_stage<R, T: Turns<R>>(
     ensures named { (name : TxnName) → IfOpen stage.old (λ o. ⟦<HeldNodes<T::Bench> as Own>⟧.txn o.txn.own ≡ name) → IfOpen stage.new (λ o. ⟦<HeldNodes<T::Bench> as Own>⟧.txn o.txn.own ≡ name) }
     ensures mounted { T.mounting result.0 ≡ T.mounting turns }
     ensures duty { T.bound result.0 ≡ T.bound turns }
-    ensures listed { KeepsLabels (T.bound turns) (T.labels turns) (T.labels result.0) }
+    ensures listed { T.own result.0 ≡ T.own turns }
     ensures later { T.faults turns ≤ T.faults result.0 }
     ensures cause { IfErr result.1 (λ why. IsDiskFault why → Rose (T.faults turns) (T.faults result.0)) }
 {

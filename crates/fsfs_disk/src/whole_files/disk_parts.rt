@@ -23,7 +23,7 @@ impl<D: Disk> Parts for DiskParts<'_, D> {
 
     ghost tells = { λ p name file. TellsFile (D.trace p.disk.now) name file };
 
-    ghost later = { λ a b. IsAsBefore (D.trace a.disk.now) (D.trace b.disk.now) (D.mount_path a.disk.now) (D.mount_path b.disk.now) (D.may_write a.disk.now) (D.may_write b.disk.now) a.disk.ghost_name b.disk.ghost_name };
+    ghost later = { λ a b. IsAsBefore (D.trace a.disk.now) (D.trace b.disk.now) (D.mount_path a.disk.now) (D.mount_path b.disk.now) (D.may_write a.disk.now) (D.may_write b.disk.now) (D.bench_faults a.disk.now) (D.bench_faults b.disk.now) a.disk.ghost_name b.disk.ghost_name };
 
     ghost faults = { λ p. D.faults p.disk.now };
 
@@ -36,9 +36,9 @@ impl<D: Disk> Parts for DiskParts<'_, D> {
         self.disk.read(name, offset, buffer)
     }
 
-    ghost same = { λ a. before_none (D.trace a.disk.now) (D.mount_path a.disk.now) (D.may_write a.disk.now) a.disk.ghost_name };
+    ghost same = { λ a. before_none (D.trace a.disk.now) (D.mount_path a.disk.now) (D.may_write a.disk.now) (D.bench_faults a.disk.now) a.disk.ghost_name };
 
-    ghost more = { λ a b c e f. before_both (D.trace a.disk.now) (D.trace b.disk.now) (D.trace c.disk.now) (D.mount_path a.disk.now) (D.mount_path b.disk.now) (D.mount_path c.disk.now) (D.may_write a.disk.now) (D.may_write b.disk.now) (D.may_write c.disk.now) a.disk.ghost_name b.disk.ghost_name c.disk.ghost_name e f };
+    ghost more = { λ a b c e f. before_both (D.trace a.disk.now) (D.trace b.disk.now) (D.trace c.disk.now) (D.mount_path a.disk.now) (D.mount_path b.disk.now) (D.mount_path c.disk.now) (D.may_write a.disk.now) (D.may_write b.disk.now) (D.may_write c.disk.now) (D.bench_faults a.disk.now) (D.bench_faults b.disk.now) (D.bench_faults c.disk.now) a.disk.ghost_name b.disk.ghost_name c.disk.ghost_name e f };
 
     ghost stays = { λ a b name file e t. tells_again (D.trace a.disk.now) (D.trace b.disk.now) name file e.trace t };
 }
@@ -55,6 +55,7 @@ pub fn read_disk_file<D: Disk>(
     ensures same { D.trace disk.new ≡ D.trace disk.old }
     ensures mounted { D.mount_path disk.new ≡ D.mount_path disk.old }
     ensures right { D.may_write disk.new ≡ D.may_write disk.old }
+    ensures benches { D.bench_faults disk.new ≡ D.bench_faults disk.old }
     ensures later { D.faults disk.old ≤ D.faults disk.new }
     ensures failed { IfErr result (IfFailed (Rose (D.faults disk.old) (D.faults disk.new))) }
 {

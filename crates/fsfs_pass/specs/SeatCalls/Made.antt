@@ -1,7 +1,7 @@
 -- How a call of the disk ended, by what the disk shows behind it.
-use Rattle.std.specs.Prelude.{◌≡◌, ◌+◌, not, if◌then◌else◌, ℕ, List, [], ◌∷◌, Bool, true, false, Option, Some, None}
-use Rattle.fsfs_disk.specs.Labels.{Label}
-use Rattle.fsfs_disk.specs.Trace.{Trace, NameChange, Put, DropLabel, Performs, PerformsIfThere, FailsAt, FailsToPut}
+use Rattle.std.specs.Prelude.{◌≡◌, ◌+◌, not, if◌then◌else◌, ℕ, List, [], ◌∷◌, Bool, true, false, Option, Some, None, IfSome}
+use Rattle.fsfs_disk.specs.Labels.{Label, has_label}
+use Rattle.fsfs_disk.specs.Trace.{Trace, labels_now, NameChange, Put, DropLabel, Performs, PerformsIfThere, FailsAt, FailsToPut}
 use Rattle.fsfs_machine.specs.declared.machine.Went.{Went}
 use Rattle.fsfs_machine.specs.declared.machine.Went.TheVariants.{Fine, Before}
 use Rattle.fsfs_machine.specs.Machine.{is_fine_in}
@@ -13,9 +13,9 @@ Made false change old new = Performs change old new
 Made true (Put name bytes) old new = FailsToPut name bytes old new
 Made true change old new = FailsAt change old new
 
--- a label was dropped where it was kept, or the call failed
+-- a label was dropped, where it was kept, or the call failed
 abbrev pub Dropped : Bool → Label → Option Trace → Option Trace → Type 0
-Dropped false l old new = (there : Bool) × PerformsIfThere there (DropLabel l) old new
+Dropped false l old new = (there : Bool) × PerformsIfThere there (DropLabel l) old new × IfSome old (λ t. there ≡ has_label l (labels_now t))
 Dropped true l old new = FailsAt (DropLabel l) old new
 
 -- it went well where it didn't fail

@@ -1,12 +1,12 @@
 -- What a pass is told as it gives the disk back with a call done: the step that the call was.
-use Rattle.std.specs.Prelude.{◌≡◌, ◌+◌, ◌<◌, ◌≤◌, ◌-◌, ◌^◌, ◌⊎◌, ℕ, List, [], Bool, true, Option, Some, None, Result, is_some, slice_get}
+use Rattle.std.specs.Prelude.{◌≡◌, ◌+◌, ◌<◌, ◌≤◌, ◌-◌, ◌^◌, ◌⊎◌, ℕ, List, [], Bool, true, false, Option, Some, None, Result, is_some, slice_get}
 use Rattle.std.specs.FinMap as finmap
 use Rattle.fsfs_tree.specs.Revisions.{Revision}
 use Rattle.fsfs_layout.specs.FileNames.{only_name}
 use Rattle.fsfs_layout.specs.Small.{IsBase36Line, IsRevLine}
 use Rattle.fsfs_layout.specs.declared.only_file.OnlyFile.TheVariants.{TxnCurrent, MinUnpackedRev}
 use Rattle.fsfs_fetch.specs.Views.{Later}
-use Rattle.fsfs_disk.specs.Labels.{Label, Txn as TxnLabel, Pack as PackLabel}
+use Rattle.fsfs_disk.specs.Labels.{Label, Txn as TxnLabel, Pack as PackLabel, with_label, without_label}
 use Rattle.fsfs_disk.specs.Trace.{Trace, NameChange, Put, Adopt, file_at}
 use Rattle.fsfs_base.specs.declared.places.place.DiskPlace.{DiskPlace}
 use Rattle.fsfs_base.specs.declared.places.place.DiskPlace.TheVariants.{MakeBench, Remove}
@@ -145,8 +145,13 @@ pub record BenchedBy (failed : Bool) (v u : View) : Type 0 where
   pub made : (x : Drawn) → MayMake v x → (went : Went) × Ended failed went × BenchMade x went v u
   pub beside : (k : ℕ) → MayBenchPack v k → (went : Went) × Ended failed went × DoneBeside MakeBench went v u
 
-abbrev pub benched_back : At → Sat → ℕ → Sat → Type 0
-benched_back = Back (λ m u. BenchedBy (failed_of (carried m.1)) (view_of m.0) u)
+-- the seat answers for these labels
+abbrev pub owning : List Label → SeatView → SeatView
+owning ls v = record v { own = ls }
+
+-- with this label kept, or not: the pass answers for it
+abbrev pub benched_back : Label → At → Sat → ℕ → Sat → Type 0
+benched_back l st m found m' = Back (λ m u. BenchedBy (failed_of (carried m.1)) (view_of m.0) u) st (owning (with_label l m.0.own) m.0, m.1) found m'
 
 -- a label may be kept: that of a transaction whose bench may be made; or that of a pack, by who holds the lock
 abbrev pub MayKeep : View → Label → Type 0
@@ -165,9 +170,14 @@ pub record PurgedBy (failed : Bool) (v u : View) : Type 0 where
 abbrev pub counting : ℕ → SeatView → SeatView
 counting n v = record v { bench_failures = v.bench_failures + n }
 
--- with a bench dropped whose calls failed so often
-abbrev pub purged_back : ℕ → At → Sat → ℕ → Sat → Type 0
-purged_back n st m found m' = Back (λ m u. PurgedBy (failed_of (carried m.1)) (view_of m.0) u) st (counting n m.0, m.1) found m'
+-- of these labels the pass answers no more for this one, unless the call failed that was to drop it
+abbrev pub disowned : Bool → Label → List Label → List Label
+disowned true l ls = ls
+disowned false l ls = without_label l ls
+
+-- with this label dropped, and a bench whose calls failed so often
+abbrev pub purged_back : ℕ → Label → At → Sat → ℕ → Sat → Type 0
+purged_back n l st m found m' = Back (λ m u. PurgedBy (failed_of (carried m.1)) (view_of m.0) u) st (counting n (owning (disowned (failed_of (carried m.1)) l m.0.own) m.0), m.1) found m'
 
 -- ---- what goes by a pack
 

@@ -1,6 +1,6 @@
 //! The disk goes back with a call done.
 ghost use Rattle.std.specs.Prelude.{◌≡◌, ◌≤◌, [], ◌∷◌, ℕ, List, length, true, Option, Some, None, unwrap_or};
-ghost use Rattle.fsfs_disk.specs.Labels.{Label as KeptLabel};
+ghost use Rattle.fsfs_disk.specs.Labels.{Label as KeptLabel, label_of, with_label};
 ghost use Rattle.fsfs_disk.specs.Trace.{NameChange, Adopt, KeepLabel, Remove as RemoveFile};
 ghost use Rattle.fsfs_base.specs.declared.places.place.DiskPlace.{DiskPlace};
 ghost use Rattle.fsfs_machine.specs.declared.machine.Section.TheVariants.{Begun, Packed};
@@ -12,15 +12,15 @@ ghost use Rattle.fsfs_disk.specs.Seen.{DiskSeen, IsLater};
 ghost use Rattle.fsfs_pass.specs.declared.seats.seat_view.Hand.TheVariants.{Out};
 ghost use Rattle.fsfs_pass.specs.Seats.{view_of, IsSitting};
 ghost use Rattle.fsfs_pass.specs.SeatCalls.Made.{Made, Dropped, once, went_of};
-ghost use Rattle.fsfs_pass.specs.SeatCalls.Tells.{GivenBack, CalledBy, Unmade, PackUnmade, ReadBy, DrawnBy, MayAdoptIt, IsPutOf, AdoptedBy, no_adoption, BenchedBy, MayKeep, MayDrop, PurgedBy, counting, RemovedBy, BesideBy};
+ghost use Rattle.fsfs_pass.specs.SeatCalls.Tells.{GivenBack, CalledBy, Unmade, PackUnmade, ReadBy, DrawnBy, MayAdoptIt, IsPutOf, AdoptedBy, no_adoption, BenchedBy, MayKeep, MayDrop, PurgedBy, counting, disowned, owning, RemovedBy, BesideBy};
 
 use crate::seat_calls::plays::{
     Committing, Drawing, Dropping, GiveAdopted, GiveBenched, GiveBeside, GiveCalled, GiveDrawn,
-    GiveListed, GivePackUnmade, GivePurged, GiveRead, GiveRemoved, GiveUnmade, Naming,
+    GiveListed, GivePackUnmade, GivePurged, GiveRead, GiveRemoved, GiveUnmade, Labelling, Naming,
 };
 use crate::{Board, SharedSeat};
 use fsfs_base::{Name, Note, RevNum};
-use fsfs_disk::{Disk, SharedDisk};
+use fsfs_disk::{Disk, Label, SharedDisk};
 use fsfs_machine::Bytes;
 use fsfs_turn::Adoption;
 
@@ -199,20 +199,24 @@ pub(crate) fn give_adopted<K: Committing, D: Disk + Drop>(
 }
 
 /// With the bench of a new transaction made, or of a pack.
-pub(crate) fn give_benched<D: Disk + Drop>(
+pub(crate) fn give_benched<K: Labelling, D: Disk + Drop>(
     board: &Board<D>,
     seat: &mut SharedSeat<D>,
     disk: SharedDisk<D>,
+    label: &Label,
 )
+    requires label { label_of label.now ≡ K.label }
     requires table { (seat.old.table_id ≡ board.now.shared.table_id) × (board.now.shared.table_id.words ≡ 3) × (board.now.shared.table_id.slots ≡ 1) × (seat.old.me.1 ≡ (0, None) ∷ []) }
     requires sits { IsSitting seat.old.me.0 }
-    requires made { (was : DiskSeen) × (l : KeptLabel) × (seat.old.me.0.hand ≡ Out was) × IsLater (once disk.failed) 0 was disk × Made disk.failed (KeepLabel l) was.trace disk.trace × (seat.old.me.0.told ≡ true → MayKeep (view_of seat.old.me.0) l) }
+    requires made { (was : DiskSeen) × (seat.old.me.0.hand ≡ Out was) × IsLater (once disk.failed) 0 was disk × Made disk.failed (KeepLabel (label_of label.now)) was.trace disk.trace × (seat.old.me.0.told ≡ true → MayKeep (view_of seat.old.me.0) (label_of label.now)) }
     ensures same { (seat.new.table_id ≡ seat.old.table_id) × (seat.new.id ≡ seat.old.id) × (seat.new.me.1 ≡ []) }
-    ensures given { GivenBack (λ u. BenchedBy disk.failed (view_of seat.old.me.0) u) disk.failed disk.trace seat.old.me.0 seat.new.me.0 }
+    // The pass answers for the label then, also where the call failed.
+    ensures given { GivenBack (λ u. BenchedBy disk.failed (view_of seat.old.me.0) u) disk.failed disk.trace (owning (with_label (label_of label.now) seat.old.me.0.own) seat.old.me.0) seat.new.me.0 }
 {
+    let _ = label;
     disk.files_are_short();
     board.shared.exchange(seat, 0, Some(disk));
-    board.shared.store::<GiveBenched>(seat, 0, 0);
+    board.shared.store::<GiveBenched<K>>(seat, 0, 0);
 }
 
 /// With a label dropped, and a bench whose calls failed so often.
@@ -220,15 +224,18 @@ pub(crate) fn give_purged<K: Dropping, D: Disk + Drop>(
     board: &Board<D>,
     seat: &mut SharedSeat<D>,
     disk: SharedDisk<D>,
+    label: &Label,
     faults: &Note<u64>,
 )
+    requires label { label_of label.now ≡ K.label }
     requires faults { faults.now.value ≡ K.faults }
     requires table { (seat.old.table_id ≡ board.now.shared.table_id) × (board.now.shared.table_id.words ≡ 3) × (board.now.shared.table_id.slots ≡ 1) × (seat.old.me.1 ≡ (0, None) ∷ []) }
     requires sits { IsSitting seat.old.me.0 }
-    requires made { (was : DiskSeen) × (l : KeptLabel) × (seat.old.me.0.hand ≡ Out was) × IsLater (once disk.failed) K.faults was disk × Dropped disk.failed l was.trace disk.trace × (seat.old.me.0.told ≡ true → MayDrop (view_of seat.old.me.0) l) }
+    requires made { (was : DiskSeen) × (seat.old.me.0.hand ≡ Out was) × IsLater (once disk.failed) K.faults was disk × Dropped disk.failed (label_of label.now) was.trace disk.trace × (seat.old.me.0.told ≡ true → MayDrop (view_of seat.old.me.0) (label_of label.now)) }
     ensures same { (seat.new.table_id ≡ seat.old.table_id) × (seat.new.id ≡ seat.old.id) × (seat.new.me.1 ≡ []) }
-    ensures given { GivenBack (λ u. PurgedBy disk.failed (view_of seat.old.me.0) u) disk.failed disk.trace (counting faults.now.value seat.old.me.0) seat.new.me.0 }
+    ensures given { GivenBack (λ u. PurgedBy disk.failed (view_of seat.old.me.0) u) disk.failed disk.trace (counting faults.now.value (owning (disowned disk.failed (label_of label.now) seat.old.me.0.own) seat.old.me.0)) seat.new.me.0 }
 {
+    let _ = label;
     let _ = faults;
     disk.files_are_short();
     board.shared.exchange(seat, 0, Some(disk));

@@ -18,7 +18,7 @@ ghost use Rattle.fsfs_pass.specs.declared.seats.seat_view.Hand.TheVariants.{Empt
 ghost use Rattle.fsfs_pass.specs.Seats.{view_of, IsSitting};
 ghost use Rattle.fsfs_pass.specs.Met.{seat_store, seat_labels};
 ghost use Rattle.fsfs_pass.specs.Tells.{TellsIt};
-ghost use Rattle.fsfs_pass.specs.SeatCalls.Tells.{IsBack, MayKeep, MayDrop, counting};
+ghost use Rattle.fsfs_pass.specs.SeatCalls.Tells.{IsBack, MayKeep, MayDrop, counting, disowned, owning};
 
 use crate::seat_calls::gives::{give_benched, give_listed, give_purged};
 use crate::seats::table::give_back;
@@ -89,7 +89,8 @@ pub fn bench<D: Disk + Drop, R: Wait>(
     requires sits { IsSitting seat.old.me.0 }
     requires may { seat.old.me.0.told ≡ true → MayKeep (view_of seat.old.me.0) (label_of label.now) }
     ensures same { (seat.new.table_id ≡ seat.old.table_id) × (seat.new.id ≡ seat.old.id) × (seat.new.me.1 ≡ []) }
-    ensures back { IsBack (is_err result) seat.old.me.0 seat.new.me.0 }
+    // It answers for the label then, also where the call failed.
+    ensures back { IsBack (is_err result) (owning (with_label (label_of label.now) seat.old.me.0.own) seat.old.me.0) seat.new.me.0 }
     ensures tells { TellsIt seat.new.me.0 }
     ensures later { Later (seat_store seat.old.me.0) (seat_store seat.new.me.0) }
     ensures made { seat.old.me.0.told ≡ true → (x : Drawn) → MayMake (view_of seat.old.me.0) x → (went : Went) × Answers result went × BenchMade x went (view_of seat.old.me.0) (view_of seat.new.me.0) }
@@ -102,7 +103,7 @@ pub fn bench<D: Disk + Drop, R: Wait>(
 {
     let mut disk = take(rt, board, seat);
     let answer = disk.bench(label);
-    give_benched(board, seat, disk);
+    give_benched::<Brand, D>(board, seat, disk, label);
     answer
 }
 
@@ -118,8 +119,8 @@ pub fn drop_bench<D: Disk + Drop, R: Wait>(
     requires sits { IsSitting seat.old.me.0 }
     requires may { seat.old.me.0.told ≡ true → MayDrop (view_of seat.old.me.0) (label_of label.now) }
     ensures same { (seat.new.table_id ≡ seat.old.table_id) × (seat.new.id ≡ seat.old.id) × (seat.new.me.1 ≡ []) }
-    // The bench's failures are counted.
-    ensures back { IsBack (is_err result) (counting (unwrap_or (option_map D.Bench.faults bench) 0) seat.old.me.0) seat.new.me.0 }
+    // The bench's failures are counted; and the pass answers for the label no more, unless the call failed.
+    ensures back { IsBack (is_err result) (counting (unwrap_or (option_map D.Bench.faults bench) 0) (owning (disowned (is_err result) (label_of label.now) seat.old.me.0.own) seat.old.me.0)) seat.new.me.0 }
     ensures tells { TellsIt seat.new.me.0 }
     ensures later { Later (seat_store seat.old.me.0) (seat_store seat.new.me.0) }
     ensures purged { seat.old.me.0.told ≡ true → (txn : Txn) → MayPurge (view_of seat.old.me.0) txn → (went : Went) × Answers result went × Purged txn went (view_of seat.old.me.0) (view_of seat.new.me.0) }
@@ -132,6 +133,6 @@ pub fn drop_bench<D: Disk + Drop, R: Wait>(
     let faults = Note::of(&BenchFaults { bench: &bench });
     let mut disk = take(rt, board, seat);
     let answer = disk.drop_bench(label, bench);
-    give_purged::<Brand, D>(board, seat, disk, &faults);
+    give_purged::<Brand, D>(board, seat, disk, label, &faults);
     answer
 }

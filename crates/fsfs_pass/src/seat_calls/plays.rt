@@ -1,5 +1,6 @@
 //! What each step tells by which the disk goes back with a call done.
 ghost use Rattle.std.specs.Prelude.{ℕ, List};
+ghost use Rattle.fsfs_disk.specs.Labels.{Label};
 ghost use Rattle.fsfs_turn.specs.declared.adoption.Adoption.{Adoption};
 
 use crate::SeatView;
@@ -78,21 +79,40 @@ impl<D: Disk> Play<Option<SharedDisk<D>>, SeatView> for GiveListed {
     ghost then = { listed_back };
 }
 
-pub(crate) struct GiveBenched;
-
-impl<D: Disk> Play<Option<SharedDisk<D>>, SeatView> for GiveBenched {
-    ghost use Rattle.fsfs_pass.specs.SeatCalls.Tells.{benched_back};
-
-    ghost then = { benched_back };
+/// Which label is kept. Each call picks it.
+pub(crate) trait Labelling {
+    ghost label: { Label };
 }
 
-/// How often the bench failed that is dropped. Each call picks it.
+impl Labelling for Brand {
+    ghost use Rattle.fsfs_disk.specs.Labels.{HotCopy};
+
+    ghost label = { HotCopy };
+}
+
+pub(crate) struct GiveBenched<K> {
+    of: PhantomData<K>,
+}
+
+impl<K: Labelling, D: Disk> Play<Option<SharedDisk<D>>, SeatView> for GiveBenched<K> {
+    ghost use Rattle.fsfs_pass.specs.SeatCalls.Tells.{benched_back};
+
+    ghost then = { benched_back K.label };
+}
+
+/// Which label is dropped, and how often the bench failed that is dropped with it. Each call picks them.
 pub(crate) trait Dropping {
     ghost faults: { ℕ };
+
+    ghost label: { Label };
 }
 
 impl Dropping for Brand {
+    ghost use Rattle.fsfs_disk.specs.Labels.{HotCopy};
+
     ghost faults = { 0 };
+
+    ghost label = { HotCopy };
 }
 
 pub(crate) struct GivePurged<K> {
@@ -102,7 +122,7 @@ pub(crate) struct GivePurged<K> {
 impl<K: Dropping, D: Disk> Play<Option<SharedDisk<D>>, SeatView> for GivePurged<K> {
     ghost use Rattle.fsfs_pass.specs.SeatCalls.Tells.{purged_back};
 
-    ghost then = { purged_back K.faults };
+    ghost then = { purged_back K.faults K.label };
 }
 
 /// For which base a number is drawn. Each call picks it.

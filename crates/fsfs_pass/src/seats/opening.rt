@@ -5,6 +5,7 @@ ghost use Rattle.fsfs_pass.specs.Seats.{all_parts, nameless_view, IsSitting};
 ghost use Rattle.fsfs_pass.specs.Tells.{IsMet};
 ghost use Rattle.fsfs_pass.specs.First.{IsFirst};
 ghost use Rattle.fsfs_pass.specs.OtherLabels.{KeepsOthersOf};
+ghost use Rattle.fsfs_pass.specs.OwnLabels.{OwnsAll};
 
 use crate::seats::law::{Board, SharedSeat};
 use crate::seats::seat_view::{Beginning, SeatView};
@@ -82,6 +83,8 @@ pub fn close<D: Disk + Drop, R: Wait>(rt: &R, board: Board<D>, seat: SharedSeat<
     // Of the labels that were kept as the table began all are, and no more, but for transactions whose names are above those that were given then,
     // and for packs where passes may pack.
     ensures labels { KeepsOthersOf board.shared.key.value.seat.since.packs board.shared.key.value.seat.given board.shared.key.value.disk.trace (D.trace result) }
+    // With all parts, each that came is one for which the pass answers.
+    ensures owned { seat.me.0.kin.parts ≡ all_parts → OwnsAll seat.me.0.own board.shared.key.value.disk.trace (D.trace result) }
     ensures met { (t : Trace) → D.trace result ≡ Some t → IsMet seat.me.0 t }
 {
     let mut seat = seat;

@@ -21,6 +21,23 @@ impl Model for Told {
     ghost view = { λ _. None };
 }
 
+/// Labels.
+#[derive(Drop)]
+pub struct Kept {}
+
+impl Model for Kept {
+    ghost use Rattle.std.specs.Prelude.{[], List};
+    ghost use Rattle.std.specs.Coded.{coded_list};
+    ghost use Rattle.fsfs_disk.specs.Labels.{Label};
+    ghost use Rattle.fsfs_disk.specs.Codes.{coded_label};
+
+    ghost Value = { List Label };
+
+    ghost coded = { coded_list coded_label };
+
+    ghost view = { λ _. [] };
+}
+
 /// The disk as it was at one moment.
 #[derive(Drop)]
 pub struct Taken {}
@@ -93,6 +110,8 @@ pub struct SeatView {
     pub firm: Option<u64>,
     pub told: bool,
     pub hand: Hand,
+    // the labels that it made and hasn't dropped, with those that it may have made by a call that failed
+    pub own: Kept,
     // the trace of the disk as the pass met it last, at a look, at a reveal, or by a call of the disk
     pub met: Told,
     // how often its calls of the disk failed

@@ -13,6 +13,7 @@ ghost use Rattle.fsfs_pass.specs.declared.seats.seat_view.Hand.TheVariants.{Empt
 ghost use Rattle.fsfs_pass.specs.Seats.{all_parts, view_of, look_view, lock_view, stuck_view, outside_view, reveal_view, reveal_in, IsSitting};
 ghost use Rattle.fsfs_pass.specs.Met.{seat_store};
 ghost use Rattle.fsfs_pass.specs.OtherLabels.{KeepsOthersOf};
+ghost use Rattle.fsfs_pass.specs.OwnLabels.{OwnsAll};
 ghost use Rattle.fsfs_pass.specs.Tells.{CanGive, CanStick, CanReveal, IsMet, TellsIt};
 
 use crate::seats::law::{
@@ -126,6 +127,7 @@ fn take_of<K: Began, D: Disk, R: Wait>(
     ensures alone { seat.old.me.0.kin.parts ≡ all_parts → result.trace ≡ seat.old.me.0.met }
     ensures later { IsLater seat.old.me.0.failures seat.old.me.0.bench_failures K.disk result }
     ensures labels { KeepsOthersOf K.packs K.names K.disk.trace result.trace }
+    ensures owned { seat.old.me.0.kin.parts ≡ all_parts → OwnsAll seat.old.me.0.own K.disk.trace result.trace }
     ensures met { (t : Trace) → result.trace ≡ Some t → IsMet seat.old.me.0 t }
 {
     for _ in rt.forever() {
@@ -151,6 +153,8 @@ pub fn take<D: Disk, R: Wait>(rt: &R, board: &Board<D>, seat: &mut SharedSeat<D>
     // Of the labels that were kept as the table began all are, and no more, but for transactions whose names are above those that were given then,
     // and for packs where passes may pack.
     ensures labels { KeepsOthersOf board.now.shared.key.value.seat.since.packs board.now.shared.key.value.seat.given board.now.shared.key.value.disk.trace result.trace }
+    // With all parts, each that came is one for which the pass answers.
+    ensures owned { seat.old.me.0.kin.parts ≡ all_parts → OwnsAll seat.old.me.0.own board.now.shared.key.value.disk.trace result.trace }
     ensures met { (t : Trace) → result.trace ≡ Some t → IsMet seat.old.me.0 t }
 {
     take_of::<Brand, D, R>(rt, board, seat)

@@ -3,10 +3,11 @@ ghost use Rattle.std.specs.Prelude.{◌≡◌, ◌⊎◌, ◌≤◌, None, IfOk,
 ghost use Rattle.fsfs_base.specs.Failures.{Rose};
 ghost use Rattle.fsfs_disk.specs.Labels.{txn_entries};
 ghost use Rattle.fsfs_turn.specs.Alone.{packing};
+ghost use Rattle.fsfs_turn.specs.Labels.{NoneCame};
 ghost use Rattle.fsfs_turn.specs.Mountings.{RoseBy};
 ghost use Rattle.fsfs_turn.specs.Views.{View};
 ghost use Rattle.fsfs_pack.specs.Causes.{IfBench, IfDisk};
-ghost use Rattle.fsfs_pack.specs.Packs.{LeftRose, NoneCame, Packing, Renamed, Says, ShowsFloors};
+ghost use Rattle.fsfs_pack.specs.Packs.{LeftRose, Packing, Renamed, Says, ShowsFloors};
 ghost use Rattle.fsfs_repo.specs.Owned.Crashes.{CrashesLeave};
 
 use crate::owned::repo::Repo;

@@ -73,7 +73,7 @@ fn share<D: Disk + Drop>(
     ensures sits { IfOk result (λ o. (o.seat.table_id ≡ o.repo.board.shared.table_id) × (o.seat.me.1 ≡ []) × IsSitting o.seat.me.0) }
     ensures began { IfOk result (λ o. (o.repo.board.shared.key.value.disk.mount_path ≡ D.mount_path o.repo.first.value) × (o.repo.board.shared.key.value.disk.faults ≡ D.faults o.repo.first.value) × (o.repo.board.shared.key.value.disk.bench_faults ≡ D.bench_faults o.repo.first.value)) }
     ensures alone { IfOk result (λ o. o.seat.me.0.kin ≡ alone) }
-    ensures fresh { IfOk result (λ o. (o.seat.me.0.met ≡ D.trace o.repo.first.value) × (o.seat.me.0.failures ≡ 0) × (o.seat.me.0.bench_failures ≡ 0)) }
+    ensures fresh { IfOk result (λ o. (o.seat.me.0.met ≡ D.trace o.repo.first.value) × (o.seat.me.0.failures ≡ 0) × (o.seat.me.0.bench_failures ≡ 0) × (o.seat.me.0.own ≡ [])) }
     ensures tells { IfOk result (λ o. TellsIt o.seat.me.0) }
     ensures known { IfOk result (λ o. (s : SeatView) × IsFirst o.said.layout o.said.min_unpacked_rev o.said.youngest (D.trace o.repo.first.value) s × (o.seat.me.0 ≡ look_view o.youngest o.seat.me.0.met s)) }
     ensures looked { IfOk result (λ o. o.seat.me.0 ≡ look_view o.youngest o.seat.me.0.met (nameless_view about.now.value)) }
@@ -130,7 +130,7 @@ impl<D: Disk + Drop> SharedRepo<D> {
         // known of the store, and the youngest revision.
         ensures sits { IfOk result (λ o. (o.seat.table_id ≡ o.repo.board.shared.table_id) × (o.seat.me.1 ≡ []) × IsSitting o.seat.me.0) }
         ensures alone { IfOk result (λ o. o.seat.me.0.kin ≡ alone) }
-        ensures fresh { IfOk result (λ o. (o.seat.me.0.met ≡ D.trace o.repo.first.value) × (o.seat.me.0.failures ≡ 0) × (o.seat.me.0.bench_failures ≡ 0)) }
+        ensures fresh { IfOk result (λ o. (o.seat.me.0.met ≡ D.trace o.repo.first.value) × (o.seat.me.0.failures ≡ 0) × (o.seat.me.0.bench_failures ≡ 0) × (o.seat.me.0.own ≡ [])) }
         ensures tells { IfOk result (λ o. TellsIt o.seat.me.0) }
         ensures known { IfOk result (λ o. (s : SeatView) × IsFirst o.said.layout o.said.min_unpacked_rev o.said.youngest (D.trace o.repo.first.value) s × (o.seat.me.0 ≡ look_view o.youngest o.seat.me.0.met s)) }
         ensures seen { IfSome (D.trace disk) (λ t. IfOk result (λ o. SeesAll t o.seat.me.0)) }
@@ -159,7 +159,7 @@ impl<D: Disk + Drop> SharedRepo<D> {
         // known of the store, and the youngest revision.
         ensures sits { IfOk result (λ o. (o.seat.table_id ≡ o.repo.board.shared.table_id) × (o.seat.me.1 ≡ []) × IsSitting o.seat.me.0) }
         ensures alone { IfOk result (λ o. o.seat.me.0.kin ≡ alone) }
-        ensures fresh { IfOk result (λ o. (o.seat.me.0.met ≡ D.trace o.repo.first.value) × (o.seat.me.0.failures ≡ 0) × (o.seat.me.0.bench_failures ≡ 0)) }
+        ensures fresh { IfOk result (λ o. (o.seat.me.0.met ≡ D.trace o.repo.first.value) × (o.seat.me.0.failures ≡ 0) × (o.seat.me.0.bench_failures ≡ 0) × (o.seat.me.0.own ≡ [])) }
         ensures tells { IfOk result (λ o. TellsIt o.seat.me.0) }
         ensures known { IfOk result (λ o. (s : SeatView) × IsFirst o.said.layout o.said.min_unpacked_rev o.said.youngest (D.trace o.repo.first.value) s × (o.seat.me.0 ≡ look_view o.youngest o.seat.me.0.met s)) }
         ensures seen { IfSome (D.trace disk) (λ t. IfOk result (λ o. SeesAllSo true t o.seat.me.0)) }
@@ -188,7 +188,7 @@ impl<D: Disk + Drop> SharedRepo<D> {
         // known of the store, and the youngest revision.
         ensures sits { IfOk result (λ o. (o.seat.table_id ≡ o.repo.board.shared.table_id) × (o.seat.me.1 ≡ []) × IsSitting o.seat.me.0) }
         ensures alone { IfOk result (λ o. o.seat.me.0.kin ≡ alone) }
-        ensures fresh { IfOk result (λ o. (o.seat.me.0.met ≡ D.trace o.repo.first.value) × (o.seat.me.0.failures ≡ 0) × (o.seat.me.0.bench_failures ≡ 0)) }
+        ensures fresh { IfOk result (λ o. (o.seat.me.0.met ≡ D.trace o.repo.first.value) × (o.seat.me.0.failures ≡ 0) × (o.seat.me.0.bench_failures ≡ 0) × (o.seat.me.0.own ≡ [])) }
         ensures tells { IfOk result (λ o. TellsIt o.seat.me.0) }
         ensures known { IfOk result (λ o. (s : SeatView) × IsFirst o.said.layout o.said.min_unpacked_rev o.said.youngest (D.trace o.repo.first.value) s × (o.seat.me.0 ≡ look_view o.youngest o.seat.me.0.met s)) }
         ensures seen { IfSome (D.trace disk) (λ t. IfOk result (λ o. SeesAllSo packs t o.seat.me.0)) }

@@ -5,6 +5,7 @@ ghost use Rattle.fsfs_pass.specs.Met.{ground_of};
 ghost use Rattle.fsfs_pass.specs.Seats.{all_parts, view_of, IsSitting};
 ghost use Rattle.fsfs_pass.specs.Tells.{IsMet, TellsIt};
 ghost use Rattle.fsfs_pass.specs.OtherLabels.{KeepsOthersOf};
+ghost use Rattle.fsfs_pass.specs.OwnLabels.{OwnsAll};
 ghost use Rattle.fsfs_pass.specs.Passes.{KnowsIt};
 ghost use Rattle.fsfs_repo.specs.Shared.Left.{Leaves};
 
@@ -72,6 +73,8 @@ impl<D: Disk + Drop> SharedRepo<D> {
         // Of the labels that were kept as the table began (`labels` of `open`) all are, and no more, but for transactions whose names are above those that
         // were given then, and for packs where passes may pack.
         ensures labels { KeepsOthersOf self.board.shared.key.value.seat.since.packs self.board.shared.key.value.seat.given self.board.shared.key.value.disk.trace (D.trace result) }
+        // With all parts, each that came is one for which the pass answers.
+        ensures owned { seat.me.0.kin.parts ≡ all_parts → OwnsAll seat.me.0.own self.board.shared.key.value.disk.trace (D.trace result) }
         // It is the disk with which the table began (`began` of `open`), and as many of its calls have failed as failed of the pass's, or more, and as
         // many of those of benches.
         ensures mounted { D.mount_path result ≡ self.board.shared.key.value.disk.mount_path }

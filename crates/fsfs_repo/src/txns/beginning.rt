@@ -1,12 +1,11 @@
 //! Transactions begin.
-ghost use Rattle.std.specs.Prelude.{◌≡◌, ◌⊎◌, ◌≤◌, true, false, codes, None, OnOk, OnErr, IfOk, IfErr, IfSome};
+ghost use Rattle.std.specs.Prelude.{◌≡◌, ◌⊎◌, ◌≤◌, true, codes, None, OnOk, OnErr, IfOk, IfErr, IfSome, option_map};
 ghost use Rattle.fsfs_base.specs.Failures.{Rose};
 ghost use Rattle.fsfs_disk.specs.Labels.{has_label, with_label};
 ghost use Rattle.fsfs_begin.specs.Benches.{TellsRoot};
 ghost use Rattle.fsfs_txn_nodes.specs.Memory.Views.{begun_folder};
 ghost use Rattle.fsfs_machine.specs.Kept.{IsIn};
 ghost use Rattle.fsfs_disk.specs.Transactions.Txns.{pair_of, txn_label};
-ghost use Rattle.fsfs_turn.specs.Labels.{Relabels};
 ghost use Rattle.fsfs_turn.specs.Mountings.{RoseBy};
 ghost use Rattle.fsfs_turn.specs.Views.{View};
 ghost use Rattle.fsfs_begin.specs.Steps.{FilesStay, HasLastName, MeetsLastName, Moved};
@@ -45,7 +44,7 @@ fn hold<B: Bench>(alloc: Global, base: RevNum, begun: Begun<B>) -> Result<Txn<He
 fn forget<R, T: Turns<R>>(rt: &R, turns: &mut T, name: &TxnName, bench: T::Bench)
     requires due { T.bound turns.old ≡ true → (v : View) × T.knows turns.old v × (v.section ≡ None) × IsIn name.now.number.number v.given }
     ensures moved { (v : View) → T.knows turns.old v → v.section ≡ None → IsIn name.now.number.number v.given → (u : View) × T.knows turns.new u × Moved v u }
-    ensures unlisted { T.bound turns.old ≡ false → IsUnlisted (txn_label (pair_of name.now)) (Rose (T.faults turns.old) (T.faults turns.new)) (T.labels turns.old) (T.labels turns.new) }
+    ensures unlisted { IsUnlisted (txn_label (pair_of name.now)) (Rose (T.faults turns.old) (T.faults turns.new)) (T.own turns.old) (T.own turns.new) }
     ensures mounted { (T.mounting turns.new).mount ≡ (T.mounting turns.old).mount }
     ensures benches { RoseBy (T.Bench.faults bench) (T.mounting turns.old).bench_faults (T.mounting turns.new).bench_faults }
     ensures duty { T.bound turns.new ≡ T.bound turns.old }
@@ -86,8 +85,8 @@ pub fn begin_txn<R, T: Turns<R>>(
         → (v : View) → T.knows turns v → v.section ≡ None
         → IfOk result.1 (λ txn. (u : View) × T.knows result.0 u × BeginsTxn (⟦<HeldNodes<T::Bench> as Own>⟧.txn txn.own) base (⟦<HeldNodes<T::Bench> as Own>⟧.settled txn.own) v u) }
     // Its label came to those that the call met, and no other came or went by it. Where nobody else has turns and none was begun, none came.
-    ensures listed { IfOk result.1 (λ txn. Relabels (T.bound turns) (with_label (txn_label (pair_of (⟦<HeldNodes<T::Bench> as Own>⟧.txn txn.own)))) (T.labels turns) (T.labels result.0)) }
-    ensures unlisted { OnErr result.1 (T.bound turns ≡ false → ListsNoMore (IsNew (T.knows turns)) base (Rose (T.faults turns) (T.faults result.0)) (T.labels turns) (T.labels result.0)) }
+    ensures listed { IfOk result.1 (λ txn. T.own result.0 ≡ option_map (with_label (txn_label (pair_of (⟦<HeldNodes<T::Bench> as Own>⟧.txn txn.own)))) (T.own turns)) }
+    ensures unlisted { OnErr result.1 (ListsNoMore (IsNew (T.knows turns)) base (Rose (T.faults turns) (T.faults result.0)) (T.own turns) (T.own result.0)) }
     // Whatever the disk tells.
     ensures above { IfErr result.1 (IsAbove base) }
     ensures duty { T.bound result.0 ≡ T.bound turns }

@@ -11,7 +11,7 @@ ghost use Rattle.fsfs_commit.specs.Transaction.Findings.{HoldsPast};
 ghost use Rattle.fsfs_commit.specs.Transaction.Meaning.{IsTxnOf};
 ghost use Rattle.fsfs_commit.specs.Transaction.Pinned.{IsPinned};
 ghost use Rattle.fsfs_repo.specs.Txns.Commits.{IfBack, IfFailed, IfPurged, Meets, bench_faults_told};
-ghost use Rattle.fsfs_repo.specs.Txns.Labels.{LeavesLabels};
+ghost use Rattle.fsfs_repo.specs.Owned.Labels.{LeavesLabels};
 ghost use Rattle.fsfs_repo.specs.Txns.Limits.{IfPastLimit};
 
 use crate::txns::answers::{CommitAnswer, CommitBar};
@@ -56,7 +56,7 @@ pub fn commit_txn<R, T: Turns<R>, G: Gate>(
     // One that is handed back has the name that it had.
     ensures named { IfBack result.1 (λ t. ⟦<HeldNodes<T::Bench> as Own>⟧.txn t.own ≡ ⟦<HeldNodes<T::Bench> as Own>⟧.txn txn.own) }
     // And what becomes of all labels: behind a commit that hands no transaction back its own goes, unless a turn failed.
-    ensures listed { LeavesLabels (T.bound turns) result.1 (txn_label (pair_of (⟦<HeldNodes<T::Bench> as Own>⟧.txn txn.own))) (Rose (T.faults turns) (T.faults result.0)) (T.labels turns) (T.labels result.0) }
+    ensures listed { LeavesLabels result.1 (txn_label (pair_of (⟦<HeldNodes<T::Bench> as Own>⟧.txn txn.own))) (Rose (T.faults turns) (T.faults result.0)) (T.own turns) (T.own result.0) }
     ensures duty { T.bound result.0 ≡ T.bound turns }
     ensures mounted { (T.mounting result.0).mount ≡ (T.mounting turns).mount }
     // A bench is told to have failed only where the count of those rose.

@@ -16,7 +16,7 @@ ghost use Rattle.fsfs_commit.specs.Transaction.Meaning.{IfTxn, OfLeft, IsTxnOf, 
 ghost use Rattle.fsfs_commit.specs.Transaction.Refusals.{IsDiskFault, Refuses};
 ghost use Rattle.fsfs_repo.specs.Txns.Commits.{Bars, Ends, IfBack, IfFailed, IfPurged, IsDropped, bench_faults_told};
 ghost use Rattle.fsfs_repo.specs.Txns.Fates.{Fated, FateLeaves, FateLeft, IfStopped, UnlessDoubtful, of_fault};
-ghost use Rattle.fsfs_repo.specs.Txns.Labels.{LeavesLabels, Unlists};
+ghost use Rattle.fsfs_repo.specs.Owned.Labels.{LeavesLabels, Unlists};
 ghost use Rattle.fsfs_commit.specs.Transaction.Findings.{IfLimit, HoldsPast, SpentByBench};
 ghost use Rattle.fsfs_repo.specs.Txns.Limits.{IfBarLimit, IfFateLimit, IfPastLimit};
 
@@ -35,7 +35,7 @@ fn drop_bench<R, T: Turns<R>>(rt: &R, turns: &mut T, name: &TxnName, bench: T::B
     ensures dropped { (m : View) → T.knows turns.old m → m.section ≡ None → IsIn name.now.number.number m.given
         → IsDropped (T.knows turns.new) result name.now.number.number m }
     ensures unlisted { result ≡ true → IfSome (T.labels turns.new) (λ ls. has_label (txn_label (pair_of name.now)) ls ≡ false) }
-    ensures listed { Unlists (T.bound turns.old) result (txn_label (pair_of name.now)) (Rose (T.faults turns.old) (T.faults turns.new)) (T.labels turns.old) (T.labels turns.new) }
+    ensures listed { Unlists result (txn_label (pair_of name.now)) (Rose (T.faults turns.old) (T.faults turns.new)) (T.own turns.old) (T.own turns.new) }
     ensures mounted { (T.mounting turns.new).mount ≡ (T.mounting turns.old).mount }
     ensures benches { RoseBy (T.Bench.faults bench) (T.mounting turns.old).bench_faults (T.mounting turns.new).bench_faults }
     ensures duty { T.bound turns.new ≡ T.bound turns.old }
@@ -70,7 +70,7 @@ fn hand_back<R, T: Turns<R>>(
         → IfPastLimit result (λ limit t. HoldsPast (⟦<HeldNodes<T::Bench> as Own>⟧.settled t.own) limit) }
     ensures label { IfPurged result (IfSome (T.labels turns.new) (λ ls. has_label (txn_label (pair_of name.now)) ls ≡ false)) }
     ensures named { (n : SpecName) → IfTxn left (λ t. ⟦<HeldNodes<T::Bench> as Own>⟧.txn t.own ≡ n) → IfBack result (λ t. ⟦<HeldNodes<T::Bench> as Own>⟧.txn t.own ≡ n) }
-    ensures listed { LeavesLabels (T.bound turns.old) result (txn_label (pair_of name.now)) (Rose (T.faults turns.old) (T.faults turns.new)) (T.labels turns.old) (T.labels turns.new) }
+    ensures listed { LeavesLabels result (txn_label (pair_of name.now)) (Rose (T.faults turns.old) (T.faults turns.new)) (T.own turns.old) (T.own turns.new) }
 {
     let txn = match left {
         Left::Txn(txn) => txn,
@@ -108,7 +108,7 @@ fn fall<R, T: Turns<R>>(
         → IfPastLimit result (λ limit t. HoldsPast (⟦<HeldNodes<T::Bench> as Own>⟧.settled t.own) limit) }
     ensures label { IfPurged result (IfSome (T.labels turns.new) (λ ls. has_label (txn_label (pair_of name.now)) ls ≡ false)) }
     ensures named { (n : SpecName) → IfTxn left (λ t. ⟦<HeldNodes<T::Bench> as Own>⟧.txn t.own ≡ n) → IfBack result (λ t. ⟦<HeldNodes<T::Bench> as Own>⟧.txn t.own ≡ n) }
-    ensures listed { LeavesLabels (T.bound turns.old) result (txn_label (pair_of name.now)) (Rose (T.faults turns.old) (T.faults turns.new)) (T.labels turns.old) (T.labels turns.new) }
+    ensures listed { LeavesLabels result (txn_label (pair_of name.now)) (Rose (T.faults turns.old) (T.faults turns.new)) (T.own turns.old) (T.own turns.new) }
 {
     match fate {
         Fate::Barred(bar) => hand_back(rt, turns, name, left, bar),
@@ -146,7 +146,7 @@ pub(crate) fn end<R, T: Turns<R>>(
         → IfPastLimit result (λ limit t. HoldsPast (⟦<HeldNodes<T::Bench> as Own>⟧.settled t.own) limit) }
     ensures label { IfPurged result (IfSome (T.labels turns.new) (λ ls. has_label (txn_label (pair_of name.now)) ls ≡ false)) }
     ensures named { (n : SpecName) → IfTxn left (λ t. ⟦<HeldNodes<T::Bench> as Own>⟧.txn t.own ≡ n) → IfBack result (λ t. ⟦<HeldNodes<T::Bench> as Own>⟧.txn t.own ≡ n) }
-    ensures listed { LeavesLabels (T.bound turns.old) result (txn_label (pair_of name.now)) (Rose (T.faults turns.old) (T.faults turns.new)) (T.labels turns.old) (T.labels turns.new) }
+    ensures listed { LeavesLabels result (txn_label (pair_of name.now)) (Rose (T.faults turns.old) (T.faults turns.new)) (T.own turns.old) (T.own turns.new) }
 {
     match done {
         Ok(rev) => {

@@ -2,7 +2,6 @@
 ghost use Rattle.std.specs.Prelude.{◌≡◌, ◌≤◌, map, IfOk, IfSome, OnOk, IsErrOf};
 ghost use Rattle.fsfs_base.specs.Failures.{Rose};
 ghost use Rattle.fsfs_disk.specs.Transactions.Txns.{text_of, AreTxns};
-ghost use Rattle.fsfs_turn.specs.Labels.{KeepsLabels};
 ghost use Rattle.fsfs_turn.specs.Views.{View};
 ghost use Rattle.fsfs_repo.specs.Txns.Listings.{ListsSo};
 
@@ -21,7 +20,7 @@ pub fn list_txns<R, T: Turns<R>>(
     ensures names { IfSome (T.labels turns.new) (λ ls. IfOk result (λ names. AreTxns ls (map text_of names.items))) }
     // It is one step of the machine.
     ensures listed { (v : View) → T.knows turns.old v → ListsSo (T.knows turns.new) (T.labels turns.new) result v }
-    ensures same { KeepsLabels (T.bound turns.old) (T.labels turns.old) (T.labels turns.new) }
+    ensures same { T.own turns.new ≡ T.own turns.old }
     ensures mounted { T.mounting turns.new ≡ T.mounting turns.old }
     ensures duty { T.bound turns.new ≡ T.bound turns.old }
     ensures later { T.faults turns.old ≤ T.faults turns.new }

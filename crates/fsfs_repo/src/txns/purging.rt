@@ -1,10 +1,10 @@
 //! Transactions are purged.
-ghost use Rattle.std.specs.Prelude.{◌≡◌, ◌<◌, None, true, false, length, IfSome, OnOk, OnErr};
+ghost use Rattle.std.specs.Prelude.{◌≡◌, ◌<◌, None, true, false, length, IfSome, OnOk, OnErr, option_map};
 ghost use Rattle.fsfs_base.specs.Failures.{HasCause};
 ghost use Rattle.fsfs_disk.specs.Labels.{has_label, without_label};
 ghost use Rattle.fsfs_machine.specs.Kept.{IsIn};
 ghost use Rattle.fsfs_disk.specs.Transactions.Txns.{pair_of, txn_label};
-ghost use Rattle.fsfs_turn.specs.Labels.{MayRelabel, Relabels};
+ghost use Rattle.fsfs_turn.specs.Labels.{MayOwn};
 ghost use Rattle.fsfs_turn.specs.Mountings.{RoseBy};
 ghost use Rattle.fsfs_turn.specs.Views.{View};
 ghost use Rattle.fsfs_repo.specs.Txns.Purged.{PurgesAny};
@@ -36,9 +36,9 @@ pub fn purge_txn<R, T: Turns<R>>(
     requires due { T.bound turns.old ≡ true → (v : View) × T.knows turns.old v × (v.section ≡ None) × IsIn (⟦<HeldNodes<T::Bench> as Own>⟧.txn txn.own).number.number v.given }
     // Its label isn't kept any more, and all others are as the call met them.
     ensures unlisted { IfSome (T.labels turns.new) (λ ls. OnOk result (has_label (txn_label (pair_of (⟦<HeldNodes<T::Bench> as Own>⟧.txn txn.own))) ls ≡ false)) }
-    ensures others { OnOk result (Relabels (T.bound turns.old) (without_label (txn_label (pair_of (⟦<HeldNodes<T::Bench> as Own>⟧.txn txn.own)))) (T.labels turns.old) (T.labels turns.new)) }
+    ensures others { OnOk result (T.own turns.new ≡ option_map (without_label (txn_label (pair_of (⟦<HeldNodes<T::Bench> as Own>⟧.txn txn.own)))) (T.own turns.old)) }
     // A failure leaves all labels that it met, or all but this one.
-    ensures left { OnErr result (MayRelabel (T.bound turns.old) (without_label (txn_label (pair_of (⟦<HeldNodes<T::Bench> as Own>⟧.txn txn.own)))) (T.labels turns.old) (T.labels turns.new)) }
+    ensures left { OnErr result (MayOwn (without_label (txn_label (pair_of (⟦<HeldNodes<T::Bench> as Own>⟧.txn txn.own)))) (T.own turns.old) (T.own turns.new)) }
     // It is one step of the machine, however it went: of a transaction under way, whatever its edits were, where the pass has seen
     // any revision.
     ensures purged { (v : View) → T.knows turns.old v → v.section ≡ None → IsIn (⟦<HeldNodes<T::Bench> as Own>⟧.txn txn.own).number.number v.given → 0 < length v.seen

@@ -1,7 +1,6 @@
 //! The revision that a job is about.
 ghost use Rattle.std.specs.Prelude.{◌≡◌, ◌≤◌, IfOk, IfErr};
 ghost use Rattle.fsfs_fetch.specs.Views.{IsKnown};
-ghost use Rattle.fsfs_turn.specs.Labels.{KeepsLabels};
 ghost use Rattle.fsfs_turn.specs.Views.{View, Looked};
 ghost use Rattle.fsfs_jobs.specs.Serial.{base_of};
 ghost use Rattle.fsfs_job_run.specs.Running.{LacksBase};
@@ -20,7 +19,7 @@ pub(crate) fn base_of<R, T: Turns<R>>(turns: &mut T, base: Base) -> (RevNum, Res
     ensures there { IsKnown (T.store turns.new).reach result.0 }
     ensures mounted { T.mounting turns.new ≡ T.mounting turns.old }
     ensures duty { T.bound turns.new ≡ T.bound turns.old }
-    ensures listed { KeepsLabels (T.bound turns.old) (T.labels turns.old) (T.labels turns.new) }
+    ensures listed { T.own turns.new ≡ T.own turns.old }
     ensures faults { T.faults turns.new ≡ T.faults turns.old }
 {
     let youngest = turns.look();

@@ -1,10 +1,13 @@
 //! A job that commits.
 ghost use Rattle.std.specs.Prelude.{◌≡◌, ◌≤◌, ◌<◌, ℕ, None, true, length};
 ghost use Rattle.fsfs_base.specs.Failures.{Rose};
+ghost use Rattle.fsfs_disk.specs.Transactions.Txns.{pair_of, txn_label};
 ghost use Rattle.fsfs_machine.specs.declared.machine.Txn.{Txn as MachineTxn};
 ghost use Rattle.fsfs_machine.specs.Kept.{IsIn};
+ghost use Rattle.fsfs_turn.specs.Labels.{IsTidy};
 ghost use Rattle.fsfs_turn.specs.Mountings.{RoseBy};
 ghost use Rattle.fsfs_turn.specs.Views.{View};
+ghost use Rattle.fsfs_job_run.specs.BeginLabels.{IsUnlisted};
 ghost use Rattle.fsfs_job_run.specs.TxnBegun.{BeginsTxnAmong};
 ghost use Rattle.fsfs_script.specs.declared.job_lines.job.Job.TheVariants as jobs;
 ghost use Rattle.fsfs_jobs.specs.Properties.{undated_properties};
@@ -34,6 +37,8 @@ fn purged<R, T: Turns<R>>(rt: &R, turns: &mut T, txn: Txn<HeldNodes<T::Bench>>)
     ensures duty { T.bound turns.new ≡ T.bound turns.old }
     ensures mounted { (T.mounting turns.new).mount ≡ (T.mounting turns.old).mount }
     ensures benches { RoseBy (⟦<HeldNodes<T::Bench> as Own>⟧.faults txn.own) (T.mounting turns.old).bench_faults (T.mounting turns.new).bench_faults }
+    // Nor does the pass answer for its label any more, unless a call of the disk failed.
+    ensures listed { IsUnlisted (txn_label (pair_of (⟦<HeldNodes<T::Bench> as Own>⟧.txn txn.own))) (Rose (T.faults turns.old) (T.faults turns.new)) (T.own turns.old) (T.own turns.new) }
     ensures later { T.faults turns.old ≤ T.faults turns.new }
 {
     let _ = purge_txn(rt, turns, txn);
@@ -62,6 +67,8 @@ fn commit_with<R, T: Turns<R>, G: Gate>(
     ensures duty { T.bound result.0 ≡ T.bound turns }
     ensures mounted { (T.mounting result.0).mount ≡ (T.mounting turns).mount }
     ensures benches { RoseBy (bench_told result.1) (T.mounting turns).bench_faults (T.mounting result.0).bench_faults }
+    // Nor does the pass answer for its label any more, unless a call of the disk failed.
+    ensures listed { IsUnlisted (txn_label (pair_of (⟦<HeldNodes<T::Bench> as Own>⟧.txn txn.own))) (Rose (T.faults turns) (T.faults result.0)) (T.own turns) (T.own result.0) }
     ensures later { T.faults turns ≤ T.faults result.0 }
 {
     let line = job.line;
@@ -100,6 +107,8 @@ fn commit_edited<R, T: Turns<R>, G: Gate>(
     ensures duty { T.bound result.0 ≡ T.bound turns }
     ensures mounted { (T.mounting result.0).mount ≡ (T.mounting turns).mount }
     ensures benches { RoseBy (bench_told result.1) (T.mounting turns).bench_faults (T.mounting result.0).bench_faults }
+    // Nor does the pass answer for its label any more, unless a call of the disk failed.
+    ensures listed { IsUnlisted (txn_label (pair_of (⟦<HeldNodes<T::Bench> as Own>⟧.txn txn.own))) (Rose (T.faults turns) (T.faults result.0)) (T.own turns) (T.own result.0) }
     ensures later { T.faults turns ≤ T.faults result.0 }
 {
     let mut turns = turns;
@@ -135,6 +144,8 @@ fn edit_and_commit<R, T: Turns<R>, G: Gate>(
     ensures duty { T.bound result.0 ≡ T.bound turns }
     ensures mounted { (T.mounting result.0).mount ≡ (T.mounting turns).mount }
     ensures benches { RoseBy (bench_told result.1) (T.mounting turns).bench_faults (T.mounting result.0).bench_faults }
+    // Nor does the pass answer for its label any more, unless a call of the disk failed.
+    ensures listed { IsUnlisted (txn_label (pair_of (⟦<HeldNodes<T::Bench> as Own>⟧.txn txn.own))) (Rose (T.faults turns) (T.faults result.0)) (T.own turns) (T.own result.0) }
     ensures later { T.faults turns ≤ T.faults result.0 }
 {
     let (back, done) = edit(rt, alloc, turns, last, &mut txn, &job.steps);
@@ -165,6 +176,8 @@ pub(crate) fn commit_job<R, T: Turns<R>, G: Gate>(
     ensures duty { T.bound result.0 ≡ T.bound turns }
     ensures mounted { (T.mounting result.0).mount ≡ (T.mounting turns).mount }
     ensures benches { RoseBy (bench_told result.1) (T.mounting turns).bench_faults (T.mounting result.0).bench_faults }
+    // Of the labels for which the pass answers none came, unless a call of the disk failed.
+    ensures tidy { IsTidy (Rose (T.faults turns) (T.faults result.0)) (T.own turns) (T.own result.0) }
     ensures later { T.faults turns ≤ T.faults result.0 }
 {
     let line = job.line;

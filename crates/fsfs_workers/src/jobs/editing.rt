@@ -6,7 +6,6 @@ ghost use Rattle.fsfs_tree.specs.Revisions.{tree_of};
 ghost use Rattle.fsfs_machine.specs.Machine.{revisions};
 ghost use Rattle.fsfs_turn.specs.Bytes.{bytes_of};
 ghost use Rattle.fsfs_turn.specs.Courses.{ReadOnly};
-ghost use Rattle.fsfs_turn.specs.Labels.{KeepsLabels};
 ghost use Rattle.fsfs_turn.specs.Views.{View, Looked};
 ghost use Rattle.fsfs_job_run.specs.TxnStanding.{Stands};
 ghost use Rattle.fsfs_jobs.specs.JobEdits.Editing.{AreEditing, IfBench, IfDisk};
@@ -49,7 +48,7 @@ pub(crate) fn edit<R, T: Turns<R>>(
     ensures name { ⟦<HeldNodes<T::Bench> as Own>⟧.txn txn.new.own ≡ ⟦<HeldNodes<T::Bench> as Own>⟧.txn txn.old.own }
     ensures failed { IfErr result.1 (λ stopped. IfBench stopped.fault (0 < ⟦<HeldNodes<T::Bench> as Own>⟧.faults txn.new.own)) }
     ensures cause { IfErr result.1 (λ stopped. IfDisk stopped.fault (Rose (T.faults turns) (T.faults result.0))) }
-    ensures listed { KeepsLabels (T.bound turns) (T.labels turns) (T.labels result.0) }
+    ensures listed { T.own result.0 ≡ T.own turns }
     ensures duty { T.bound result.0 ≡ T.bound turns }
     ensures mounted { T.mounting result.0 ≡ T.mounting turns }
     ensures later { T.faults turns ≤ T.faults result.0 }

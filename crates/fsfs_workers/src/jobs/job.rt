@@ -1,6 +1,7 @@
 //! One job by turns.
 ghost use Rattle.std.specs.Prelude.{◌≡◌, ◌≤◌, None, true};
 ghost use Rattle.fsfs_base.specs.Failures.{Rose};
+ghost use Rattle.fsfs_turn.specs.Labels.{IsTidy};
 ghost use Rattle.fsfs_turn.specs.Mountings.{RoseBy};
 ghost use Rattle.fsfs_turn.specs.Views.{View};
 ghost use Rattle.fsfs_job_run.specs.TextReads.{IfAnswerFails};
@@ -37,6 +38,8 @@ pub fn do_job<R, T: Turns<R>, G: Gate>(
     ensures mounted { (T.mounting result.0).mount ≡ (T.mounting turns).mount }
     // Nor is a bench told to have failed, but where the count of those rose.
     ensures benches { RoseBy (bench_told result.1) (T.mounting turns).bench_faults (T.mounting result.0).bench_faults }
+    // Of the labels for which the pass answers none came, unless a call of the disk failed.
+    ensures tidy { IsTidy (Rose (T.faults turns) (T.faults result.0)) (T.own turns) (T.own result.0) }
     ensures later { T.faults turns ≤ T.faults result.0 }
 {
     match job {

@@ -1,7 +1,6 @@
 //! A job that reads.
 ghost use Rattle.std.specs.Prelude.{◌≡◌, ◌≤◌, ℕ, None};
 ghost use Rattle.fsfs_base.specs.Failures.{Rose};
-ghost use Rattle.fsfs_turn.specs.Labels.{KeepsLabels};
 ghost use Rattle.fsfs_turn.specs.Views.{View};
 ghost use Rattle.fsfs_script.specs.declared.job_lines.job.Job.TheVariants as jobs;
 ghost use Rattle.fsfs_job_run.specs.TextReads.{IfAnswerFails, IsNoBench};
@@ -29,7 +28,7 @@ pub(crate) fn read_text<R, T: Turns<R>, G: Gate>(
         → WorksSo (T.knows result.0) (Rose (T.faults turns) (T.faults result.0)) moment (jobs.Read job.now) result.1 v }
     ensures no_bench { IsNoBench result.1 }
     ensures cause { IfAnswerFails result.1 (Rose (T.faults turns) (T.faults result.0)) }
-    ensures listed { KeepsLabels (T.bound turns) (T.labels turns) (T.labels result.0) }
+    ensures listed { T.own result.0 ≡ T.own turns }
     ensures duty { T.bound result.0 ≡ T.bound turns }
     ensures mounted { T.mounting result.0 ≡ T.mounting turns }
     ensures later { T.faults turns ≤ T.faults result.0 }

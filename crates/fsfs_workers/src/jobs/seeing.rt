@@ -2,7 +2,6 @@
 ghost use Rattle.std.specs.Prelude.{◌≡◌, ◌<◌, None, length};
 ghost use Rattle.fsfs_base.specs.Failures.{HasCause};
 ghost use Rattle.fsfs_fetch.specs.Views.{Later};
-ghost use Rattle.fsfs_turn.specs.Labels.{KeepsLabels};
 ghost use Rattle.fsfs_turn.specs.Views.{View};
 ghost use Rattle.fsfs_workers.specs.Working.{GoesOn};
 
@@ -17,7 +16,7 @@ pub(crate) fn see<R, T: Turns<R>>(rt: &R, turns: &mut T) -> Result<(), Failed>
     ensures later { Later (T.store turns.old) (T.store turns.new) }
     ensures mounted { T.mounting turns.new ≡ T.mounting turns.old }
     ensures duty { T.bound turns.new ≡ T.bound turns.old }
-    ensures listed { KeepsLabels (T.bound turns.old) (T.labels turns.old) (T.labels turns.new) }
+    ensures listed { T.own turns.new ≡ T.own turns.old }
     ensures cause { HasCause (T.faults turns.old) (T.faults turns.new) result }
 {
     let file = OnlyFile::MinUnpackedRev.name();

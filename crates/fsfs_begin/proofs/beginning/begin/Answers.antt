@@ -87,21 +87,21 @@ returns-in-Ok-clause-refused g c = λ v known none.
 -- ---- the labels
 
 pub returns-then-lt-clause-unlisted : goal.returns-then-lt-clause-unlisted
-returns-then-lt-clause-unlisted g c = λ free. inl (c.look-youngest.ensures.listed free)
+returns-then-lt-clause-unlisted g c = inl c.look-youngest.ensures.listed
 
 pub returns-in-Err-clause-unlisted : goal.returns-in-Err-clause-unlisted
-returns-in-Err-clause-unlisted g c = λ free. inl (c.draw.ensures.listed (c.look-youngest.ensures.duty ∙ free) ∙ c.look-youngest.ensures.listed free)
+returns-in-Err-clause-unlisted g c = inl (c.draw.ensures.listed ∙ c.look-youngest.ensures.listed)
 
 pub returns-in-Ok-clause-listed : goal.returns-in-Ok-clause-listed
 returns-in-Ok-clause-listed g c =
-    relabels_begun (λ begun. begun.name) c.in-Ok.name c.begin_named.result.1 (g.T.Turns.bound c.args.turns) (g.T.Turns.bound c.draw.new.turns) (g.T.Turns.labels c.args.turns) (g.T.Turns.labels c.draw.new.turns) (g.T.Turns.labels c.begin_named.result.0)
-    (c.draw.ensures.duty ∙ c.look-youngest.ensures.duty) (λ free. c.draw.ensures.listed (c.look-youngest.ensures.duty ∙ free) ∙ c.look-youngest.ensures.listed free) c.begin_named.ensures.name c.begin_named.ensures.listed
+    relabels_begun (λ begun. begun.name) c.in-Ok.name c.begin_named.result.1 (g.T.Turns.own c.args.turns) (g.T.Turns.own c.draw.new.turns) (g.T.Turns.own c.begin_named.result.0)
+    (c.draw.ensures.listed ∙ c.look-youngest.ensures.listed) c.begin_named.ensures.name c.begin_named.ensures.listed
 
 pub returns-in-Ok-clause-unlisted : goal.returns-in-Ok-clause-unlisted
 returns-in-Ok-clause-unlisted g c =
-    unlisted_among c.begin_named.result.1 (g.T.Turns.bound c.args.turns) (g.T.Turns.bound c.draw.new.turns) (λ n. n ≡ c.in-Ok.name.number.number) (IsNew (g.T.Turns.knows c.args.turns)) c.args.base c.in-Ok.name.base (Rose (g.T.Turns.faults c.draw.new.turns) (g.T.Turns.faults c.begin_named.result.0)) (Rose (g.T.Turns.faults c.args.turns) (g.T.Turns.faults c.begin_named.result.0))
-    (g.T.Turns.labels c.args.turns) (g.T.Turns.labels c.draw.new.turns) (g.T.Turns.labels c.begin_named.result.0) c.in-Ok.ensures.base (c.draw.ensures.duty ∙ c.look-youngest.ensures.duty)
-    (λ free. c.draw.ensures.listed (c.look-youngest.ensures.duty ∙ free) ∙ c.look-youngest.ensures.listed free)
+    unlisted_among c.begin_named.result.1 (λ n. n ≡ c.in-Ok.name.number.number) (IsNew (g.T.Turns.knows c.args.turns)) c.args.base c.in-Ok.name.base (Rose (g.T.Turns.faults c.draw.new.turns) (g.T.Turns.faults c.begin_named.result.0)) (Rose (g.T.Turns.faults c.args.turns) (g.T.Turns.faults c.begin_named.result.0))
+    (g.T.Turns.own c.args.turns) (g.T.Turns.own c.draw.new.turns) (g.T.Turns.own c.begin_named.result.0) c.in-Ok.ensures.base
+    (c.draw.ensures.listed ∙ c.look-youngest.ensures.listed)
     (λ n same v known none.
     let a = c.look-youngest.ensures.turned v known in
     let le : c.args.base ≤ c.look-youngest.result = grind (arith, nat_tests, c.lt.ensures, c.if-lt.false) in

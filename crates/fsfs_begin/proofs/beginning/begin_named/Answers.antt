@@ -56,14 +56,14 @@ returns-in-Err-clause-refused g c = λ v known may.
 pub returns-in-Ok-clause-listed : goal.returns-in-Ok-clause-listed
 returns-in-Ok-clause-listed g c =
     let mid = c.base_root-back.result.0 in
-    relabels_on c.make-begun.result (g.T.Turns.bound c.args.turns) (g.T.Turns.bound mid) (with_label (txn_label (pair_of c.args.name))) (g.T.Turns.labels c.args.turns) (g.T.Turns.labels mid) (g.T.Turns.labels c.make-begun.new.turns)
-    c.base_root-back.ensures.duty c.base_root-back.ensures.listed c.make-begun.ensures.listed
+    relabels_on c.make-begun.result (with_label (txn_label (pair_of c.args.name))) (g.T.Turns.own c.args.turns) (g.T.Turns.own mid) (g.T.Turns.own c.make-begun.new.turns)
+    c.base_root-back.ensures.listed c.make-begun.ensures.listed
 
 pub returns-in-Ok-clause-unlisted : goal.returns-in-Ok-clause-unlisted
 returns-in-Ok-clause-unlisted g c =
     let mid = c.base_root-back.result.0 in
-    no_more_among c.make-begun.result (g.T.Turns.bound c.args.turns) (g.T.Turns.bound mid) (λ n. n ≡ c.args.name.number.number) c.args.name.base (Rose (g.T.Turns.faults mid) (g.T.Turns.faults c.make-begun.new.turns)) (Rose (g.T.Turns.faults c.args.turns) (g.T.Turns.faults c.make-begun.new.turns))
-    (g.T.Turns.labels c.args.turns) (g.T.Turns.labels mid) (g.T.Turns.labels c.make-begun.new.turns) c.base_root-back.ensures.duty c.base_root-back.ensures.listed (λ rose. omega (arith, rose, c.base_root-back.ensures.later)) c.make-begun.ensures.unlisted
+    no_more_among c.make-begun.result (λ n. n ≡ c.args.name.number.number) c.args.name.base (Rose (g.T.Turns.faults mid) (g.T.Turns.faults c.make-begun.new.turns)) (Rose (g.T.Turns.faults c.args.turns) (g.T.Turns.faults c.make-begun.new.turns))
+    (g.T.Turns.own c.args.turns) (g.T.Turns.own mid) (g.T.Turns.own c.make-begun.new.turns) c.base_root-back.ensures.listed (λ rose. omega (arith, rose, c.base_root-back.ensures.later)) c.make-begun.ensures.unlisted
 
 pub returns-in-Err-clause-unlisted : goal.returns-in-Err-clause-unlisted
-returns-in-Err-clause-unlisted g c = λ free. inl (c.base_root-back.ensures.listed free)
+returns-in-Err-clause-unlisted g c = inl c.base_root-back.ensures.listed

@@ -58,10 +58,10 @@ returns-in-Err-drawn-clause-drew g c = λ v known none le.
 -- ---- the labels stay
 
 pub returns-in-Ok-drawn-clause-listed : goal.returns-in-Ok-drawn-clause-listed
-returns-in-Ok-drawn-clause-listed g c = λ free. c.give_lock.ensures.listed (c.next_name-drawn.ensures.duty ∙ c.in-Ok.ensures.duty ∙ free) ∙ c.next_name-drawn.ensures.listed (c.in-Ok.ensures.duty ∙ free) ∙ c.in-Ok.ensures.listed free
+returns-in-Ok-drawn-clause-listed g c = c.give_lock.ensures.listed ∙ c.next_name-drawn.ensures.listed ∙ c.in-Ok.ensures.listed
 
 pub returns-in-Err-drawn-clause-listed : goal.returns-in-Err-drawn-clause-listed
-returns-in-Err-drawn-clause-listed g c = λ free. c.give_lock.ensures.listed (c.next_name-drawn.ensures.duty ∙ c.in-Ok.ensures.duty ∙ free) ∙ c.next_name-drawn.ensures.listed (c.in-Ok.ensures.duty ∙ free) ∙ c.in-Ok.ensures.listed free
+returns-in-Err-drawn-clause-listed g c = c.give_lock.ensures.listed ∙ c.next_name-drawn.ensures.listed ∙ c.in-Ok.ensures.listed
 
 -- ---- where no name is left
 

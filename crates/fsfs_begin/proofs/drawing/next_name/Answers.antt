@@ -46,10 +46,10 @@ returns-clause-drawn g c = λ v known at le.
     (λ past. absurd (omega (arith, past.1, c.in-Some.ensures, c.in-Some.next.small))) (c.in-Ok.ensures.counted v known at le)
 
 pub returns-in-Ok-raise-clause-listed : goal.returns-in-Ok-raise-clause-listed
-returns-in-Ok-raise-clause-listed g c = λ free. c.in-Ok-raise.ensures.listed (c.in-Ok.ensures.duty ∙ free) ∙ c.in-Ok.ensures.listed free
+returns-in-Ok-raise-clause-listed g c = c.in-Ok-raise.ensures.listed ∙ c.in-Ok.ensures.listed
 
 pub returns-clause-listed : goal.returns-clause-listed
-returns-clause-listed g c = λ free. c.in-Err-raise.ensures.listed (c.in-Ok.ensures.duty ∙ free) ∙ c.in-Ok.ensures.listed free
+returns-clause-listed g c = c.in-Err-raise.ensures.listed ∙ c.in-Ok.ensures.listed
 
 -- ---- where no name is left
 

@@ -63,12 +63,12 @@ returns-in-Err-firm_names-clause-raised g c = λ v x known at line.
 -- ---- the labels stay
 
 pub returns-in-Err-rename-clause-listed : goal.returns-in-Err-rename-clause-listed
-returns-in-Err-rename-clause-listed g c = λ free. c.in-Err-rename.ensures.listed (c.in-Ok.ensures.duty ∙ free) ∙ c.in-Ok.ensures.listed free
+returns-in-Err-rename-clause-listed g c = c.in-Err-rename.ensures.listed ∙ c.in-Ok.ensures.listed
 
 pub returns-in-Ok-firm_names-clause-listed : goal.returns-in-Ok-firm_names-clause-listed
-returns-in-Ok-firm_names-clause-listed g c = λ free.
-    c.in-Ok-firm_names.ensures.listed (c.in-Ok-rename.ensures.duty ∙ c.in-Ok.ensures.duty ∙ free) ∙ c.in-Ok-rename.ensures.listed (c.in-Ok.ensures.duty ∙ free) ∙ c.in-Ok.ensures.listed free
+returns-in-Ok-firm_names-clause-listed g c =
+    c.in-Ok-firm_names.ensures.listed ∙ c.in-Ok-rename.ensures.listed ∙ c.in-Ok.ensures.listed
 
 pub returns-in-Err-firm_names-clause-listed : goal.returns-in-Err-firm_names-clause-listed
-returns-in-Err-firm_names-clause-listed g c = λ free.
-    c.in-Err-firm_names.ensures.listed (c.in-Ok-rename.ensures.duty ∙ c.in-Ok.ensures.duty ∙ free) ∙ c.in-Ok-rename.ensures.listed (c.in-Ok.ensures.duty ∙ free) ∙ c.in-Ok.ensures.listed free
+returns-in-Err-firm_names-clause-listed g c =
+    c.in-Err-firm_names.ensures.listed ∙ c.in-Ok-rename.ensures.listed ∙ c.in-Ok.ensures.listed

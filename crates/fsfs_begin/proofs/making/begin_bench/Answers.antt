@@ -73,13 +73,13 @@ returns-in-Err-clause-dropped g c =
     c.in-Err.ensures.cause.later c.drop_bench-in-Err.ensures.dropped c.drop_bench-in-Err.ensures.cause.failed
 
 pub returns-in-Err-fill-clause-unlisted : goal.returns-in-Err-fill-clause-unlisted
-returns-in-Err-fill-clause-unlisted g c = λ free.
-    unlisted_now (g.T.Turns.bound c.args.turns.now) (g.T.Turns.bound c.bench.new.self) (txn_label (pair_of c.args.name.now)) (g.T.Turns.labels c.args.turns.now) (g.T.Turns.labels c.bench.new.self) (g.T.Turns.labels c.drop_bench.new.self)
+returns-in-Err-fill-clause-unlisted g c =
+    unlisted_now (txn_label (pair_of c.args.name.now)) (g.T.Turns.own c.args.turns.now) (g.T.Turns.own c.bench.new.self) (g.T.Turns.own c.drop_bench.new.self)
     (g.T.Turns.faults c.args.turns.now) (g.T.Turns.faults c.bench.new.self) (g.T.Turns.faults c.drop_bench.new.self) c.drop_bench.result
-    free (c.in-Ok.ensures.duty ∙ free) c.in-Ok.ensures.cause.later c.in-Ok.ensures.kept c.drop_bench.ensures.dropped c.drop_bench.ensures.cause.failed
+    c.in-Ok.ensures.cause.later c.in-Ok.ensures.owned c.drop_bench.ensures.disowned c.drop_bench.ensures.cause.failed
 
 pub returns-in-Err-clause-unlisted : goal.returns-in-Err-clause-unlisted
-returns-in-Err-clause-unlisted g c = λ free. inr (omega (arith, c.in-Err.ensures.cause.failed, c.drop_bench-in-Err.ensures.cause.later))
+returns-in-Err-clause-unlisted g c = inr (omega (arith, c.in-Err.ensures.cause.failed, c.drop_bench-in-Err.ensures.cause.later))
 
 pub returns-in-Ok-fill-clause-benches : goal.returns-in-Ok-fill-clause-benches
 returns-in-Ok-fill-clause-benches g c = let same = ap (λ m. m.bench_faults) c.in-Ok.ensures.mounted in omega (arith, same)

@@ -29,10 +29,10 @@ pub begin_bench-requires : goal.begin_bench-requires
 begin_bench-requires g c = record { due = λ bound. c.requires.due bound }
 
 pub returns-in_default-clause-unlisted : goal.returns-in_default-clause-unlisted
-returns-in_default-clause-unlisted g c = λ free. inl refl
+returns-in_default-clause-unlisted g c = inl refl
 
 pub returns-in_default-write_noderev-clause-unlisted : goal.returns-in_default-write_noderev-clause-unlisted
-returns-in_default-write_noderev-clause-unlisted g c = λ free. inl refl
+returns-in_default-write_noderev-clause-unlisted g c = inl refl
 
 pub returns-in-Err-clause-unlisted : goal.returns-in-Err-clause-unlisted
-returns-in-Err-clause-unlisted g c = λ free. inr (c.args.name.number.number, refl, c.in-Err.ensures.unlisted free)
+returns-in-Err-clause-unlisted g c = inr (c.args.name.number.number, refl, c.in-Err.ensures.unlisted)

@@ -5,7 +5,7 @@ use Rattle.fsfs_disk.specs.Transactions.Txns.{pair_of, txn_label}
 use Rattle.fsfs_turn.specs.Views.{with_txns}
 use Rattle.fsfs_machine.specs.Machine.{begun_txn}
 use Rattle.fsfs_turn.specs.Learning.{with_spent, drawn_of}
-use Rattle.fsfs_begin.proofs.Dropping.{gone_now, relabels, begun_may, purged, not_purged}
+use Rattle.fsfs_begin.proofs.Dropping.{gone_now, begun_may, purged, not_purged}
 use Rattle.fsfs_begin.proofs.purging.purge.Goals as goal
 
 pub drop_bench-requires : goal.drop_bench-requires
@@ -13,9 +13,6 @@ drop_bench-requires g c = record { due = λ bound. let w = c.requires.due bound 
 
 pub returns-in-Ok-clause-unlisted : goal.returns-in-Ok-clause-unlisted
 returns-in-Ok-clause-unlisted g c = let d = c.in-Ok.ensures.dropped in gone_now (txn_label (pair_of c.args.name.now)) d.met (g.T.Turns.labels c.drop_bench.new.self) d.made
-
-pub returns-in-Ok-clause-others : goal.returns-in-Ok-clause-others
-returns-in-Ok-clause-others g c = relabels (g.T.Turns.bound c.args.turns.now) (txn_label (pair_of c.args.name.now)) _ (g.T.Turns.labels c.args.turns.now) (g.T.Turns.labels c.drop_bench.new.self) c.in-Ok.ensures.dropped
 
 pub returns-in-Ok-clause-purged : goal.returns-in-Ok-clause-purged
 returns-in-Ok-clause-purged g c = λ v txn known may named.

@@ -21,7 +21,7 @@ pub returns-clause-onward : goal.returns-clause-onward
 returns-clause-onward g c = λ v known.
     let looked = c.look-youngest.new.self in
     let l = c.look-youngest.ensures.turned v known in
-    let on = going_from g.T.Turns.knows g.T.Turns.mounting g.T.Turns.bound g.T.Turns.labels looked c.pass_of-turns.result _ (c.root_of-found.ensures.kept.below ∙ c.over_pass-book.ensures.below) c.pass_of-turns.ensures.goes_on in
+    let on = going_from g.T.Turns.knows g.T.Turns.mounting g.T.Turns.bound g.T.Turns.own looked c.pass_of-turns.result _ (c.root_of-found.ensures.kept.below ∙ c.over_pass-book.ensures.below) c.pass_of-turns.ensures.goes_on in
     let k = on.known l.0 l.1 in
     (l.0, c.look-youngest.result, k.0, k.1, l.2, k.2)
 
@@ -30,15 +30,15 @@ returns-clause-below g c = c.pass_of-turns.ensures.below ∙ ap (λ p. p.1) (c.r
 
 pub returns-clause-mounted : goal.returns-clause-mounted
 returns-clause-mounted g c =
-    let on = going_from g.T.Turns.knows g.T.Turns.mounting g.T.Turns.bound g.T.Turns.labels c.look-youngest.new.self c.pass_of-turns.result _ (c.root_of-found.ensures.kept.below ∙ c.over_pass-book.ensures.below) c.pass_of-turns.ensures.goes_on in
+    let on = going_from g.T.Turns.knows g.T.Turns.mounting g.T.Turns.bound g.T.Turns.own c.look-youngest.new.self c.pass_of-turns.result _ (c.root_of-found.ensures.kept.below ∙ c.over_pass-book.ensures.below) c.pass_of-turns.ensures.goes_on in
     on.mounted ∙ c.look-youngest.ensures.mounted
 
 pub returns-clause-duty : goal.returns-clause-duty
 returns-clause-duty g c =
-    let on = going_from g.T.Turns.knows g.T.Turns.mounting g.T.Turns.bound g.T.Turns.labels c.look-youngest.new.self c.pass_of-turns.result _ (c.root_of-found.ensures.kept.below ∙ c.over_pass-book.ensures.below) c.pass_of-turns.ensures.goes_on in
+    let on = going_from g.T.Turns.knows g.T.Turns.mounting g.T.Turns.bound g.T.Turns.own c.look-youngest.new.self c.pass_of-turns.result _ (c.root_of-found.ensures.kept.below ∙ c.over_pass-book.ensures.below) c.pass_of-turns.ensures.goes_on in
     on.duty ∙ c.look-youngest.ensures.duty
 
 pub returns-clause-listed : goal.returns-clause-listed
-returns-clause-listed g c = λ free.
-    let on = going_from g.T.Turns.knows g.T.Turns.mounting g.T.Turns.bound g.T.Turns.labels c.look-youngest.new.self c.pass_of-turns.result _ (c.root_of-found.ensures.kept.below ∙ c.over_pass-book.ensures.below) c.pass_of-turns.ensures.goes_on in
-    on.listed (c.look-youngest.ensures.duty ∙ free) ∙ c.look-youngest.ensures.listed free
+returns-clause-listed g c =
+    let on = going_from g.T.Turns.knows g.T.Turns.mounting g.T.Turns.bound g.T.Turns.own c.look-youngest.new.self c.pass_of-turns.result _ (c.root_of-found.ensures.kept.below ∙ c.over_pass-book.ensures.below) c.pass_of-turns.ensures.goes_on in
+    on.listed ∙ c.look-youngest.ensures.listed

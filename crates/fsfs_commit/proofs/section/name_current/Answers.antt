@@ -37,7 +37,7 @@ pub returns-in-Err-clause-turned : goal.returns-in-Err-clause-turned
 returns-in-Err-clause-turned g c = λ v x known at made. goes_no_further _ c.in-Err.place x (section.CurrentPut x) (section.CurrentFirm x) v (c.in-Err.ensures.turned v x known at made)
 
 pub returns-in-Err-rename_current-clause-listed : goal.returns-in-Err-rename_current-clause-listed
-returns-in-Err-rename_current-clause-listed g c = λ free. c.in-Err-rename_current.ensures.listed (c.in-Ok.ensures.duty ∙ free) ∙ c.in-Ok.ensures.listed free
+returns-in-Err-rename_current-clause-listed g c = c.in-Err-rename_current.ensures.listed ∙ c.in-Ok.ensures.listed
 
 pub returns-clause-listed : goal.returns-clause-listed
-returns-clause-listed g c = λ free. c.firm_current.ensures.listed (c.in-Ok-rename_current.ensures.duty ∙ c.in-Ok.ensures.duty ∙ free) ∙ c.in-Ok-rename_current.ensures.listed (c.in-Ok.ensures.duty ∙ free) ∙ c.in-Ok.ensures.listed free
+returns-clause-listed g c = c.firm_current.ensures.listed ∙ c.in-Ok-rename_current.ensures.listed ∙ c.in-Ok.ensures.listed

@@ -46,7 +46,7 @@ returns-in-Err-clause-err g c = λ v txn next bytes known held may made.
     (e.0, e.1, stopped c.in-Err.place x v m e.0 f e.2)
 
 pub returns-in-Ok-clause-listed : goal.returns-in-Ok-clause-listed
-returns-in-Ok-clause-listed g c = λ free. c.finish.ensures.listed (c.in-Ok.ensures.duty ∙ free) ∙ c.in-Ok.ensures.listed free
+returns-in-Ok-clause-listed g c = c.finish.ensures.listed ∙ c.in-Ok.ensures.listed
 
 pub returns-in-Err-clause-listed : goal.returns-in-Err-clause-listed
-returns-in-Err-clause-listed g c = λ free. c.settle.ensures.listed (c.in-Err.ensures.duty ∙ free) ∙ c.in-Err.ensures.listed free
+returns-in-Err-clause-listed g c = c.settle.ensures.listed ∙ c.in-Err.ensures.listed

@@ -46,7 +46,7 @@ pub returns-in-Err-put-clause-cause : goal.returns-in-Err-put-clause-cause
 returns-in-Err-put-clause-cause g c = cause_on (Err place.PutProps) c.in-Ok.ensures.cause c.in-Err-put.ensures.cause.later tt c.in-Err-put.ensures.cause.failed
 
 pub returns-in-Ok-put-clause-listed : goal.returns-in-Ok-put-clause-listed
-returns-in-Ok-put-clause-listed g c = λ free. c.in-Ok-put.ensures.listed (c.in-Ok.ensures.duty ∙ free) ∙ c.in-Ok.ensures.listed free
+returns-in-Ok-put-clause-listed g c = c.in-Ok-put.ensures.listed ∙ c.in-Ok.ensures.listed
 
 pub returns-in-Err-put-clause-listed : goal.returns-in-Err-put-clause-listed
-returns-in-Err-put-clause-listed g c = λ free. c.in-Err-put.ensures.listed (c.in-Ok.ensures.duty ∙ free) ∙ c.in-Ok.ensures.listed free
+returns-in-Err-put-clause-listed g c = c.in-Err-put.ensures.listed ∙ c.in-Ok.ensures.listed

@@ -43,7 +43,7 @@ pub returns-in-Err-hand_over-clause-cause : goal.returns-in-Err-hand_over-clause
 returns-in-Err-hand_over-clause-cause g c = cause_on (Err place.PutRev) c.in-Ok.ensures.cause c.in-Err-hand_over.ensures.cause.later tt c.in-Err-hand_over.ensures.cause.failed
 
 pub returns-in-Ok-hand_over-clause-listed : goal.returns-in-Ok-hand_over-clause-listed
-returns-in-Ok-hand_over-clause-listed g c = λ free. c.in-Ok-hand_over.ensures.listed (c.in-Ok.ensures.duty ∙ free) ∙ c.in-Ok.ensures.listed free
+returns-in-Ok-hand_over-clause-listed g c = c.in-Ok-hand_over.ensures.listed ∙ c.in-Ok.ensures.listed
 
 pub returns-in-Err-hand_over-clause-listed : goal.returns-in-Err-hand_over-clause-listed
-returns-in-Err-hand_over-clause-listed g c = λ free. c.in-Err-hand_over.ensures.listed (c.in-Ok.ensures.duty ∙ free) ∙ c.in-Ok.ensures.listed free
+returns-in-Err-hand_over-clause-listed g c = c.in-Err-hand_over.ensures.listed ∙ c.in-Ok.ensures.listed

@@ -29,4 +29,4 @@ returns-clause-turned g c = λ v txn next bytes known held may made.
     (λ m km r. c.name_current.ensures.turned m x km (section_on (section.RevFirm x) v m r) (made_on (section.RevFirm x) v m next.properties c.args.made.now.rev c.args.made.now.rev_file c.args.made.now.props_file c.args.made.now.properties.items c.args.made.now.current.items r (made_next v (g.D.Draft.properties c.args.draft.now) next.properties c.args.made.now.rev c.args.made.now.rev_file c.args.made.now.props_file c.args.made.now.properties.items c.args.made.now.current.items may.next_is.properties made)))
 
 pub returns-clause-listed : goal.returns-clause-listed
-returns-clause-listed g c = λ free. c.name_current.ensures.listed (c.in-Ok.ensures.duty ∙ free) ∙ c.in-Ok.ensures.listed free
+returns-clause-listed g c = c.name_current.ensures.listed ∙ c.in-Ok.ensures.listed

@@ -48,7 +48,7 @@ returns-clause-turned g c = λ v txn next bytes known held may made.
     (λ n kn q. c.firm_revision.ensures.turned n x kn (section_on (section.PropsPut x) m n q)))
 
 pub returns-in-Err-put_properties-clause-listed : goal.returns-in-Err-put_properties-clause-listed
-returns-in-Err-put_properties-clause-listed g c = λ free. c.in-Err-put_properties.ensures.listed (c.in-Ok.ensures.duty ∙ free) ∙ c.in-Ok.ensures.listed free
+returns-in-Err-put_properties-clause-listed g c = c.in-Err-put_properties.ensures.listed ∙ c.in-Ok.ensures.listed
 
 pub returns-clause-listed : goal.returns-clause-listed
-returns-clause-listed g c = λ free. c.firm_revision.ensures.listed (c.in-Ok-put_properties.ensures.duty ∙ c.in-Ok.ensures.duty ∙ free) ∙ c.in-Ok-put_properties.ensures.listed (c.in-Ok.ensures.duty ∙ free) ∙ c.in-Ok.ensures.listed free
+returns-clause-listed g c = c.firm_revision.ensures.listed ∙ c.in-Ok-put_properties.ensures.listed ∙ c.in-Ok.ensures.listed

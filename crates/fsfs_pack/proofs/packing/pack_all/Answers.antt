@@ -8,7 +8,7 @@ use Rattle.fsfs_pack.specs.declared.answers.PackFault.TheVariants.{Stuck}
 use Rattle.fsfs_pack.specs.Packs.{Says}
 use Rattle.fsfs_pack.proofs.TxnLabels.{keeps_same, keeps_then}
 use Rattle.fsfs_pack.proofs.Whole.{held_all, stuck_all, taken_drift}
-use Rattle.fsfs_pack.proofs.TidyLabels.{tidy_same, tidy_then}
+use Rattle.fsfs_turn.proofs.Tidy.{tidy_same, tidy_then}
 use Rattle.fsfs_pack.proofs.Floors.{shows_all, shows_none}
 use Rattle.fsfs_pack.proofs.Ending.{end_between}
 use Rattle.fsfs_pack.proofs.packing.pack_all.Goals as goal
@@ -46,27 +46,25 @@ returns-in-Err-clause-packed g c = λ v known none packs.
 
 pub returns-in-Ok-clause-listed : goal.returns-in-Ok-clause-listed
 returns-in-Ok-clause-listed g c =
-    let bound = g.T.Turns.bound in
-    let labels = g.T.Turns.labels in
-    keeps_then (bound c.args.turns) (bound c.take_lock.new.self) (labels c.args.turns) (labels c.take_lock.new.self) (labels c.settle.new.turns) c.in-Ok.ensures.duty
-    (keeps_same (bound c.args.turns) (labels c.args.turns) (labels c.take_lock.new.self) c.in-Ok.ensures.listed)
-    (keeps_then (bound c.take_lock.new.self) (bound c.pack_held-back.result.0) (labels c.take_lock.new.self) (labels c.pack_held-back.result.0) (labels c.settle.new.turns) c.pack_held-back.ensures.duty c.pack_held-back.ensures.listed
-    (keeps_same (bound c.pack_held-back.result.0) (labels c.pack_held-back.result.0) (labels c.settle.new.turns) c.settle.ensures.listed))
+    let own = g.T.Turns.own in
+    keeps_then (own c.args.turns) (own c.take_lock.new.self) (own c.settle.new.turns)
+    (keeps_same (own c.args.turns) (own c.take_lock.new.self) c.in-Ok.ensures.listed)
+    (keeps_then (own c.take_lock.new.self) (own c.pack_held-back.result.0) (own c.settle.new.turns) c.pack_held-back.ensures.listed
+    (keeps_same (own c.pack_held-back.result.0) (own c.settle.new.turns) c.settle.ensures.listed))
 
 pub returns-in-Ok-clause-tidy : goal.returns-in-Ok-clause-tidy
 returns-in-Ok-clause-tidy g c =
-    let bound = g.T.Turns.bound in
-    let labels = g.T.Turns.labels in
+    let own = g.T.Turns.own in
     let faults = g.T.Turns.faults in
-    let taken = tidy_same (bound c.args.turns) (Rose (faults c.args.turns) (faults c.take_lock.new.self)) (labels c.args.turns) (labels c.take_lock.new.self) c.in-Ok.ensures.listed in
-    let settled = tidy_same (bound c.pack_held-back.result.0) (Rose (faults c.pack_held-back.result.0) (faults c.settle.new.turns)) (labels c.pack_held-back.result.0) (labels c.settle.new.turns) c.settle.ensures.listed in
-    tidy_then (bound c.args.turns) (bound c.take_lock.new.self) (faults c.args.turns) (faults c.take_lock.new.self) (faults c.settle.new.turns) (labels c.args.turns) (labels c.take_lock.new.self) (labels c.settle.new.turns) c.in-Ok.ensures.duty
+    let taken = tidy_same (Rose (faults c.args.turns) (faults c.take_lock.new.self)) (own c.args.turns) (own c.take_lock.new.self) c.in-Ok.ensures.listed in
+    let settled = tidy_same (Rose (faults c.pack_held-back.result.0) (faults c.settle.new.turns)) (own c.pack_held-back.result.0) (own c.settle.new.turns) c.settle.ensures.listed in
+    tidy_then (faults c.args.turns) (faults c.take_lock.new.self) (faults c.settle.new.turns) (own c.args.turns) (own c.take_lock.new.self) (own c.settle.new.turns)
     (omega (arith, c.in-Ok.ensures.faults)) (omega (arith, c.pack_held-back.ensures.later, c.settle.ensures.faults)) taken
-    (tidy_then (bound c.take_lock.new.self) (bound c.pack_held-back.result.0) (faults c.take_lock.new.self) (faults c.pack_held-back.result.0) (faults c.settle.new.turns) (labels c.take_lock.new.self) (labels c.pack_held-back.result.0) (labels c.settle.new.turns) c.pack_held-back.ensures.duty
+    (tidy_then (faults c.take_lock.new.self) (faults c.pack_held-back.result.0) (faults c.settle.new.turns) (own c.take_lock.new.self) (own c.pack_held-back.result.0) (own c.settle.new.turns)
     c.pack_held-back.ensures.later (omega (arith, c.settle.ensures.faults)) c.pack_held-back.ensures.tidy settled)
 
 pub returns-in-Err-clause-tidy : goal.returns-in-Err-clause-tidy
-returns-in-Err-clause-tidy g c = tidy_same (g.T.Turns.bound c.args.turns) (Rose (g.T.Turns.faults c.args.turns) (g.T.Turns.faults c.take_lock.new.self)) (g.T.Turns.labels c.args.turns) (g.T.Turns.labels c.take_lock.new.self) c.in-Err.ensures.listed
+returns-in-Err-clause-tidy g c = tidy_same (Rose (g.T.Turns.faults c.args.turns) (g.T.Turns.faults c.take_lock.new.self)) (g.T.Turns.own c.args.turns) (g.T.Turns.own c.take_lock.new.self) c.in-Err.ensures.listed
 
 pub returns-in-Ok-clause-floors : goal.returns-in-Ok-clause-floors
 returns-in-Ok-clause-floors g c = λ v known none packs.

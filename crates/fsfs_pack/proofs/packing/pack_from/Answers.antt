@@ -7,7 +7,7 @@ use Rattle.fsfs_pack.specs.declared.answers.PackEnd.{PackEnd}
 use Rattle.fsfs_pack.specs.declared.answers.PackFault.{PackFault}
 use Rattle.fsfs_pack.specs.Packs.{LeftRose, renamed_by}
 use Rattle.fsfs_pack.proofs.TxnLabels.{keeps_then}
-use Rattle.fsfs_pack.proofs.TidyLabels.{tidy_same, tidy_then}
+use Rattle.fsfs_turn.proofs.Tidy.{tidy_same, tidy_then}
 use Rattle.fsfs_pack.proofs.packing.pack_from.Goals as goal
 
 pub shards-init : goal.shards-init
@@ -20,8 +20,8 @@ shards-init g c = record {
   later = omega arith;
   mounted = refl;
   duty = refl;
-  listed = λ free. refl;
-  tidy = tidy_same (g.T.Turns.bound c.args.turns) (Rose (g.T.Turns.faults c.args.turns) (g.T.Turns.faults c.args.turns)) (g.T.Turns.labels c.args.turns) (g.T.Turns.labels c.args.turns) (λ free. refl);
+  listed = refl;
+  tidy = tidy_same (Rose (g.T.Turns.faults c.args.turns) (g.T.Turns.faults c.args.turns)) (g.T.Turns.own c.args.turns) (g.T.Turns.own c.args.turns) refl;
   benches = omega arith;
 }
 
@@ -56,8 +56,8 @@ shards-preserved g c =
       later = omega (arith, i.later, e.later);
       mounted = e.mounted ∙ i.mounted;
       duty = e.duty ∙ i.duty;
-      listed = keeps_then (g.T.Turns.bound c.args.turns) (g.T.Turns.bound c.shards.turns) (g.T.Turns.labels c.args.turns) (g.T.Turns.labels c.shards.turns) (g.T.Turns.labels c.pack_shard-back.result.0) i.duty i.listed e.listed;
-      tidy = tidy_then (g.T.Turns.bound c.args.turns) (g.T.Turns.bound c.shards.turns) (g.T.Turns.faults c.args.turns) (g.T.Turns.faults c.shards.turns) (g.T.Turns.faults c.pack_shard-back.result.0) (g.T.Turns.labels c.args.turns) (g.T.Turns.labels c.shards.turns) (g.T.Turns.labels c.pack_shard-back.result.0) i.duty i.later e.later i.tidy e.tidy;
+      listed = keeps_then (g.T.Turns.own c.args.turns) (g.T.Turns.own c.shards.turns) (g.T.Turns.own c.pack_shard-back.result.0) i.listed e.listed;
+      tidy = tidy_then (g.T.Turns.faults c.args.turns) (g.T.Turns.faults c.shards.turns) (g.T.Turns.faults c.pack_shard-back.result.0) (g.T.Turns.own c.args.turns) (g.T.Turns.own c.shards.turns) (g.T.Turns.own c.pack_shard-back.result.0) i.later e.later i.tidy e.tidy;
       benches = omega (arith, i.benches, e.benches);
     }
 
@@ -88,10 +88,10 @@ pub returns-in-Err-clause-tidy : goal.returns-in-Err-clause-tidy
 returns-in-Err-clause-tidy g c =
     let i = c.shards.invariant in
     let e = c.pack_shard-back.ensures in
-    tidy_then (g.T.Turns.bound c.args.turns) (g.T.Turns.bound c.shards.turns) (g.T.Turns.faults c.args.turns) (g.T.Turns.faults c.shards.turns) (g.T.Turns.faults c.pack_shard-back.result.0) (g.T.Turns.labels c.args.turns) (g.T.Turns.labels c.shards.turns) (g.T.Turns.labels c.pack_shard-back.result.0) i.duty i.later e.later i.tidy e.tidy
+    tidy_then (g.T.Turns.faults c.args.turns) (g.T.Turns.faults c.shards.turns) (g.T.Turns.faults c.pack_shard-back.result.0) (g.T.Turns.own c.args.turns) (g.T.Turns.own c.shards.turns) (g.T.Turns.own c.pack_shard-back.result.0) i.later e.later i.tidy e.tidy
 
 pub returns-in-None-clause-tidy : goal.returns-in-None-clause-tidy
 returns-in-None-clause-tidy g c =
     let i = c.shards.invariant in
     let e = c.pack_shard-back.ensures in
-    tidy_then (g.T.Turns.bound c.args.turns) (g.T.Turns.bound c.shards.turns) (g.T.Turns.faults c.args.turns) (g.T.Turns.faults c.shards.turns) (g.T.Turns.faults c.pack_shard-back.result.0) (g.T.Turns.labels c.args.turns) (g.T.Turns.labels c.shards.turns) (g.T.Turns.labels c.pack_shard-back.result.0) i.duty i.later e.later i.tidy e.tidy
+    tidy_then (g.T.Turns.faults c.args.turns) (g.T.Turns.faults c.shards.turns) (g.T.Turns.faults c.pack_shard-back.result.0) (g.T.Turns.own c.args.turns) (g.T.Turns.own c.shards.turns) (g.T.Turns.own c.pack_shard-back.result.0) i.later e.later i.tidy e.tidy

@@ -1,10 +1,12 @@
 use Rattle.std.proofs.Common.{◌≡◌, ◌<◌, ◌≤◌, ◌+◌, ◌-◌, ◌*◌, ◌^◌, true, length}
+use Rattle.std.specs.Prelude.{option_map}
 use Rattle.fsfs_base.specs.Failures.{Rose}
+use Rattle.fsfs_disk.specs.Labels.{txn_entries}
 use Rattle.fsfs_layout.specs.Layouts.{shard_size}
 use Rattle.fsfs_turn.specs.Alone.{BringsNoDoubt}
 use Rattle.fsfs_turn.specs.Mountings.{RoseBy}
 use Rattle.fsfs_turn.specs.Views.{View, MayPack}
-use Rattle.fsfs_pack.specs.Packs.{IsTidy, KeepsTxns}
+use Rattle.fsfs_turn.specs.Labels.{IsTidy}
 use Rattle.fsfs_pack.specs.Sections.{Along, IsNext}
 use Rattle.fsfs_pack.specs.Shards.{IsShard}
 use Rattle.fsfs_pack.proofs.packing.pack_from.Given as goal
@@ -21,8 +23,8 @@ invariant-shards g l = record {
   later : g.T.Turns.faults l.fn.turns ≤ g.T.Turns.faults l.turns;
   mounted : (g.T.Turns.mounting l.turns).mount ≡ (g.T.Turns.mounting l.fn.turns).mount;
   duty : g.T.Turns.bound l.turns ≡ g.T.Turns.bound l.fn.turns;
-  listed : KeepsTxns (g.T.Turns.bound l.fn.turns) (g.T.Turns.labels l.fn.turns) (g.T.Turns.labels l.turns);
-  tidy : IsTidy (g.T.Turns.bound l.fn.turns) (Rose (g.T.Turns.faults l.fn.turns) (g.T.Turns.faults l.turns)) (g.T.Turns.labels l.fn.turns) (g.T.Turns.labels l.turns);
+  listed : option_map txn_entries (g.T.Turns.own l.turns) ≡ option_map txn_entries (g.T.Turns.own l.fn.turns);
+  tidy : IsTidy (Rose (g.T.Turns.faults l.fn.turns) (g.T.Turns.faults l.turns)) (g.T.Turns.own l.fn.turns) (g.T.Turns.own l.turns);
   benches : RoseBy 0 (g.T.Turns.mounting l.fn.turns).bench_faults (g.T.Turns.mounting l.turns).bench_faults;
 }
 

@@ -8,7 +8,7 @@ use Rattle.fsfs_pack.specs.Packs.{HeldEnd, Renamed, ShowsFloors}
 use Rattle.fsfs_pack.proofs.Onward.{below}
 use Rattle.fsfs_pack.proofs.Held.{all_seen, found_next, held_end, none_end, sought_as, still_begun, still_sure, unread_end}
 use Rattle.fsfs_pack.proofs.TxnLabels.{keeps_same, keeps_then}
-use Rattle.fsfs_pack.proofs.TidyLabels.{tidy_same, tidy_then}
+use Rattle.fsfs_turn.proofs.Tidy.{tidy_same, tidy_then}
 use Rattle.fsfs_pack.proofs.Held.{unread_bench, unread_few}
 use Rattle.fsfs_pack.proofs.Floors.{shows_held, shows_none}
 use Rattle.fsfs_pack.proofs.Ending.{end_between}
@@ -45,22 +45,21 @@ returns-in-Err-clause-packed g c = λ v known begun packs.
 
 pub returns-in-Some-clause-listed : goal.returns-in-Some-clause-listed
 returns-in-Some-clause-listed g c =
-    keeps_then (g.T.Turns.bound c.args.turns) (g.T.Turns.bound c.find.new.turns) (g.T.Turns.labels c.args.turns) (g.T.Turns.labels c.find.new.turns) (g.T.Turns.labels c.pack_from.result.0) c.in-Ok.ensures.duty
-    (keeps_same (g.T.Turns.bound c.args.turns) (g.T.Turns.labels c.args.turns) (g.T.Turns.labels c.find.new.turns) c.in-Ok.ensures.listed) c.pack_from.ensures.listed
+    keeps_then (g.T.Turns.own c.args.turns) (g.T.Turns.own c.find.new.turns) (g.T.Turns.own c.pack_from.result.0)
+    (keeps_same (g.T.Turns.own c.args.turns) (g.T.Turns.own c.find.new.turns) c.in-Ok.ensures.listed) c.pack_from.ensures.listed
 
 pub returns-in-Some-clause-tidy : goal.returns-in-Some-clause-tidy
 returns-in-Some-clause-tidy g c =
-    let bound = g.T.Turns.bound in
-    let labels = g.T.Turns.labels in
+    let own = g.T.Turns.own in
     let faults = g.T.Turns.faults in
-    tidy_then (bound c.args.turns) (bound c.find.new.turns) (faults c.args.turns) (faults c.find.new.turns) (faults c.pack_from.result.0) (labels c.args.turns) (labels c.find.new.turns) (labels c.pack_from.result.0) c.in-Ok.ensures.duty c.in-Ok.ensures.cause.later c.pack_from.ensures.later
-    (tidy_same (bound c.args.turns) (Rose (faults c.args.turns) (faults c.find.new.turns)) (labels c.args.turns) (labels c.find.new.turns) c.in-Ok.ensures.listed) c.pack_from.ensures.tidy
+    tidy_then (faults c.args.turns) (faults c.find.new.turns) (faults c.pack_from.result.0) (own c.args.turns) (own c.find.new.turns) (own c.pack_from.result.0) c.in-Ok.ensures.cause.later c.pack_from.ensures.later
+    (tidy_same (Rose (faults c.args.turns) (faults c.find.new.turns)) (own c.args.turns) (own c.find.new.turns) c.in-Ok.ensures.listed) c.pack_from.ensures.tidy
 
 pub returns-in-None-clause-tidy : goal.returns-in-None-clause-tidy
-returns-in-None-clause-tidy g c = tidy_same (g.T.Turns.bound c.args.turns) (Rose (g.T.Turns.faults c.args.turns) (g.T.Turns.faults c.find.new.turns)) (g.T.Turns.labels c.args.turns) (g.T.Turns.labels c.find.new.turns) c.in-Ok.ensures.listed
+returns-in-None-clause-tidy g c = tidy_same (Rose (g.T.Turns.faults c.args.turns) (g.T.Turns.faults c.find.new.turns)) (g.T.Turns.own c.args.turns) (g.T.Turns.own c.find.new.turns) c.in-Ok.ensures.listed
 
 pub returns-in-Err-clause-tidy : goal.returns-in-Err-clause-tidy
-returns-in-Err-clause-tidy g c = tidy_same (g.T.Turns.bound c.args.turns) (Rose (g.T.Turns.faults c.args.turns) (g.T.Turns.faults c.find.new.turns)) (g.T.Turns.labels c.args.turns) (g.T.Turns.labels c.find.new.turns) c.in-Err.ensures.listed
+returns-in-Err-clause-tidy g c = tidy_same (Rose (g.T.Turns.faults c.args.turns) (g.T.Turns.faults c.find.new.turns)) (g.T.Turns.own c.args.turns) (g.T.Turns.own c.find.new.turns) c.in-Err.ensures.listed
 
 pub returns-in-Some-clause-floors : goal.returns-in-Some-clause-floors
 returns-in-Some-clause-floors g c = λ v known begun packs.

@@ -24,9 +24,9 @@ returns-clause-packed g c = λ v known sure may next.
 
 pub returns-clause-listed : goal.returns-clause-listed
 returns-clause-listed g c =
-    keeps_then (g.T.Turns.bound c.args.turns) (g.T.Turns.bound c.pack_by-back.result.0) (g.T.Turns.labels c.args.turns) (g.T.Turns.labels c.pack_by-back.result.0) (g.T.Turns.labels c.drop_bench.new.self) c.pack_by-back.ensures.duty
-    (keeps_same (g.T.Turns.bound c.args.turns) (g.T.Turns.labels c.args.turns) (g.T.Turns.labels c.pack_by-back.result.0) c.pack_by-back.ensures.listed)
-    (keeps_drop c.drop_bench.result (g.T.Turns.bound c.pack_by-back.result.0) c.number.result (Pack c.number.result) (g.T.Turns.labels c.pack_by-back.result.0) (g.T.Turns.labels c.drop_bench.new.self) refl c.drop_bench.ensures.dropped c.drop_bench.ensures.left)
+    keeps_then (g.T.Turns.own c.args.turns) (g.T.Turns.own c.pack_by-back.result.0) (g.T.Turns.own c.drop_bench.new.self)
+    (keeps_same (g.T.Turns.own c.args.turns) (g.T.Turns.own c.pack_by-back.result.0) c.pack_by-back.ensures.listed)
+    (keeps_drop c.drop_bench.result c.number.result (Pack c.number.result) (g.T.Turns.own c.pack_by-back.result.0) (g.T.Turns.own c.drop_bench.new.self) refl c.drop_bench.ensures.disowned c.drop_bench.ensures.own_left)
 
 pub returns-clause-benches : goal.returns-clause-benches
 returns-clause-benches g c =
@@ -35,9 +35,9 @@ returns-clause-benches g c =
 
 pub returns-clause-unlisted : goal.returns-clause-unlisted
 returns-clause-unlisted g c =
-    subst (λ k. Unlists (g.T.Turns.bound c.args.turns) (Pack k) (Rose (g.T.Turns.faults c.args.turns) (g.T.Turns.faults c.drop_bench.new.self)) (g.T.Turns.labels c.args.turns) (g.T.Turns.labels c.drop_bench.new.self)) c.number.ensures
-    (unlists c.drop_bench.result (g.T.Turns.bound c.args.turns) (g.T.Turns.bound c.pack_by-back.result.0) (Pack c.number.result) (g.T.Turns.faults c.args.turns) (g.T.Turns.faults c.pack_by-back.result.0) (g.T.Turns.faults c.drop_bench.new.self) (g.T.Turns.labels c.args.turns) (g.T.Turns.labels c.pack_by-back.result.0) (g.T.Turns.labels c.drop_bench.new.self)
-    c.pack_by-back.ensures.duty c.pack_by-back.ensures.later c.pack_by-back.ensures.listed c.drop_bench.ensures.dropped c.drop_bench.ensures.cause)
+    subst (λ k. Unlists (Pack k) (Rose (g.T.Turns.faults c.args.turns) (g.T.Turns.faults c.drop_bench.new.self)) (g.T.Turns.own c.args.turns) (g.T.Turns.own c.drop_bench.new.self)) c.number.ensures
+    (unlists c.drop_bench.result (Pack c.number.result) (g.T.Turns.faults c.args.turns) (g.T.Turns.faults c.pack_by-back.result.0) (g.T.Turns.faults c.drop_bench.new.self) (g.T.Turns.own c.args.turns) (g.T.Turns.own c.pack_by-back.result.0) (g.T.Turns.own c.drop_bench.new.self)
+    c.pack_by-back.ensures.later c.pack_by-back.ensures.listed c.drop_bench.ensures.disowned c.drop_bench.ensures.cause)
 
 pub returns-clause-left : goal.returns-clause-left
 returns-clause-left g c =

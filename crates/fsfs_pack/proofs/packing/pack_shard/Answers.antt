@@ -7,7 +7,8 @@ use Rattle.fsfs_pack.specs.Packs.{Stopped, Unlists}
 use Rattle.fsfs_pack.specs.declared.answers.PackFault.TheVariants.{Memory}
 use Rattle.fsfs_pack.proofs.InBench.{ahead, aside_itself, bench_failed, ended_early, bench_of, may_bench, may_held, next_aside, sure_stays}
 use Rattle.fsfs_pack.proofs.TxnLabels.{keeps_made, keeps_may_make, keeps_then, keeps_drop}
-use Rattle.fsfs_pack.proofs.TidyLabels.{tidy_made, tidy_rose, tidy_same}
+use Rattle.fsfs_turn.proofs.Tidy.{tidy_rose, tidy_same}
+use Rattle.fsfs_pack.proofs.TidyLabels.{tidy_made}
 use Rattle.fsfs_pack.proofs.Ending.{beside_aside, left_between}
 use Rattle.fsfs_pack.proofs.packing.pack_shard.Goals as goal
 
@@ -36,8 +37,8 @@ returns-in-Ok-bench-clause-packed g c = λ v known sure may next.
 
 pub returns-in-Ok-bench-clause-listed : goal.returns-in-Ok-bench-clause-listed
 returns-in-Ok-bench-clause-listed g c =
-    keeps_then (g.T.Turns.bound c.args.turns) (g.T.Turns.bound c.bench.new.self) (g.T.Turns.labels c.args.turns) (g.T.Turns.labels c.bench.new.self) (g.T.Turns.labels c.pack_in.result.0) c.in-Ok-bench.ensures.duty
-    (keeps_made (g.T.Turns.bound c.args.turns) c.number.result (Pack c.number.result) (g.T.Turns.labels c.args.turns) (g.T.Turns.labels c.bench.new.self) refl c.in-Ok-bench.ensures.kept) c.pack_in.ensures.listed
+    keeps_then (g.T.Turns.own c.args.turns) (g.T.Turns.own c.bench.new.self) (g.T.Turns.own c.pack_in.result.0)
+    (keeps_made c.number.result (Pack c.number.result) (g.T.Turns.own c.args.turns) (g.T.Turns.own c.bench.new.self) refl c.in-Ok-bench.ensures.owned) c.pack_in.ensures.listed
 
 pub drop_bench-requires : goal.drop_bench-requires
 drop_bench-requires g c = record {
@@ -59,24 +60,23 @@ returns-clause-packed g c = λ v known sure may next.
 
 pub returns-clause-listed : goal.returns-clause-listed
 returns-clause-listed g c =
-    keeps_then (g.T.Turns.bound c.args.turns) (g.T.Turns.bound c.bench.new.self) (g.T.Turns.labels c.args.turns) (g.T.Turns.labels c.bench.new.self) (g.T.Turns.labels c.drop_bench.new.self) c.in-Err-bench.ensures.duty
-    (keeps_may_make (g.T.Turns.bound c.args.turns) c.number.result (Pack c.number.result) (g.T.Turns.labels c.args.turns) (g.T.Turns.labels c.bench.new.self) refl c.in-Err-bench.ensures.left)
-    (keeps_drop c.drop_bench.result (g.T.Turns.bound c.bench.new.self) c.number.result (Pack c.number.result) (g.T.Turns.labels c.bench.new.self) (g.T.Turns.labels c.drop_bench.new.self) refl c.drop_bench.ensures.dropped c.drop_bench.ensures.left)
+    keeps_then (g.T.Turns.own c.args.turns) (g.T.Turns.own c.bench.new.self) (g.T.Turns.own c.drop_bench.new.self)
+    (keeps_may_make c.number.result (Pack c.number.result) (g.T.Turns.own c.args.turns) (g.T.Turns.own c.bench.new.self) refl c.in-Err-bench.ensures.own_left)
+    (keeps_drop c.drop_bench.result c.number.result (Pack c.number.result) (g.T.Turns.own c.bench.new.self) (g.T.Turns.own c.drop_bench.new.self) refl c.drop_bench.ensures.disowned c.drop_bench.ensures.own_left)
 
 pub returns-in-Err-clause-tidy : goal.returns-in-Err-clause-tidy
-returns-in-Err-clause-tidy g c = tidy_same (g.T.Turns.bound c.args.turns) (Rose (g.T.Turns.faults c.args.turns) (g.T.Turns.faults c.args.turns)) (g.T.Turns.labels c.args.turns) (g.T.Turns.labels c.args.turns) (λ free. refl)
+returns-in-Err-clause-tidy g c = tidy_same (Rose (g.T.Turns.faults c.args.turns) (g.T.Turns.faults c.args.turns)) (g.T.Turns.own c.args.turns) (g.T.Turns.own c.args.turns) refl
 
 pub returns-in-Ok-bench-clause-tidy : goal.returns-in-Ok-bench-clause-tidy
 returns-in-Ok-bench-clause-tidy g c =
-    let bound = g.T.Turns.bound in
-    let labels = g.T.Turns.labels in
+    let own = g.T.Turns.own in
     let faults = g.T.Turns.faults in
-    tidy_made (bound c.args.turns) (bound c.bench.new.self) (Pack c.number.result) (faults c.args.turns) (faults c.bench.new.self) (faults c.pack_in.result.0) (labels c.args.turns) (labels c.bench.new.self) (labels c.pack_in.result.0) c.in-Ok-bench.ensures.duty c.in-Ok-bench.ensures.cause.later c.in-Ok-bench.ensures.kept
-    (subst (λ k. Unlists (bound c.bench.new.self) (Pack k) (Rose (faults c.bench.new.self) (faults c.pack_in.result.0)) (labels c.bench.new.self) (labels c.pack_in.result.0)) (sym c.number.ensures) c.pack_in.ensures.unlisted)
+    tidy_made (Pack c.number.result) (faults c.args.turns) (faults c.bench.new.self) (faults c.pack_in.result.0) (own c.args.turns) (own c.bench.new.self) (own c.pack_in.result.0) c.in-Ok-bench.ensures.cause.later c.in-Ok-bench.ensures.owned
+    (subst (λ k. Unlists (Pack k) (Rose (faults c.bench.new.self) (faults c.pack_in.result.0)) (own c.bench.new.self) (own c.pack_in.result.0)) (sym c.number.ensures) c.pack_in.ensures.unlisted)
 
 pub returns-clause-tidy : goal.returns-clause-tidy
 returns-clause-tidy g c =
-    tidy_rose (g.T.Turns.bound c.args.turns) (g.T.Turns.faults c.args.turns) (g.T.Turns.faults c.bench.new.self) (g.T.Turns.faults c.drop_bench.new.self) (g.T.Turns.labels c.args.turns) (g.T.Turns.labels c.drop_bench.new.self) c.in-Err-bench.ensures.cause.failed c.drop_bench.ensures.cause.later
+    tidy_rose (g.T.Turns.faults c.args.turns) (g.T.Turns.faults c.bench.new.self) (g.T.Turns.faults c.drop_bench.new.self) (g.T.Turns.own c.args.turns) (g.T.Turns.own c.drop_bench.new.self) c.in-Err-bench.ensures.cause.failed c.drop_bench.ensures.cause.later
 
 pub returns-in-Ok-bench-clause-left : goal.returns-in-Ok-bench-clause-left
 returns-in-Ok-bench-clause-left g c =

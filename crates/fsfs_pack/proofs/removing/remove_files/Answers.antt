@@ -9,7 +9,7 @@ files-init g c = record {
   later = omega arith;
   mounted = refl;
   duty = refl;
-  listed = λ free. refl;
+  listed = refl;
 }
 
 pub remove_one-more-requires : goal.remove_one-more-requires
@@ -29,5 +29,5 @@ files-preserved g c =
       later = omega (arith, w.later, r.later);
       mounted = r.mounted ∙ w.mounted;
       duty = r.duty ∙ w.duty;
-      listed = λ free. r.listed (w.duty ∙ free) ∙ w.listed free;
+      listed = r.listed ∙ w.listed;
     }

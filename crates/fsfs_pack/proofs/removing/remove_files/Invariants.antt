@@ -1,5 +1,4 @@
 use Rattle.std.proofs.Common.{◌≡◌, ◌≤◌}
-use Rattle.fsfs_turn.specs.Labels.{KeepsLabels}
 use Rattle.fsfs_turn.specs.Mountings.{RoseBy}
 use Rattle.fsfs_pack.proofs.Ending.{Going}
 use Rattle.fsfs_pack.proofs.removing.remove_files.Given as goal
@@ -12,5 +11,5 @@ invariant-files g l = record {
   later : g.T.Turns.faults l.fn.turns ≤ g.T.Turns.faults l.turns;
   mounted : g.T.Turns.mounting l.turns ≡ g.T.Turns.mounting l.fn.turns;
   duty : g.T.Turns.bound l.turns ≡ g.T.Turns.bound l.fn.turns;
-  listed : KeepsLabels (g.T.Turns.bound l.fn.turns) (g.T.Turns.labels l.fn.turns) (g.T.Turns.labels l.turns);
+  listed : g.T.Turns.own l.turns ≡ g.T.Turns.own l.fn.turns;
 }

@@ -5,7 +5,7 @@ use Rattle.fsfs_turn.proofs.SeenProps.{reads_up_to}
 use Rattle.fsfs_turn.proofs.pass_reads.over_pass.Goals as goal
 
 pub invariant_of-reads : goal.invariant_of-reads
-invariant_of-reads g c = (c.requires.there, begins g.T.Turns.knows g.T.Turns.mounting g.T.Turns.bound g.T.Turns.labels c.of-first.result.value c.args.turns c.of-first.ensures (λ v known. (g.met.T.Turns.tells c.args.turns v known).shown))
+invariant_of-reads g c = (c.requires.there, begins g.T.Turns.knows g.T.Turns.mounting g.T.Turns.bound g.T.Turns.own c.of-first.result.value c.args.turns c.of-first.ensures (λ v known. (g.met.T.Turns.tells c.args.turns v known).shown))
 
 pub returns-clause-told : goal.returns-clause-told
 returns-clause-told g c = λ v known.

@@ -9,7 +9,7 @@ returns-clause-goes_on g c =
     let reads = c.args.book.reads in
     let below = ap (λ b. b.0) (below_same (up_to reads.2 reads.1 (g.T.Turns.store reads.0)) c.args.book.floor c.args.book.kept) in
     let first = ap (λ z. z.1) (c.turns.view_is ∙ c.into_reads.ensures) in
-    subst (λ z. GoesOn g.T.Turns.knows g.T.Turns.mounting g.T.Turns.bound g.T.Turns.labels z c.turns.inside.turns) (first ∙ sym below) c.turns.invariant.1
+    subst (λ z. GoesOn g.T.Turns.knows g.T.Turns.mounting g.T.Turns.bound g.T.Turns.own z c.turns.inside.turns) (first ∙ sym below) c.turns.invariant.1
 
 pub returns-clause-below : goal.returns-clause-below
 returns-clause-below g c =

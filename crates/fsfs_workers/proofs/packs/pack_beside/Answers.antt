@@ -1,5 +1,9 @@
 use Rattle.std.proofs.Common.{◌≡◌, ◌∙◌, sym, ap, subst, true, arith}
+use Rattle.std.specs.Prelude.{Some}
+use Rattle.fsfs_base.specs.Failures.{Rose}
+use Rattle.fsfs_turn.specs.Labels.{IsTidy}
 use Rattle.fsfs_turn.specs.Views.{View}
+use Rattle.fsfs_pass.specs.declared.seats.seat_view.SeatView.{SeatView}
 use Rattle.fsfs_pass.specs.Passes.{Seating}
 use Rattle.fsfs_pass.specs.Seats.{view_of}
 use Rattle.fsfs_workers.specs.PackCalls.{PackCalls}
@@ -49,6 +53,7 @@ returns-clause-packed g c =
         bench_cause = some_bench c.pack_often-pass.result.1.fault (λ rose. omega (arith, rose, benches, benches_now)) p.bench_cause;
       };
       did = λ told. subst (λ (z : View). PackCalls p.calls (view_of seat) z) (after told) (known told).2;
+      tidy = subst (λ (x : SeatView × SeatView). IsTidy (Rose x.0.failures x.1.failures) (Some x.0.own) (Some x.1.own)) (λ i. (ap (λ z. z.me.0) was i, ap (λ z. z.me.0) (sym is) i)) s.tidy;
       rests = record {
         sitting = c.into_seat.ensures.sitting;
         outside = λ told. let had : seat.told ≡ true = sym (ap (λ z. z.me.0.told) was) ∙ sym s.duty ∙ sym (ap (λ z. z.me.0.told) is) ∙ told in sym (ap (λ (z : View). z.section) (after had)) ∙ (known had).3;

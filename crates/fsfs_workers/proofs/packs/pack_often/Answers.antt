@@ -1,10 +1,11 @@
 use Rattle.std.proofs.Common.{◌≡◌, ℕ, refl, sym, subst, ◌∙◌, arith}
 use Rattle.fsfs_base.specs.Failures.{Rose}
+use Rattle.fsfs_turn.proofs.Tidy.{tidy_same, tidy_then}
 use Rattle.fsfs_workers.proofs.PackOften.{Often, often_none, often_more}
 use Rattle.fsfs_workers.proofs.packs.pack_often.Goals as goal
 
 pub loop-init : goal.loop-init
-loop-init g c = record { often = often_none (g.T.Turns.knows c.args.turns) _ refl; duty = refl; mounted = refl; later = omega arith; benches = omega arith }
+loop-init g c = record { often = often_none (g.T.Turns.knows c.args.turns) _ refl; duty = refl; mounted = refl; tidy = tidy_same (Rose (g.T.Turns.faults c.args.turns) (g.T.Turns.faults c.args.turns)) (g.T.Turns.own c.args.turns) (g.T.Turns.own c.args.turns) refl; later = omega arith; benches = omega arith }
 
 pub pack-after-requires : goal.pack-after-requires
 pack-after-requires g c = record {
@@ -25,6 +26,7 @@ loop-preserved g c =
           w.later p.later w.benches p.benches n.renamed n.sticks n.fault p.packed p.renamed p.cause p.bench_cause w.often;
       duty = p.duty ∙ w.duty;
       mounted = p.mounted ∙ w.mounted;
+      tidy = tidy_then (g.T.Turns.faults c.args.turns) (g.T.Turns.faults c.loop.turns) (g.T.Turns.faults c.pack-after.result.0) (g.T.Turns.own c.args.turns) (g.T.Turns.own c.loop.turns) (g.T.Turns.own c.pack-after.result.0) w.later p.later w.tidy p.tidy;
       later = omega (arith, w.later, p.later);
       benches = omega (arith, w.benches, p.benches);
     }

@@ -1,8 +1,12 @@
-use Rattle.std.proofs.Common.{◌≡◌, ◌∙◌, sym, ap, subst, arith}
-use Rattle.std.specs.Prelude.{None, is_some}
+use Rattle.std.proofs.Common.{◌≡◌, ◌∙◌, List, [], sym, ap, subst, arith}
+use Rattle.std.specs.Prelude.{Some, None, is_some}
+use Rattle.fsfs_disk.specs.Labels.{Label}
 use Rattle.fsfs_pass.specs.declared.seats.seat_view.Kin.{Kin}
+use Rattle.fsfs_pass.specs.Seats.{all_parts}
 use Rattle.fsfs_workers.specs.Ready.{IsReady}
 use Rattle.fsfs_workers.proofs.Ran.{ran_so}
+use Rattle.fsfs_workers.proofs.Tidied.{none_kept, tidy_begun, tidy_kept}
+use Rattle.fsfs_base.specs.Failures.{Rose}
 use Rattle.fsfs_base.proofs.ResultLemmas.{if_ok, on_err}
 use Rattle.fsfs_workers.proofs.run.run_two.Goals as goal
 
@@ -52,6 +56,29 @@ returns-in-Ok-clause-cause g c =
     let told = (if_ok b.result.1 c.in-Ok.answers _ c.in-Ok.is b.ensures.done).cause in
     let looked : c.look-youngest.new.seat.me.0.failures ≡ b.result.0.me.0.failures = ap (λ m. m.0.failures) c.look-youngest.ensures.same.2 in
     omega (arith, told, looked, c.close.ensures.rose, c.requires.began.1, c.requires.fresh.1)
+
+pub returns-in-Ok-clause-tidy : goal.returns-in-Ok-clause-tidy
+returns-in-Ok-clause-tidy g c =
+    let b = c.do_beside-seat in
+    let began = c.args.repo.board.shared.key.value.disk.trace in
+    let left = g.D.Disk.trace c.close.result in
+    let have = if_ok b.result.1 c.in-Ok.answers _ c.in-Ok.is b.ensures.done in
+    let looked : c.look-youngest.new.seat.me.0.failures ≡ b.result.0.me.0.failures = ap (λ m. m.0.failures) c.look-youngest.ensures.same.2 in
+    let owned : c.look-youngest.new.seat.me.0.own ≡ b.result.0.me.0.own = ap (λ m. m.0.own) c.look-youngest.ensures.same.2 in
+    let parts : c.look-youngest.new.seat.me.0.kin.parts ≡ all_parts = ap (λ m. m.0.kin.parts) c.look-youngest.ensures.same.2 ∙ have.parts ∙ ap (λ (k : Kin). k.parts) c.requires.alone in
+    none_kept (Rose (g.D.Disk.faults c.args.repo.first.value) (g.D.Disk.faults c.close.result)) c.look-youngest.new.seat.me.0.own began left
+    (tidy_begun (Rose c.args.seat.me.0.failures b.result.0.me.0.failures) (Rose (g.D.Disk.faults c.args.repo.first.value) (g.D.Disk.faults c.close.result)) c.args.seat.me.0.own b.result.0.me.0.own c.look-youngest.new.seat.me.0.own
+    (λ rose. omega (arith, rose, looked, c.close.ensures.rose, c.requires.began.1, c.requires.fresh.1)) c.requires.fresh.3 owned have.tidy) (c.close.ensures.owned parts)
+
+-- nothing was done
+pub returns-clause-tidy : goal.returns-clause-tidy
+returns-clause-tidy g c =
+    let began = c.args.repo.board.shared.key.value.disk.trace in
+    let left = g.D.Disk.trace c.close-in-Err.result in
+    let seat = on_err c.do_beside-seat.result.1 c.in-Err.error _ c.in-Err.is c.do_beside-seat.ensures.none in
+    let parts : c.do_beside-seat.result.0.me.0.kin.parts ≡ all_parts = ap (λ s. s.me.0.kin.parts) seat ∙ ap (λ (k : Kin). k.parts) c.requires.alone in
+    let rose = Rose (g.D.Disk.faults c.args.repo.first.value) (g.D.Disk.faults c.close-in-Err.result) in
+    none_kept rose c.do_beside-seat.result.0.me.0.own began left (tidy_kept rose (Some []) (Some c.do_beside-seat.result.0.me.0.own) (ap (λ (ls : List Label). Some ls) (ap (λ s. s.me.0.own) seat ∙ c.requires.fresh.3))) (c.close-in-Err.ensures.owned parts)
 
 pub returns-in-Ok-clause-benches : goal.returns-in-Ok-clause-benches
 returns-in-Ok-clause-benches g c =

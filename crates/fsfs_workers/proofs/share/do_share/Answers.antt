@@ -2,6 +2,9 @@ use Rattle.std.proofs.Common.{◌≡◌, ◌+◌, ◌<◌, ℕ, List, ◌∙◌,
 use Rattle.std.proofs.lemmas.List.{take_all}
 use Rattle.std.specs.Prelude.{vec_len}
 use Rattle.std.specs.Vec.{vec_capacity}
+use Rattle.fsfs_base.specs.Failures.{Rose}
+use Rattle.fsfs_turn.specs.Labels.{IsTidy}
+use Rattle.fsfs_turn.proofs.Tidy.{tidy_then}
 use Rattle.fsfs_script.specs.declared.job_lines.job.Job.{Job}
 use Rattle.fsfs_jobs.specs.declared.answer.JobAnswer.{JobAnswer}
 use Rattle.fsfs_job_run.specs.Workers.Lines.{dealt, disk_faults_in}
@@ -11,6 +14,7 @@ use Rattle.fsfs_job_run.specs.Serial.Jobs.{bench_faults_in}
 use Rattle.fsfs_job_run.proofs.BenchCounts.{benches_more}
 use Rattle.fsfs_job_run.proofs.DiskCounts.{rose_more}
 use Rattle.fsfs_workers.proofs.Sharing.{none_worked, share_others, turn_is_mine, turn_is_others, each_mine, worked_mine}
+use Rattle.fsfs_workers.proofs.Tidied.{tidy_kept}
 use Rattle.fsfs_workers.proofs.share.do_share.Goals as goal
 use Rattle.fsfs_workers.proofs.share.do_share.Goals.{then-has_next, else-has_next}
 
@@ -34,6 +38,7 @@ loop-job-init g c =
       mounted = refl;
       benches = omega (arith, benches);
       later = omega arith;
+      tidy = tidy_kept (Rose (g.T.Turns.faults c.args.turns) (g.T.Turns.faults c.args.turns)) (g.T.Turns.own c.args.turns) (g.T.Turns.own c.args.turns) refl;
     }
 
 pub loop-job-preserved : goal.loop-job-preserved
@@ -41,6 +46,7 @@ loop-job-preserved g c =
     let inv = c.loop-job.invariant in
     let knows = g.T.Turns.knows in
     let count = g.T.Turns.faults in
+    let own = g.T.Turns.own in
     let n = c.args.share.workers in
     let b = c.args.share.before in
     let jobs = c.args.jobs.now in
@@ -73,6 +79,8 @@ loop-job-preserved g c =
             mounted = ap (λ t. (g.T.Turns.mounting t).mount) w.turns-is ∙ did.mounted ∙ inv.mounted;
             benches = let more = benches_more had answer (g.T.Turns.mounting c.args.turns).bench_faults (g.T.Turns.mounting c.loop-job.turns).bench_faults (g.T.Turns.mounting w.do_job-after.result.0).bench_faults inv.benches did.benches in let e = ap bench_faults_in are in omega (arith, more, e, ap (λ t. (g.T.Turns.mounting t).bench_faults) w.turns-is);
             later = omega (arith, same, did.later, inv.later);
+            tidy = subst (λ t. IsTidy (Rose (count c.args.turns) (count t)) (own c.args.turns) (own t)) (sym w.turns-is)
+                (tidy_then (count c.args.turns) (count c.loop-job.turns) (count w.do_job-after.result.0) (own c.args.turns) (own c.loop-job.turns) (own w.do_job-after.result.0) inv.later did.later inv.tidy did.tidy);
           }
       | else-has_next w ↦
           let o = c.has_next.ensures.others w.if-has_next.false in
@@ -96,6 +104,7 @@ loop-job-preserved g c =
             mounted = ap (λ t. (g.T.Turns.mounting t).mount) w.turns-is ∙ inv.mounted;
             benches = let e = ap bench_faults_in are in omega (arith, inv.benches, e, ap (λ t. (g.T.Turns.mounting t).bench_faults) w.turns-is);
             later = omega (arith, same, inv.later);
+            tidy = subst (λ t. IsTidy (Rose (count c.args.turns) (count t)) (own c.args.turns) (own t)) (sym w.turns-is) inv.tidy;
           }
     ]
 

@@ -1,6 +1,8 @@
 use Rattle.std.proofs.Common.{◌≡◌, ◌<◌, ◌≤◌, take, length}
 use Rattle.std.specs.Prelude.{None, true, vec_len}
 use Rattle.std.specs.Vec.{vec_capacity}
+use Rattle.fsfs_base.specs.Failures.{Rose}
+use Rattle.fsfs_turn.specs.Labels.{IsTidy}
 use Rattle.fsfs_turn.specs.Views.{View}
 use Rattle.fsfs_job_run.specs.Workers.Lines.{dealt, disk_faults_in, RoseBy}
 use Rattle.fsfs_job_run.specs.Workers.Passes.{WorkedSo}
@@ -25,4 +27,5 @@ invariant-loop-job g l = record {
   mounted : (g.T.Turns.mounting l.turns).mount ≡ (g.T.Turns.mounting l.fn.turns).mount;
   benches : RoseBy (bench_faults_in l.answers.items) (g.T.Turns.mounting l.fn.turns).bench_faults (g.T.Turns.mounting l.turns).bench_faults;
   later : g.T.Turns.faults l.fn.turns ≤ g.T.Turns.faults l.turns;
+  tidy : IsTidy (Rose (g.T.Turns.faults l.fn.turns) (g.T.Turns.faults l.turns)) (g.T.Turns.own l.fn.turns) (g.T.Turns.own l.turns);
 }

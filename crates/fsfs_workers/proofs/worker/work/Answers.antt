@@ -1,5 +1,9 @@
 use Rattle.std.proofs.Common.{◌≡◌, ◌∙◌, sym, ap, subst, true, arith}
+use Rattle.std.specs.Prelude.{Some}
+use Rattle.fsfs_base.specs.Failures.{Rose}
+use Rattle.fsfs_turn.specs.Labels.{IsTidy}
 use Rattle.fsfs_turn.specs.Views.{View}
+use Rattle.fsfs_pass.specs.declared.seats.seat_view.SeatView.{SeatView}
 use Rattle.fsfs_pass.specs.Passes.{Seating}
 use Rattle.fsfs_pass.specs.Seats.{view_of}
 use Rattle.fsfs_job_run.specs.Workers.Lines.{dealt}
@@ -41,6 +45,7 @@ returns-clause-worked g c =
       each = s.each;
       cause = let a = ap (λ z. z.me.0.failures) was in let b = ap (λ z. z.me.0.failures) is in omega (arith, a, b, s.cause);
       benches = let a = ap (λ z. z.me.0.bench_failures) was in let b = ap (λ z. z.me.0.bench_failures) is in omega (arith, a, b, s.benches);
+      tidy = subst (λ (x : SeatView × SeatView). IsTidy (Rose x.0.failures x.1.failures) (Some x.0.own) (Some x.1.own)) (λ i. (ap (λ z. z.me.0) was i, ap (λ z. z.me.0) (sym is) i)) s.tidy;
       rests = record {
         sitting = c.into_seat.ensures.sitting;
         outside = λ told. let had : seat.told ≡ true = sym (ap (λ z. z.me.0.told) was) ∙ sym s.duty ∙ sym (ap (λ z. z.me.0.told) is) ∙ told in sym (ap (λ (z : View). z.section) (after had)) ∙ (known had).2;

@@ -6,7 +6,7 @@ use Rattle.fsfs_pass.specs.Seats.{view_of}
 use Rattle.fsfs_pass.specs.SeatCalls.Made.{risen}
 use Rattle.fsfs_disk.specs.Labels.{label_of, with_label}
 use Rattle.fsfs_turn.proofs.Knowing.{kept_label, unkept_label, empty_told}
-use Rattle.fsfs_pass.specs.SeatCalls.Tells.{BenchedBy, MayKeep}
+use Rattle.fsfs_pass.specs.SeatCalls.Tells.{BenchedBy, MayKeep, owning}
 use Rattle.fsfs_pass.proofs.Answering.{later_call, later_so, made_keep, back_so, before_so, may_so, was_so, benched_so, benched_pack_so, cause_so}
 use Rattle.fsfs_pass.proofs.MetLabels.{relabels_on, may_relabel_on, empty_on}
 use Rattle.fsfs_pass.proofs.seat_calls.labels.bench.Goals as goal
@@ -14,7 +14,6 @@ use Rattle.fsfs_pass.proofs.seat_calls.labels.bench.Goals as goal
 pub give_benched-requires-clause-made : goal.give_benched-requires-clause-made
 give_benched-requires-clause-made g c = (
   c.take-disk.result,
-  (label_of c.args.label.now),
   ap (λ m. m.0.hand) c.take-disk.ensures.out,
   later_call c.take-disk.result c.bench-answer.new.self c.bench-answer.result c.bench-answer.ensures.mounted c.bench-answer.ensures.flag c.bench-answer.ensures.cause c.bench-answer.ensures.benches,
   made_keep c.bench-answer.new.self.failed (label_of c.args.label.now) c.take-disk.result.trace c.bench-answer.new.self.trace c.bench-answer.result c.bench-answer.ensures.flag c.bench-answer.ensures.ok c.bench-answer.ensures.err,
@@ -22,7 +21,9 @@ give_benched-requires-clause-made g c = (
 )
 
 pub returns-clause-back : goal.returns-clause-back
-returns-clause-back g c = back_so c.bench-answer.new.self.failed (is_err c.bench-answer.result) c.args.seat.now.me.0 c.take-disk.new.seat.me.0 c.give_benched.new.seat.me.0 (Out c.take-disk.result) (ap (λ m. m.0) c.take-disk.ensures.out) c.bench-answer.ensures.flag c.give_benched.ensures.given.back
+returns-clause-back g c =
+    let l = label_of c.args.label.now in
+    back_so c.bench-answer.new.self.failed (is_err c.bench-answer.result) (owning (with_label l c.args.seat.now.me.0.own) c.args.seat.now.me.0) (owning (with_label l c.take-disk.new.seat.me.0.own) c.take-disk.new.seat.me.0) c.give_benched.new.seat.me.0 (Out c.take-disk.result) (ap (λ m. owning (with_label l m.0.own) m.0) c.take-disk.ensures.out) c.bench-answer.ensures.flag c.give_benched.ensures.given.back
 
 pub returns-clause-made : goal.returns-clause-made
 returns-clause-made g c told x may = benched_so c.bench-answer.new.self.failed (view_of c.args.seat.now.me.0) (view_of c.give_benched.new.seat.me.0) x c.bench-answer.result c.bench-answer.ensures.flag (before_so (λ v. BenchedBy c.bench-answer.new.self.failed v (view_of c.give_benched.new.seat.me.0)) c.args.seat.now.me.0 c.take-disk.new.seat.me.0 (Out c.take-disk.result) (ap (λ m. m.0) c.take-disk.ensures.out) c.give_benched.ensures.given.step told) may

@@ -1,16 +1,18 @@
-use Rattle.std.proofs.Common.{sym, ap, subst, ◌∙◌, ◌≡◌}
+use Rattle.std.proofs.Common.{inr, sym, ap, subst, ◌∙◌, ◌≡◌}
 use Rattle.fsfs_base.specs.declared.places.place.DiskPlace.TheVariants.{MakeBench}
-use Rattle.fsfs_disk.specs.Labels.{label_of}
+use Rattle.std.specs.Prelude.{Some}
+use Rattle.fsfs_disk.specs.Labels.{label_of, with_label}
 use Rattle.fsfs_turn.specs.Packing.{CanBench, DoneBeside, MayBenchPack}
 use Rattle.fsfs_turn.specs.Views.{Answers}
 use Rattle.fsfs_turn.specs.Learning.{MayMake, BenchMade}
 use Rattle.fsfs_pass.specs.declared.seats.seat_view.SeatView.{SeatView}
-use Rattle.fsfs_pass.proofs.Turning.{Keeps, back_keeps, low_on, knows_went, sits_so, stays, mounted_still}
+use Rattle.fsfs_pass.specs.SeatCalls.Tells.{owning}
+use Rattle.fsfs_pass.proofs.Turning.{Keeps, back_keeps, own_keeps, ok_always, err_always, low_on, knows_went, sits_so, stays, mounted_still}
 use Rattle.fsfs_pass.proofs.turns.PassTurnsTurns.bench.Goals as goal
 
 pub invariant_of-self : goal.invariant_of-self
 invariant_of-self g c =
-    let k : Keeps c.args.self.now.seat.me.0 c.bench.new.seat.me.0 = back_keeps _ c.args.self.now.seat.me.0 c.bench.new.seat.me.0 c.bench.ensures.back c.bench.ensures.tells c.bench.ensures.later in
+    let k : Keeps c.args.self.now.seat.me.0 c.bench.new.seat.me.0 = own_keeps (with_label (label_of c.args.label.now) c.args.self.now.seat.me.0.own) c.args.self.now.seat.me.0 c.bench.new.seat.me.0 (back_keeps _ (owning (with_label (label_of c.args.label.now) c.args.self.now.seat.me.0.own) c.args.self.now.seat.me.0) c.bench.new.seat.me.0 c.bench.ensures.back c.bench.ensures.tells c.bench.ensures.later) in
     record {
       sits = (c.bench.ensures.same.0 ∙ c.args.self.now.sits.0, c.args.self.now.sits.1, c.args.self.now.sits.2, c.bench.ensures.same.2);
       layout_is = k.layout ∙ c.args.self.now.layout_is;
@@ -41,3 +43,9 @@ returns-clause-mounted g c =
     let kin : c.bench.new.seat.me.0.kin ≡ c.args.self.now.seat.me.0.kin = ap {A = SeatView} (λ z. z.kin) c.bench.ensures.back in
     let benches : c.bench.new.seat.me.0.bench_failures ≡ c.args.self.now.seat.me.0.bench_failures = ap {A = SeatView} (λ z. z.bench_failures) c.bench.ensures.back in
     mounted_still (g.D.Disk.mount_path c.args.self.now.first.value) c.args.self.now.seat.table_id c.bench.new.seat.table_id c.args.self.now.seat.me.0 c.bench.new.seat.me.0 c.bench.ensures.same.0 kin benches
+
+pub returns-clause-owned : goal.returns-clause-owned
+returns-clause-owned g c = ok_always c.bench.result (ap {A = SeatView} (λ z. Some z.own) c.bench.ensures.back)
+
+pub returns-clause-own_left : goal.returns-clause-own_left
+returns-clause-own_left g c = err_always c.bench.result (inr (ap {A = SeatView} (λ z. Some z.own) c.bench.ensures.back))

@@ -1,5 +1,5 @@
 use Rattle.std.proofs.Common.{sym, ap, subst, ◌∙◌, ◌≡◌}
-use Rattle.std.specs.Prelude.{option_map, unwrap_or}
+use Rattle.std.specs.Prelude.{is_err, option_map, unwrap_or}
 use Rattle.fsfs_base.specs.declared.places.place.DiskPlace.TheVariants.{Remove}
 use Rattle.fsfs_disk.specs.Labels.{label_of}
 use Rattle.fsfs_machine.specs.Kept.{IsIn}
@@ -8,14 +8,14 @@ use Rattle.fsfs_turn.specs.Views.{View, Answers, is_held}
 use Rattle.fsfs_turn.specs.Learning.{MayPurge, Purged, SpentPurged}
 use Rattle.fsfs_pass.specs.declared.seats.seat_view.SeatView.{SeatView}
 use Rattle.fsfs_pass.specs.Seats.{view_of}
-use Rattle.fsfs_pass.specs.SeatCalls.Tells.{counting}
-use Rattle.fsfs_pass.proofs.Turning.{Keeps, back_keeps, count_keeps, count_dropped, low_on, can_drop, knows_went, sits_so, stays, seated}
+use Rattle.fsfs_pass.specs.SeatCalls.Tells.{counting, disowned, owning}
+use Rattle.fsfs_pass.proofs.Turning.{Keeps, back_keeps, count_keeps, count_dropped, disowned_so, own_left_so, low_on, can_drop, knows_went, sits_so, stays, seated}
 use Rattle.fsfs_pass.proofs.turns.PassTurnsTurns.drop_bench.Goals as goal
 
 pub invariant_of-self : goal.invariant_of-self
 invariant_of-self g c =
     let n = unwrap_or (option_map g.D.Bench.Bench.faults c.args.bench) 0 in
-    let k : Keeps c.args.self.now.seat.me.0 c.drop_bench.new.seat.me.0 = count_keeps n c.args.self.now.seat.me.0 c.drop_bench.new.seat.me.0 (back_keeps _ (counting n c.args.self.now.seat.me.0) c.drop_bench.new.seat.me.0 c.drop_bench.ensures.back c.drop_bench.ensures.tells c.drop_bench.ensures.later) in
+    let k : Keeps c.args.self.now.seat.me.0 c.drop_bench.new.seat.me.0 = count_keeps n _ c.args.self.now.seat.me.0 c.drop_bench.new.seat.me.0 (back_keeps _ (counting n (owning (disowned (is_err c.drop_bench.result) (label_of c.args.label.now) c.args.self.now.seat.me.0.own) c.args.self.now.seat.me.0)) c.drop_bench.new.seat.me.0 c.drop_bench.ensures.back c.drop_bench.ensures.tells c.drop_bench.ensures.later) in
     record {
       sits = (c.drop_bench.ensures.same.0 ∙ c.args.self.now.sits.0, c.args.self.now.sits.1, c.args.self.now.sits.2, c.drop_bench.ensures.same.2);
       layout_is = k.layout ∙ c.args.self.now.layout_is;
@@ -53,3 +53,9 @@ returns-clause-mounted g c =
 
 pub returns-clause-benches : goal.returns-clause-benches
 returns-clause-benches g c = count_dropped g.D.Bench.Bench.faults c.args.bench c.args.self.now.seat.me.0.bench_failures c.drop_bench.new.seat.me.0.bench_failures (ap {A = SeatView} (λ z. z.bench_failures) c.drop_bench.ensures.back)
+
+pub returns-clause-disowned : goal.returns-clause-disowned
+returns-clause-disowned g c = disowned_so c.drop_bench.result (label_of c.args.label.now) c.args.self.now.seat.me.0.own c.drop_bench.new.seat.me.0.own (ap {A = SeatView} (λ z. z.own) c.drop_bench.ensures.back)
+
+pub returns-clause-own_left : goal.returns-clause-own_left
+returns-clause-own_left g c = own_left_so c.drop_bench.result (label_of c.args.label.now) c.args.self.now.seat.me.0.own c.drop_bench.new.seat.me.0.own (ap {A = SeatView} (λ z. z.own) c.drop_bench.ensures.back)

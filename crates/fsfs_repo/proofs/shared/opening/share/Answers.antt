@@ -48,6 +48,7 @@ returns-clause-fresh g c =
           ∙ first_met c.args.said.layout c.args.said.min_unpacked_rev c.args.said.youngest (g.D.Disk.trace c.args.disk) c.args.about.now.value c.requires.known ∙ ap (λ d. g.D.Disk.trace d) (sym c.of-first.ensures),
       ap (λ m. m.0.failures) c.look-youngest.ensures.same.2 ∙ ap (λ m. m.0.failures) c.in-Ok.ensures.sized.3 ∙ first_unfailed c.args.said.layout c.args.said.min_unpacked_rev c.args.said.youngest (g.D.Disk.trace c.args.disk) c.args.about.now.value c.requires.known,
       ap (λ m. m.0.bench_failures) c.look-youngest.ensures.same.2 ∙ ap (λ m. m.0.bench_failures) c.in-Ok.ensures.sized.3 ∙ first_sound c.args.said.layout c.args.said.min_unpacked_rev c.args.said.youngest (g.D.Disk.trace c.args.disk) c.args.about.now.value c.requires.known,
+      ap (λ m. m.0.own) c.look-youngest.ensures.same.2 ∙ ap (λ m. m.0.own) c.in-Ok.ensures.sized.3,
     )
 
 pub returns-clause-known : goal.returns-clause-known

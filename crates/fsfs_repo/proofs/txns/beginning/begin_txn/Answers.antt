@@ -1,4 +1,5 @@
 use Rattle.std.proofs.Common.{◌≡◌, codes, inl, sym, subst, ◌∙◌, arith}
+use Rattle.std.specs.Prelude.{option_map}
 use Rattle.fsfs_base.specs.Failures.{Rose}
 use Rattle.fsfs_disk.specs.Labels.{with_label}
 use Rattle.fsfs_base.specs.declared.fields.txn_name.TxnName.{TxnName}
@@ -6,12 +7,11 @@ use Rattle.fsfs_base.proofs.ResultLemmas.{if_ok, if_err, on_ok, on_err}
 use Rattle.fsfs_disk.specs.Transactions.Txns.{pair_of, txn_label}
 use Rattle.fsfs_begin.specs.Benches.{TellsRoot}
 use Rattle.fsfs_begin.specs.Labels.{IsNew}
-use Rattle.fsfs_turn.specs.Labels.{Relabels}
 use Rattle.fsfs_turn.specs.Mountings.{RoseBy}
 use Rattle.fsfs_begin.specs.Faults.{bench_faults_in}
 use Rattle.fsfs_begin.proofs.Moving.{moved_on}
 use Rattle.fsfs_repo.proofs.Begun.{begins_as, among_as, begun_moved, begun_given}
-use Rattle.fsfs_repo.proofs.Unlisted.{forgets, relabelled}
+use Rattle.fsfs_repo.proofs.Unlisted.{forgets}
 use Rattle.fsfs_repo.proofs.txns.beginning.begin_txn.Goals as goal
 
 -- ---- the calls are due
@@ -74,24 +74,22 @@ returns-in-Err-clause-unlisted g c = on_err c.begin-back.result.1 c.in-Err.fault
 
 pub returns-in-Ok-hold-clause-listed : goal.returns-in-Ok-hold-clause-listed
 returns-in-Ok-hold-clause-listed g c =
-    let bound = g.T.Turns.bound c.args.turns in
-    let old = g.T.Turns.labels c.args.turns in
-    let new = g.T.Turns.labels c.begin-back.result.0 in
-    subst (λ (n : TxnName). Relabels bound (with_label (txn_label (pair_of n))) old new) (sym c.in-Ok-hold.ensures.name)
-    (if_ok c.begin-back.result.1 c.in-Ok.begun (λ z. Relabels bound (with_label (txn_label (pair_of z.name))) old new) c.in-Ok.is c.begin-back.ensures.listed)
+    let old = g.T.Turns.own c.args.turns in
+    let new = g.T.Turns.own c.begin-back.result.0 in
+    subst (λ (n : TxnName). new ≡ option_map (with_label (txn_label (pair_of n))) old) (sym c.in-Ok-hold.ensures.name)
+    (if_ok c.begin-back.result.1 c.in-Ok.begun (λ z. new ≡ option_map (with_label (txn_label (pair_of z.name))) old) c.in-Ok.is c.begin-back.ensures.listed)
 
 pub returns-in-Err-hold-clause-unlisted : goal.returns-in-Err-hold-clause-unlisted
-returns-in-Err-hold-clause-unlisted g c = λ free.
+returns-in-Err-hold-clause-unlisted g c =
     let begun = c.in-Ok.begun in
-    let bound = g.T.Turns.bound c.args.turns in
-    let old = g.T.Turns.labels c.args.turns in
-    let mid = g.T.Turns.labels c.begin-back.result.0 in
-    let came = if_ok c.begin-back.result.1 begun (λ z. Relabels bound (with_label (txn_label (pair_of z.name))) old mid) c.in-Ok.is c.begin-back.ensures.listed in
+    let old = g.T.Turns.own c.args.turns in
+    let mid = g.T.Turns.own c.begin-back.result.0 in
+    let came = if_ok c.begin-back.result.1 begun (λ z. mid ≡ option_map (with_label (txn_label (pair_of z.name))) old) c.in-Ok.is c.begin-back.ensures.listed in
     forgets (IsNew (g.T.Turns.knows c.args.turns)) c.args.base begun.name (Rose (g.T.Turns.faults c.begin-back.result.0) (g.T.Turns.faults c.forget.new.turns)) (Rose (g.T.Turns.faults c.args.turns) (g.T.Turns.faults c.forget.new.turns))
-    old mid (g.T.Turns.labels c.forget.new.turns)
+    old mid (g.T.Turns.own c.forget.new.turns)
     (λ v known none. let b = if_ok c.begin-back.result.1 begun _ c.in-Ok.is (c.begin-back.ensures.begun v known none) in b.2.above)
-    (if_ok c.begin-back.result.1 begun (λ z. z.name.base ≡ c.args.base) c.in-Ok.is c.begin-back.ensures.base) (relabelled bound (with_label (txn_label (pair_of begun.name))) old mid free came)
-    (λ rose. omega (arith, rose, c.begin-back.ensures.later)) (c.forget.ensures.unlisted (c.begin-back.ensures.duty ∙ free))
+    (if_ok c.begin-back.result.1 begun (λ z. z.name.base ≡ c.args.base) c.in-Ok.is c.begin-back.ensures.base) came
+    (λ rose. omega (arith, rose, c.begin-back.ensures.later)) c.forget.ensures.unlisted
 
 -- ---- the benches
 

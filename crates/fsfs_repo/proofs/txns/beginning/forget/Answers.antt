@@ -14,6 +14,6 @@ returns-clause-moved g c = λ v known none given.
     (d.0, d.2, spent_moved c.args.name.now.number.number d.1 v d.0 none d.4)
 
 pub returns-clause-unlisted : goal.returns-clause-unlisted
-returns-clause-unlisted g c = λ free.
-    forgotten (g.T.Turns.bound c.args.turns.now) (txn_label (pair_of c.args.name.now)) (Rose (g.T.Turns.faults c.args.turns.now) (g.T.Turns.faults c.drop_bench.new.self)) (g.T.Turns.labels c.args.turns.now) (g.T.Turns.labels c.drop_bench.new.self)
-    c.drop_bench.result free c.drop_bench.ensures.dropped c.drop_bench.ensures.cause.failed
+returns-clause-unlisted g c =
+    forgotten (txn_label (pair_of c.args.name.now)) (Rose (g.T.Turns.faults c.args.turns.now) (g.T.Turns.faults c.drop_bench.new.self)) (g.T.Turns.own c.args.turns.now) (g.T.Turns.own c.drop_bench.new.self)
+    c.drop_bench.result c.drop_bench.ensures.disowned c.drop_bench.ensures.cause.failed

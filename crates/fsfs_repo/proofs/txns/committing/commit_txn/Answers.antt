@@ -56,15 +56,15 @@ returns-clause-named g c = let n = c.args.txn.own.txn in c.end-answer.ensures.na
 -- ---- the labels
 
 pub returns-in-Err-clause-listed : goal.returns-in-Err-clause-listed
-returns-in-Err-clause-listed g c = λ free. refl
+returns-in-Err-clause-listed g c = refl
 
 pub returns-clause-listed : goal.returns-clause-listed
 returns-clause-listed g c =
     let back = c.commit-back.result.0 in
     let last = c.end-answer.new.turns in
-    leaves_labels c.end-answer.result c.args.txn.own.txn c.name-name.result (g.T.Turns.bound c.args.turns) (g.T.Turns.bound back) (Rose (g.T.Turns.faults back) (g.T.Turns.faults last)) (Rose (g.T.Turns.faults c.args.turns) (g.T.Turns.faults last))
-    (g.T.Turns.labels c.args.turns) (g.T.Turns.labels back) (g.T.Turns.labels last)
-    c.name-name.ensures c.commit-back.ensures.duty c.commit-back.ensures.listed (λ rose. omega (arith, rose, c.commit-back.ensures.later)) c.end-answer.ensures.listed
+    leaves_labels c.end-answer.result c.args.txn.own.txn c.name-name.result (Rose (g.T.Turns.faults back) (g.T.Turns.faults last)) (Rose (g.T.Turns.faults c.args.turns) (g.T.Turns.faults last))
+    (g.T.Turns.own c.args.turns) (g.T.Turns.own back) (g.T.Turns.own last)
+    c.name-name.ensures c.commit-back.ensures.listed (λ rose. omega (arith, rose, c.commit-back.ensures.later)) c.end-answer.ensures.listed
 
 -- ---- the benches
 

@@ -38,7 +38,7 @@ pub returns-then-is_spent-clause-listed : goal.returns-then-is_spent-clause-list
 returns-then-is_spent-clause-listed g c = (c.drop_bench-then-is_spent.result, c.drop_bench-then-is_spent.ensures.listed)
 
 pub returns-clause-listed : goal.returns-clause-listed
-returns-clause-listed g c = λ free. refl
+returns-clause-listed g c = refl
 
 pub returns-clause-named : goal.returns-clause-named
 returns-clause-named g c = λ n is. of_txn c.args.left c.in-Txn.txn (λ t. t.own.txn ≡ n) c.in-Txn.is is

@@ -1,11 +1,11 @@
-use Rattle.std.proofs.Common.{refl, sym, subst}
-use Rattle.std.specs.Prelude.{OnOk, OnErr}
+use Rattle.std.proofs.Common.{◌≡◌, refl, sym, subst}
+use Rattle.std.specs.Prelude.{OnOk, OnErr, option_map}
 use Rattle.fsfs_disk.specs.Labels.{without_label}
 use Rattle.fsfs_base.specs.declared.fields.txn_name.TxnName.{TxnName}
 use Rattle.fsfs_machine.specs.Kept.{IsIn}
 use Rattle.fsfs_machine.specs.Machine.{begun_txn}
 use Rattle.fsfs_disk.specs.Transactions.Txns.{pair_of, txn_label}
-use Rattle.fsfs_turn.specs.Labels.{MayRelabel, Relabels}
+use Rattle.fsfs_turn.specs.Labels.{MayOwn}
 use Rattle.fsfs_turn.specs.Learning.{drawn_of}
 use Rattle.fsfs_turn.specs.Mountings.{RoseBy}
 use Rattle.fsfs_begin.proofs.Dropping.{begun_may}
@@ -21,17 +21,15 @@ purge-requires g c = record {
 
 pub returns-clause-others : goal.returns-clause-others
 returns-clause-others g c =
-    let bound = g.T.Turns.bound c.args.turns.now in
-    let old = g.T.Turns.labels c.args.turns.now in
-    let new = g.T.Turns.labels c.purge.new.turns in
-    subst (λ (n : TxnName). OnOk c.purge.result (Relabels bound (without_label (txn_label (pair_of n))) old new)) c.bench_of-name.ensures.name c.purge.ensures.others
+    let old = g.T.Turns.own c.args.turns.now in
+    let new = g.T.Turns.own c.purge.new.turns in
+    subst (λ (n : TxnName). OnOk c.purge.result (new ≡ option_map (without_label (txn_label (pair_of n))) old)) c.bench_of-name.ensures.name c.purge.ensures.others
 
 pub returns-clause-left : goal.returns-clause-left
 returns-clause-left g c =
-    let bound = g.T.Turns.bound c.args.turns.now in
-    let old = g.T.Turns.labels c.args.turns.now in
-    let new = g.T.Turns.labels c.purge.new.turns in
-    subst (λ (n : TxnName). OnErr c.purge.result (MayRelabel bound (without_label (txn_label (pair_of n))) old new)) c.bench_of-name.ensures.name c.purge.ensures.left
+    let old = g.T.Turns.own c.args.turns.now in
+    let new = g.T.Turns.own c.purge.new.turns in
+    subst (λ (n : TxnName). OnErr c.purge.result (MayOwn (without_label (txn_label (pair_of n))) old new)) c.bench_of-name.ensures.name c.purge.ensures.left
 
 pub returns-clause-purged : goal.returns-clause-purged
 returns-clause-purged g c = λ v known none given some.

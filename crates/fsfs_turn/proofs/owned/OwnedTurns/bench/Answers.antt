@@ -1,8 +1,10 @@
-use Rattle.fsfs_disk.specs.Labels.{label_of}
-use Rattle.fsfs_disk.specs.Trace.{KeepLabel}
+use Rattle.std.specs.Prelude.{option_map}
+use Rattle.fsfs_disk.specs.Labels.{label_of, with_label}
+use Rattle.fsfs_disk.specs.Trace.{KeepLabel, labels_now}
 use Rattle.fsfs_base.specs.declared.places.place.DiskPlace.TheVariants.{MakeBench}
 use Rattle.fsfs_turn.proofs.Knowing.{make_known, keep_known, kept_label, unkept_label, empty_told}
 use Rattle.fsfs_turn.proofs.Alone.{goes_by, make_alone, beside_alone}
+use Rattle.fsfs_turn.proofs.Relabelling.{relabelled, may_relabelled}
 use Rattle.fsfs_turn.proofs.owned.OwnedTurns.bench.Goals as goal
 
 pub returns-clause-turned : goal.returns-clause-turned
@@ -23,3 +25,9 @@ returns-clause-left g c = unkept_label (label_of c.args.label.now) (g.D.Disk.tra
 
 pub returns-clause-empty : goal.returns-clause-empty
 returns-clause-empty g c = empty_told (label_of c.args.label.now) (g.D.Disk.trace c.args.self.now.disk) (g.D.Disk.trace c.bench.new.self) (λ b. g.D.Bench.Bench.contents b) c.bench.result c.bench.ensures.ok c.bench.ensures.empty
+
+pub returns-clause-owned : goal.returns-clause-owned
+returns-clause-owned g c = relabelled (with_label (label_of c.args.label.now)) (option_map labels_now (g.D.Disk.trace c.args.self.now.disk)) (option_map labels_now (g.D.Disk.trace c.bench.new.self)) c.bench.result (returns-clause-kept g c)
+
+pub returns-clause-own_left : goal.returns-clause-own_left
+returns-clause-own_left g c = may_relabelled (with_label (label_of c.args.label.now)) (option_map labels_now (g.D.Disk.trace c.args.self.now.disk)) (option_map labels_now (g.D.Disk.trace c.bench.new.self)) c.bench.result (returns-clause-left g c)

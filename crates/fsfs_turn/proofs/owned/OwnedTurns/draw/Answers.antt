@@ -15,4 +15,4 @@ returns-clause-drawn g c = λ v known begun at_most.
     c.name-current.result c.args.buffer.now c.read.new.buffer c.read.result c.read.ensures.bytes c.name-current.ensures v c.args._base known.0 begun at_most)
 
 pub returns-clause-listed : goal.returns-clause-listed
-returns-clause-listed g c = λ free. ap (λ o. option_map labels_now o) c.read.ensures.same
+returns-clause-listed g c = ap (λ o. option_map labels_now o) c.read.ensures.same

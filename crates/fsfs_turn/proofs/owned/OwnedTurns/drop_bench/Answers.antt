@@ -1,8 +1,10 @@
-use Rattle.fsfs_disk.specs.Labels.{label_of}
-use Rattle.fsfs_disk.specs.Trace.{DropLabel}
+use Rattle.std.specs.Prelude.{option_map}
+use Rattle.fsfs_disk.specs.Labels.{label_of, without_label}
+use Rattle.fsfs_disk.specs.Trace.{DropLabel, labels_now}
 use Rattle.fsfs_base.specs.declared.places.place.DiskPlace.TheVariants.{Remove}
 use Rattle.fsfs_turn.proofs.Knowing.{purge_known, spent_known, drop_known, dropped_label, undropped_label}
 use Rattle.fsfs_turn.proofs.Alone.{goes_if_there, purge_alone, spent_alone, beside_alone}
+use Rattle.fsfs_turn.proofs.Relabelling.{disowned, may_relabelled}
 use Rattle.fsfs_turn.proofs.owned.OwnedTurns.drop_bench.Goals as goal
 
 pub returns-clause-purged : goal.returns-clause-purged
@@ -28,3 +30,9 @@ returns-clause-dropped g c = dropped_label (label_of c.args.label.now) (g.D.Disk
 
 pub returns-clause-left : goal.returns-clause-left
 returns-clause-left g c = undropped_label (label_of c.args.label.now) (g.D.Disk.trace c.args.self.now.disk) (g.D.Disk.trace c.drop_bench.new.self) c.drop_bench.result c.drop_bench.ensures.err
+
+pub returns-clause-disowned : goal.returns-clause-disowned
+returns-clause-disowned g c = disowned (label_of c.args.label.now) (option_map labels_now (g.D.Disk.trace c.args.self.now.disk)) (option_map labels_now (g.D.Disk.trace c.drop_bench.new.self)) c.drop_bench.result (returns-clause-dropped g c)
+
+pub returns-clause-own_left : goal.returns-clause-own_left
+returns-clause-own_left g c = may_relabelled (without_label (label_of c.args.label.now)) (option_map labels_now (g.D.Disk.trace c.args.self.now.disk)) (option_map labels_now (g.D.Disk.trace c.drop_bench.new.self)) c.drop_bench.result (returns-clause-left g c)

@@ -12,4 +12,4 @@ returns-clause-turned g c = λ v known packed.
     (beside_known c.args.self.now.layout c.args.self.now.floor c.args.self.now.young c.args.self.now.stuck Remove (g.D.Disk.trace c.args.self.now.disk) (g.D.Disk.trace c.drop_folder.new.self) c.drop_folder.ensures.same c.drop_folder.result v known.0)
 
 pub returns-clause-listed : goal.returns-clause-listed
-returns-clause-listed g c = λ free. ap (λ o. option_map labels_now o) c.drop_folder.ensures.same
+returns-clause-listed g c = ap (λ o. option_map labels_now o) c.drop_folder.ensures.same

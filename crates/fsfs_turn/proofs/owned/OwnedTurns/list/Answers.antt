@@ -25,4 +25,4 @@ returns-clause-memory g c = λ v known wanting.
     same_alone c.args.self.now.layout c.args.self.now.floor c.args.self.now.young c.args.self.now.stuck (g.D.Disk.trace c.args.self.now.disk) (g.D.Disk.trace c.list.new.self) v (inl c.list.ensures.same) known (still_known c.args.self.now.layout c.args.self.now.floor c.args.self.now.young c.args.self.now.stuck (g.D.Disk.trace c.args.self.now.disk) (g.D.Disk.trace c.list.new.self) c.list.ensures.same v known.0)
 
 pub returns-clause-same : goal.returns-clause-same
-returns-clause-same g c = λ free. ap (λ o. option_map labels_now o) c.list.ensures.same
+returns-clause-same g c = ap (λ o. option_map labels_now o) c.list.ensures.same

@@ -12,4 +12,4 @@ returns-clause-failed g c = λ v place file bytes known due.
     (part_not c.args.self.now.layout c.args.self.now.floor c.args.self.now.young c.args.self.now.stuck (g.D.Disk.trace c.args.self.now.disk) (g.D.Disk.trace c.make_folder.new.self) c.make_folder.ensures.same v place file bytes known.0 due))
 
 pub returns-clause-listed : goal.returns-clause-listed
-returns-clause-listed g c = λ free. ap (λ o. option_map labels_now o) c.make_folder.ensures.same
+returns-clause-listed g c = ap (λ o. option_map labels_now o) c.make_folder.ensures.same

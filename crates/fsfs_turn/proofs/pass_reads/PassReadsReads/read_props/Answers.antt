@@ -13,7 +13,7 @@ use Rattle.fsfs_turn.proofs.pass_reads.PassReadsReads.read_props.Goals as goal
 pub invariant_of-self : goal.invariant_of-self
 invariant_of-self g c = (
   known_on c.self.inside.youngest (g.T.Turns.store c.self.inside.turns) (g.T.Turns.store c.read.new.self) c.self.invariant.0 c.read.ensures.later,
-  goes_on g.T.Turns.knows g.T.Turns.mounting g.T.Turns.bound g.T.Turns.labels c.self.inside.first.value c.self.inside.turns c.read.new.self c.self.invariant.1 c.read.ensures.onward c.read.ensures.mounted c.read.ensures.duty c.read.ensures.listed,
+  goes_on g.T.Turns.knows g.T.Turns.mounting g.T.Turns.bound g.T.Turns.own c.self.inside.first.value c.self.inside.turns c.read.new.self c.self.invariant.1 c.read.ensures.onward c.read.ensures.mounted c.read.ensures.duty c.read.ensures.listed,
 )
 
 pub returns-clause-met : goal.returns-clause-met

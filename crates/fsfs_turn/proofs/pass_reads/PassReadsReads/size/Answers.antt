@@ -7,7 +7,7 @@ use Rattle.fsfs_turn.proofs.pass_reads.PassReadsReads.size.Goals as goal
 pub invariant_of-self : goal.invariant_of-self
 invariant_of-self g c = (
   known_on c.self.inside.youngest (g.T.Turns.store c.self.inside.turns) (g.T.Turns.store c.size.new.self) c.self.invariant.0 c.size.ensures.later,
-  goes_on g.T.Turns.knows g.T.Turns.mounting g.T.Turns.bound g.T.Turns.labels c.self.inside.first.value c.self.inside.turns c.size.new.self c.self.invariant.1 c.size.ensures.onward c.size.ensures.mounted c.size.ensures.duty c.size.ensures.listed,
+  goes_on g.T.Turns.knows g.T.Turns.mounting g.T.Turns.bound g.T.Turns.own c.self.inside.first.value c.self.inside.turns c.size.new.self c.self.invariant.1 c.size.ensures.onward c.size.ensures.mounted c.size.ensures.duty c.size.ensures.listed,
 )
 
 pub returns-clause-later : goal.returns-clause-later

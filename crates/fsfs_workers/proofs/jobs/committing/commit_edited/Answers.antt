@@ -25,3 +25,11 @@ returns-in-Err-clause-works g c = λ v x k known none e on within few.
 
 pub returns-in-Err-clause-benches : goal.returns-in-Err-clause-benches
 returns-in-Err-clause-benches g c = omega (arith, c.purged.ensures.benches)
+
+-- ---- the labels
+
+pub returns-in-Ok-clause-listed : goal.returns-in-Ok-clause-listed
+returns-in-Ok-clause-listed g c = c.commit_with.ensures.listed
+
+pub returns-in-Err-clause-listed : goal.returns-in-Err-clause-listed
+returns-in-Err-clause-listed g c = c.purged.ensures.listed

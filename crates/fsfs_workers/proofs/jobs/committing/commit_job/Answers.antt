@@ -1,8 +1,11 @@
 use Rattle.std.proofs.Common.{◌≡◌, ⊎_elim, sym, ap, subst, ◌∙◌, arith}
+use Rattle.std.specs.Prelude.{option_map}
+use Rattle.fsfs_disk.specs.Labels.{with_label}
+use Rattle.fsfs_disk.specs.Transactions.Txns.{pair_of, txn_label}
 use Rattle.fsfs_turn.specs.Mountings.{RoseBy}
 use Rattle.fsfs_job_run.specs.Serial.Jobs.{bench_told}
 use Rattle.fsfs_base.specs.Failures.{Rose}
-use Rattle.fsfs_base.proofs.ResultLemmas.{if_ok, if_err}
+use Rattle.fsfs_base.proofs.ResultLemmas.{if_ok, if_err, on_err}
 use Rattle.fsfs_script.specs.declared.job_lines.job.Job.TheVariants as jobs
 use Rattle.fsfs_jobs.specs.declared.answer.JobAnswer.TheVariants.{Stopped}
 use Rattle.fsfs_job_run.specs.BeginFaults.{IfDisk, bench_faults_in}
@@ -15,6 +18,7 @@ use Rattle.fsfs_workers.proofs.Based.{looked_last, looked_outside, looked_told, 
 use Rattle.fsfs_workers.proofs.Edited.{behind}
 use Rattle.fsfs_workers.proofs.Going.{by_beginning, by_look, goes_on}
 use Rattle.fsfs_workers.proofs.Unbegun.{begun_on, lacking_so, unbegun_so}
+use Rattle.fsfs_workers.proofs.Tidied.{begun_tidy, tidy_behind, tidy_kept, unbegun_tidy}
 use Rattle.fsfs_workers.proofs.jobs.committing.commit_job.Goals as goal
 
 -- ---- the calls are due
@@ -139,3 +143,30 @@ returns-in-Err-begun-clause-benches g c =
     let begun = subst (λ r. RoseBy (bench_faults_in r) (g.T.Turns.mounting c.base_of-youngest.new.turns).bench_faults (g.T.Turns.mounting c.begin_txn-turns.result.0).bench_faults) c.in-Err-begun.is c.begin_txn-turns.ensures.benches in
     let told = ap (λ f. bench_told (Stopped line f)) c.of_begin-fault.ensures ∙ begin_told line c.in-Err-begun.why in
     omega (arith, same, begun, told)
+
+-- ---- the labels
+
+pub returns-in-Err-clause-tidy : goal.returns-in-Err-clause-tidy
+returns-in-Err-clause-tidy g c = tidy_kept _ _ _ c.base_of-youngest.ensures.listed
+
+pub returns-in-Ok-begun-clause-tidy : goal.returns-in-Ok-begun-clause-tidy
+returns-in-Ok-begun-clause-tidy g c =
+    let count = g.T.Turns.faults in
+    let own = g.T.Turns.own in
+    let start = count c.args.turns in
+    let mid = count c.begin_txn-turns.result.0 in
+    let now = count c.edit_and_commit.result.0 in
+    let txn = c.in-Ok-begun.txn in
+    let came = if_ok c.begin_txn-turns.result.1 txn (λ z. own c.begin_txn-turns.result.0 ≡ option_map (with_label (txn_label (pair_of z.own.txn))) (own c.base_of-youngest.new.turns)) c.in-Ok-begun.is c.begin_txn-turns.ensures.listed in
+    tidy_behind (Rose start now) (Rose start now) (own c.args.turns) (own c.base_of-youngest.new.turns) (own c.edit_and_commit.result.0) (λ r. r) c.base_of-youngest.ensures.listed
+    (begun_tidy (Rose mid now) (Rose start now) (txn_label (pair_of txn.own.txn)) (own c.base_of-youngest.new.turns) (own c.begin_txn-turns.result.0) (own c.edit_and_commit.result.0) (λ r. omega (arith, r, c.begin_txn-turns.ensures.later, c.base_of-youngest.ensures.faults)) came c.edit_and_commit.ensures.listed)
+
+pub returns-in-Err-begun-clause-tidy : goal.returns-in-Err-begun-clause-tidy
+returns-in-Err-begun-clause-tidy g c =
+    let count = g.T.Turns.faults in
+    let own = g.T.Turns.own in
+    let start = count c.args.turns in
+    let mid = count c.base_of-youngest.new.turns in
+    let now = count c.begin_txn-turns.result.0 in
+    tidy_behind (Rose mid now) (Rose start now) (own c.args.turns) (own c.base_of-youngest.new.turns) (own c.begin_txn-turns.result.0) (λ r. omega (arith, r, c.base_of-youngest.ensures.faults)) c.base_of-youngest.ensures.listed
+    (unbegun_tidy _ c.in-Ok.base (Rose mid now) (Rose mid now) (own c.base_of-youngest.new.turns) (own c.begin_txn-turns.result.0) (λ r. r) (on_err c.begin_txn-turns.result.1 c.in-Err-begun.why _ c.in-Err-begun.is c.begin_txn-turns.ensures.unlisted))

@@ -12,6 +12,7 @@ use Rattle.fsfs_job_run.proofs.Causes.{bar_fails}
 use Rattle.fsfs_workers.proofs.Answered.{committed_by, barred_by, disk_by, bench_by, back_due}
 use Rattle.fsfs_workers.proofs.Histories.{history_seen}
 use Rattle.fsfs_workers.proofs.NoteLemmas.{pick}
+use Rattle.fsfs_job_run.proofs.Listing.{back_is, back_keeps, bench_unlists, committed_unlists, disk_unlists, unlisted_behind}
 use Rattle.fsfs_workers.proofs.jobs.committing.commit_with.Goals as goal
 
 -- ---- the calls are due
@@ -110,3 +111,23 @@ pub returns-in-BenchFault-clause-benches : goal.returns-in-BenchFault-clause-ben
 returns-in-BenchFault-clause-benches g c =
     let rose = subst (λ a. RoseBy (bench_faults_told a) (g.T.Turns.mounting c.args.turns).bench_faults (g.T.Turns.mounting c.commit_txn-back.result.0).bench_faults) c.in-BenchFault.is c.commit_txn-back.ensures.benches in
     subst (λ (a : JobAnswer). RoseBy (bench_told a) (g.T.Turns.mounting c.args.turns).bench_faults (g.T.Turns.mounting c.commit_txn-back.result.0).bench_faults) (sym c.stopped-in-BenchFault.ensures) rose
+
+-- ---- the labels
+
+pub returns-in-Committed-clause-listed : goal.returns-in-Committed-clause-listed
+returns-in-Committed-clause-listed g c = committed_unlists _ _ _ _ c.commit_txn-back.result.1 c.commit_txn-back.ensures.listed c.in-Committed.rev c.in-Committed.purged c.in-Committed.is
+
+pub returns-in-Barred-clause-listed : goal.returns-in-Barred-clause-listed
+returns-in-Barred-clause-listed g c =
+    let count = g.T.Turns.faults in
+    let start = count c.args.turns in
+    let mid = count c.commit_txn-back.result.0 in
+    let now = count c.purged.new.turns in
+    unlisted_behind (Rose mid now) (Rose start now) _ _ _ _ _ (λ r. omega (arith, r, c.commit_txn-back.ensures.later)) (back_is c.commit_txn-back.result.1 _ c.in-Barred.bar c.in-Barred.txn c.in-Barred.is c.commit_txn-back.ensures.named)
+    (back_keeps _ _ _ _ c.commit_txn-back.result.1 c.commit_txn-back.ensures.listed c.in-Barred.bar c.in-Barred.txn c.in-Barred.is) c.purged.ensures.listed
+
+pub returns-in-DiskFault-clause-listed : goal.returns-in-DiskFault-clause-listed
+returns-in-DiskFault-clause-listed g c = disk_unlists _ _ _ _ c.commit_txn-back.result.1 c.commit_txn-back.ensures.listed c.in-DiskFault.place c.in-DiskFault.is
+
+pub returns-in-BenchFault-clause-listed : goal.returns-in-BenchFault-clause-listed
+returns-in-BenchFault-clause-listed g c = bench_unlists _ _ _ _ c.commit_txn-back.result.1 c.commit_txn-back.ensures.listed c.in-BenchFault.is

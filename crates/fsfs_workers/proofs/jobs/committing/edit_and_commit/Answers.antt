@@ -17,6 +17,7 @@ use Rattle.fsfs_workers.proofs.Edited.{edited_then, edited_as, behind}
 use Rattle.fsfs_workers.proofs.Going.{goes_on, by_look, by_reading}
 use Rattle.fsfs_workers.proofs.Parts.{part_length}
 use Rattle.fsfs_workers.proofs.Refusing.{refused_ends}
+use Rattle.fsfs_job_run.proofs.Listing.{unlisted_behind}
 use Rattle.fsfs_workers.proofs.jobs.committing.edit_and_commit.Goals as goal
 
 -- ---- the calls are due
@@ -119,3 +120,19 @@ returns-in-Err-clause-benches g c =
     let same = ap (λ m. m.bench_faults) c.edit-back.ensures.mounted in
     let few = edit_told stopped.line stopped.fault k (edits_blamed c.edit-back.result.1 stopped stopped.fault (0 < k) c.in-Err.is refl c.edit-back.ensures.failed) in
     omega (arith, few, same, c.purged.ensures.benches)
+
+-- ---- the labels
+
+pub returns-in-Ok-clause-listed : goal.returns-in-Ok-clause-listed
+returns-in-Ok-clause-listed g c =
+    let start = g.T.Turns.faults c.args.turns in
+    let mid = g.T.Turns.faults c.edit-back.result.0 in
+    let now = g.T.Turns.faults c.commit_edited.result.0 in
+    unlisted_behind (Rose mid now) (Rose start now) _ _ _ _ _ (λ r. omega (arith, r, c.edit-back.ensures.later)) c.edit-back.ensures.name c.edit-back.ensures.listed c.commit_edited.ensures.listed
+
+pub returns-in-Err-clause-listed : goal.returns-in-Err-clause-listed
+returns-in-Err-clause-listed g c =
+    let start = g.T.Turns.faults c.args.turns in
+    let mid = g.T.Turns.faults c.edit-back.result.0 in
+    let now = g.T.Turns.faults c.purged.new.turns in
+    unlisted_behind (Rose mid now) (Rose start now) _ _ _ _ _ (λ r. omega (arith, r, c.edit-back.ensures.later)) c.edit-back.ensures.name c.edit-back.ensures.listed c.purged.ensures.listed

@@ -35,7 +35,7 @@ returns-clause-edits g c = λ v known less told within stands.
 pub returns-clause-onward : goal.returns-clause-onward
 returns-clause-onward g c = λ v known.
     let l = c.look-youngest.ensures.turned v known in
-    let on = going_from g.T.Turns.knows g.T.Turns.mounting g.T.Turns.bound g.T.Turns.labels c.look-youngest.new.self c.pass_of.result _ (c.do_edits-done.ensures.kept.below ∙ c.over_pass-book.ensures.below) c.pass_of.ensures.goes_on in
+    let on = going_from g.T.Turns.knows g.T.Turns.mounting g.T.Turns.bound g.T.Turns.own c.look-youngest.new.self c.pass_of.result _ (c.do_edits-done.ensures.kept.below ∙ c.over_pass-book.ensures.below) c.pass_of.ensures.goes_on in
     let k = on.known l.0 l.1 in
     (c.look-youngest.result, l.0, k.0, k.1, l.2, k.2)
 
@@ -43,18 +43,18 @@ pub returns-clause-cause : goal.returns-clause-cause
 returns-clause-cause g c = failed_as c.do_edits-done.result _ _ _ _ (c.over_pass-book.ensures.faults ∙ c.look-youngest.ensures.faults) (sym c.pass_of.ensures.faults) c.do_edits-done.ensures.disk.failed
 
 pub returns-clause-listed : goal.returns-clause-listed
-returns-clause-listed g c = λ free.
-    let on = going_from g.T.Turns.knows g.T.Turns.mounting g.T.Turns.bound g.T.Turns.labels c.look-youngest.new.self c.pass_of.result _ (c.do_edits-done.ensures.kept.below ∙ c.over_pass-book.ensures.below) c.pass_of.ensures.goes_on in
-    on.listed (c.look-youngest.ensures.duty ∙ free) ∙ c.look-youngest.ensures.listed free
+returns-clause-listed g c =
+    let on = going_from g.T.Turns.knows g.T.Turns.mounting g.T.Turns.bound g.T.Turns.own c.look-youngest.new.self c.pass_of.result _ (c.do_edits-done.ensures.kept.below ∙ c.over_pass-book.ensures.below) c.pass_of.ensures.goes_on in
+    on.listed ∙ c.look-youngest.ensures.listed
 
 pub returns-clause-duty : goal.returns-clause-duty
 returns-clause-duty g c =
-    let on = going_from g.T.Turns.knows g.T.Turns.mounting g.T.Turns.bound g.T.Turns.labels c.look-youngest.new.self c.pass_of.result _ (c.do_edits-done.ensures.kept.below ∙ c.over_pass-book.ensures.below) c.pass_of.ensures.goes_on in
+    let on = going_from g.T.Turns.knows g.T.Turns.mounting g.T.Turns.bound g.T.Turns.own c.look-youngest.new.self c.pass_of.result _ (c.do_edits-done.ensures.kept.below ∙ c.over_pass-book.ensures.below) c.pass_of.ensures.goes_on in
     on.duty ∙ c.look-youngest.ensures.duty
 
 pub returns-clause-mounted : goal.returns-clause-mounted
 returns-clause-mounted g c =
-    let on = going_from g.T.Turns.knows g.T.Turns.mounting g.T.Turns.bound g.T.Turns.labels c.look-youngest.new.self c.pass_of.result _ (c.do_edits-done.ensures.kept.below ∙ c.over_pass-book.ensures.below) c.pass_of.ensures.goes_on in
+    let on = going_from g.T.Turns.knows g.T.Turns.mounting g.T.Turns.bound g.T.Turns.own c.look-youngest.new.self c.pass_of.result _ (c.do_edits-done.ensures.kept.below ∙ c.over_pass-book.ensures.below) c.pass_of.ensures.goes_on in
     on.mounted ∙ c.look-youngest.ensures.mounted
 
 pub returns-clause-failed : goal.returns-clause-failed

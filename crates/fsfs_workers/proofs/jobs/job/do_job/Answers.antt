@@ -3,6 +3,7 @@ use Rattle.fsfs_job_run.proofs.BenchCauses.{read_told}
 use Rattle.fsfs_base.specs.Failures.{Rose}
 use Rattle.fsfs_script.specs.declared.job_lines.job.Job.{Job}
 use Rattle.fsfs_workers.specs.Working.{WorksSo}
+use Rattle.fsfs_workers.proofs.Tidied.{tidy_kept}
 use Rattle.fsfs_workers.proofs.jobs.job.do_job.Goals as goal
 
 pub commit_job-requires-clause-due : goal.commit_job-requires-clause-due
@@ -26,3 +27,6 @@ returns-in-Read-clause-benches g c =
     let same = ap (λ m. m.bench_faults) c.read_text.ensures.mounted in
     let told = read_told c.read_text.result.1 c.read_text.ensures.no_bench in
     omega (arith, same, told)
+
+pub returns-in-Read-clause-tidy : goal.returns-in-Read-clause-tidy
+returns-in-Read-clause-tidy g c = tidy_kept _ _ _ c.read_text.ensures.listed

@@ -13,6 +13,7 @@ use Rattle.fsfs_workers.specs.PackCalls.{PackedOften}
 use Rattle.fsfs_workers.proofs.PackOften.{packed_weaker}
 use Rattle.fsfs_workers.proofs.Begun.{is_ready, has_nothing, may_pack, beside_over, keeps_earlier}
 use Rattle.fsfs_workers.proofs.Ends.{rose_since, unopened, unread, unroomed, worked}
+use Rattle.fsfs_workers.proofs.Tidied.{none_since}
 use Rattle.fsfs_base.proofs.ResultLemmas.{if_ok, on_err}
 use Rattle.fsfs_workers.proofs.packing.script.do_script_packing.Goals as goal
 
@@ -66,7 +67,8 @@ returns-in-Ok-done-clause-works g c =
     let failed = if_ok made.1 packed _ c.in-Ok-done.is c.run_packing-disk.ensures.benches in
     let benches : RoseBy (bench_faults_in done.answers.items) 0 (g.D.Disk.bench_faults made.0) = omega (arith, failed) in
     let kept = keeps_earlier o.said.next_txn.number true o.repo.board.shared.key.value.seat.since.packs o.repo.board.shared.key.value.seat.given (told c.args.disk) (told o.repo.first.value) o.repo.board.shared.key.value.disk.trace (told made.0) e.firm e.labels.0 e.labels.1 c.run_packing-disk.ensures.labels in
-    worked c.args.micros c.args.workers (Some c.in-Ok-done.done.packs.sticks) (count c.args.disk) (count made.0) (λ n. RoseBy n 0 (g.D.Disk.bench_faults made.0)) (told c.args.disk) (told made.0) (g.I.Source.remaining c.args.input.now) (g.I.Source.remaining c.read_script.new.source) (g.I.Source.faults c.args.input.now) (g.I.Source.faults c.read_script.new.source) o.said js done e.opened c.in-Ok-read_script.ensures.read c.in-Ok-read_script.ensures.whole each rose benches kept over
+    let tidy = none_since (Rose (count o.repo.first.value) (count made.0)) (Rose (count c.args.disk) (count made.0)) (told c.args.disk) (told o.repo.first.value) o.repo.board.shared.key.value.disk.trace (told made.0) e.firm e.labels.0 (λ r. omega (arith, r, e.later)) c.run_packing-disk.ensures.tidy in
+    worked c.args.micros c.args.workers (Some c.in-Ok-done.done.packs.sticks) (count c.args.disk) (count made.0) (λ n. RoseBy n 0 (g.D.Disk.bench_faults made.0)) (told c.args.disk) (told made.0) (g.I.Source.remaining c.args.input.now) (g.I.Source.remaining c.read_script.new.source) (g.I.Source.faults c.args.input.now) (g.I.Source.faults c.read_script.new.source) o.said js done e.opened c.in-Ok-read_script.ensures.read c.in-Ok-read_script.ensures.whole each rose benches kept tidy over
 
 pub returns-clause-works : goal.returns-clause-works
 returns-clause-works g c =

@@ -83,7 +83,7 @@ pub returns-then-is_spent-clause-found : goal.returns-then-is_spent-clause-found
 returns-then-is_spent-clause-found g c = sym c.is_spent.ensures ∙ c.if-is_spent.true
 
 pub returns-in-Ok-clause-listed : goal.returns-in-Ok-clause-listed
-returns-in-Ok-clause-listed g c = λ free. c.land.ensures.listed (c.in-Ok.ensures.duty ∙ free) ∙ c.in-Ok.ensures.listed free
+returns-in-Ok-clause-listed g c = c.land.ensures.listed ∙ c.in-Ok.ensures.listed
 
 pub returns-then-is_spent-clause-blamed : goal.returns-then-is_spent-clause-blamed
 returns-then-is_spent-clause-blamed g c = λ by. (by, by (sym c.is_spent.ensures ∙ c.if-is_spent.true))

@@ -1,16 +1,10 @@
-use Rattle.std.proofs.Common.{◌≡◌, false, refl}
+use Rattle.std.proofs.Common.{false, refl}
 use Rattle.std.proofs.lemmas.Bool.{both_ways}
-use Rattle.std.proofs.lemmas.Result.{IfOk-weaker, IfErr-weaker}
-use Rattle.std.specs.Prelude.{option_map}
-use Rattle.fsfs_disk.specs.Labels.{with_label}
-use Rattle.fsfs_disk.specs.Trace.{labels_now}
-use Rattle.fsfs_disk.specs.Transactions.Txns.{pair_of, txn_label}
+use Rattle.std.proofs.lemmas.Result.{IfErr-weaker}
 use Rattle.fsfs_turn.specs.OwnedLemmas.{known_still, files_same}
 use Rattle.fsfs_turn.specs.Telling.{state_of}
 use Rattle.fsfs_begin.proofs.Reading.{either_way, last_before}
-use Rattle.fsfs_repo.proofs.Unlisted.{relabelled}
 use Rattle.fsfs_repo.proofs.Crashes.{survives}
-use Rattle.fsfs_repo.proofs.OwnedRepoUnlisted.{if_free}
 use Rattle.fsfs_repo.proofs.owned.repo.Repo.begin.Goals as goal
 
 -- nobody rests on the turns of an owned store
@@ -32,15 +26,6 @@ returns-clause-refused g c = λ v known none.
 pub returns-clause-full : goal.returns-clause-full
 returns-clause-full g c = λ last.
     c.begin_txn-back.ensures.full (record { files = λ a b same. files_same (state_of a.layout a.floor a.young a.stuck (g.D.Disk.trace a.disk) (g.D.Disk.mount_path a.disk) (g.D.Disk.bench_faults a.disk)) (state_of b.layout b.floor b.young b.stuck (g.D.Disk.trace b.disk) (g.D.Disk.mount_path b.disk) (g.D.Disk.bench_faults b.disk)) same }) last
-
-pub returns-clause-listed : goal.returns-clause-listed
-returns-clause-listed g c =
-    let old = option_map labels_now (g.D.Disk.trace c.args.self.turns.disk) in
-    let new = option_map labels_now (g.D.Disk.trace c.begin_txn-back.result.0.disk) in
-    IfOk-weaker c.begin_txn-back.result.1 _ (λ txn. new ≡ option_map (with_label (txn_label (pair_of txn.own.txn))) old) (λ txn w. relabelled false (with_label (txn_label (pair_of txn.own.txn))) old new refl w) c.begin_txn-back.ensures.listed
-
-pub returns-clause-unlisted : goal.returns-clause-unlisted
-returns-clause-unlisted g c = if_free c.begin_txn-back.result.1 _ c.begin_txn-back.ensures.unlisted
 
 pub returns-clause-crashes : goal.returns-clause-crashes
 returns-clause-crashes g c = λ u known. let turns = c.begin_txn-back.result.0 in survives turns.layout turns.floor turns.young turns.stuck (g.D.Disk.trace turns.disk) u known

@@ -1,12 +1,8 @@
 use Rattle.std.proofs.Common.{ap, false, refl}
 use Rattle.std.proofs.lemmas.Bool.{both_ways}
-use Rattle.std.specs.Prelude.{is_some, option_map}
-use Rattle.fsfs_base.specs.Failures.{Rose}
-use Rattle.fsfs_disk.specs.Trace.{labels_now}
-use Rattle.fsfs_disk.specs.Transactions.Txns.{pair_of, txn_label}
+use Rattle.std.specs.Prelude.{is_some}
 use Rattle.fsfs_commit.proofs.Pinning.{unpinned}
 use Rattle.fsfs_repo.proofs.Crashes.{survives}
-use Rattle.fsfs_repo.proofs.OwnedRepoUnlisted.{leaves_alone}
 use Rattle.fsfs_repo.proofs.owned.repo.Repo.commit.Goals as goal
 
 -- nobody rests on the turns of an owned store
@@ -18,12 +14,6 @@ commit_txn-back-requires-clause-due g c = λ bound. absurd (both_ways false refl
 
 pub returns-clause-meets : goal.returns-clause-meets
 returns-clause-meets g c = λ v x known none given is. c.commit_txn-back.ensures.meets v x known none given is (unpinned c.no_note.result.value v.seen x c.no_note.ensures)
-
-pub returns-clause-listed : goal.returns-clause-listed
-returns-clause-listed g c =
-    let turns = c.args.self.turns in
-    let back = c.commit_txn-back.result.0 in
-    leaves_alone (txn_label (pair_of c.args.txn.own.txn)) (Rose (g.D.Disk.faults turns.disk) (g.D.Disk.faults back.disk)) (option_map labels_now (g.D.Disk.trace turns.disk)) (option_map labels_now (g.D.Disk.trace back.disk)) c.commit_txn-back.result.1 c.commit_txn-back.ensures.listed
 
 pub returns-clause-crashes : goal.returns-clause-crashes
 returns-clause-crashes g c = λ u known. let turns = c.commit_txn-back.result.0 in survives turns.layout turns.floor turns.young turns.stuck (g.D.Disk.trace turns.disk) u known

@@ -22,10 +22,10 @@ returns-clause-floors g c = λ v known none.
     c.pack-back.ensures.floors _ (may_pack_alone turns.layout turns.floor turns.young turns.stuck (g.D.Disk.trace turns.disk) v known) none refl
 
 pub returns-clause-listed : goal.returns-clause-listed
-returns-clause-listed g c = c.pack-back.ensures.listed refl
+returns-clause-listed g c = c.pack-back.ensures.listed
 
 pub returns-clause-tidy : goal.returns-clause-tidy
-returns-clause-tidy g c = c.pack-back.ensures.tidy refl
+returns-clause-tidy g c = c.pack-back.ensures.tidy
 
 pub returns-clause-crashes : goal.returns-clause-crashes
 returns-clause-crashes g c = λ u known. let turns = c.pack-back.result.0 in survives turns.layout turns.floor turns.young turns.stuck (g.D.Disk.trace turns.disk) u known

@@ -1,24 +1,12 @@
 use Rattle.std.proofs.Common.{refl, arith}
 use Rattle.std.proofs.lemmas.Bool.{both_ways}
-use Rattle.std.specs.Prelude.{false, option_map}
-use Rattle.fsfs_disk.specs.Labels.{without_label}
-use Rattle.fsfs_disk.specs.Trace.{labels_now}
-use Rattle.fsfs_disk.specs.Transactions.Txns.{pair_of, txn_label}
-use Rattle.fsfs_turn.proofs.Relabelling.{relabelled, may_relabelled}
+use Rattle.std.specs.Prelude.{false}
 use Rattle.fsfs_repo.proofs.Crashes.{survives}
 use Rattle.fsfs_repo.proofs.owned.repo.Repo.purge.Goals as goal
 
 -- nobody rests on the turns of an owned store
 pub purge_txn-requires : goal.purge_txn-requires
 purge_txn-requires g c = record { due = λ bound. absurd (both_ways false refl bound) }
-
-pub returns-clause-others : goal.returns-clause-others
-returns-clause-others g c =
-    relabelled (without_label (txn_label (pair_of c.args.txn.own.txn))) (option_map labels_now (g.D.Disk.trace c.args.self.now.turns.disk)) (option_map labels_now (g.D.Disk.trace c.purge_txn.new.turns.disk)) c.purge_txn.result c.purge_txn.ensures.others
-
-pub returns-clause-left : goal.returns-clause-left
-returns-clause-left g c =
-    may_relabelled (without_label (txn_label (pair_of c.args.txn.own.txn))) (option_map labels_now (g.D.Disk.trace c.args.self.now.turns.disk)) (option_map labels_now (g.D.Disk.trace c.purge_txn.new.turns.disk)) c.purge_txn.result c.purge_txn.ensures.left
 
 -- a pass that is alone has seen revision 0
 pub returns-clause-purged : goal.returns-clause-purged
